@@ -32,10 +32,9 @@ CALLS = {
     "text_of": {84},
     "carry": {0},
     "encode": {114, 80, 41},
-    "encode_segments": {114, 80, 41},
+    "encode_owned": {114, 80, 41},
     "decode": {84},
     "to_binary": SCHEMA | {114, 80, 41},
-    "to_binary_segments": SCHEMA | {114, 80, 41},
     "to_json": SCHEMA | {84},
     "print_to": SCHEMA,
     "check": SCHEMA,
@@ -53,8 +52,6 @@ CALLS = {
     "explain_bytes": {0},
     "explain_schema": {0},
 }
-# How many growths a call only asks for ahead, and goes on without: a buffer's bytes, before the JSON is read.
-AHEAD = {"encode": 1, "encode_segments": 1, "to_binary": 1, "to_binary_segments": 1}
 NONE = "memoryless"
 MOST = 20_000
 # Calls on what is nested deep: tables made of JSON and printed, at the deepest limits, and a struct that is read, or
@@ -78,7 +75,6 @@ def refuse_each(tests, library, call, example):
     found, total, refused = outcome(tests, library, call, example, "0")
     tests.tell(f"{call} of {example} with its growths counted", found == right and refused == 0, f"{found}")
     numbers = set()
-    ahead = 0
     for n in range(1, MOST):
         ended = 0
         for wish in (f"{n}", f"{n}+"):
@@ -86,15 +82,12 @@ def refuse_each(tests, library, call, example):
             if refused == 0:
                 ended += 1
                 tests.tell(f"{call} of {example} with {wish}, which isn't reached", found == right, f"{found}")
-            elif found == right and wish == f"{n}":
-                ahead += 1
             else:
                 numbers.add(short.get(found))
                 tests.tell(f"{call} of {example} with growth {wish} refused", found in short, f"{found}")
         if ended == 2:
             tests.tell(f"the growths of {call} of {example}", n == total + 1, f"{n - 1} refused, {total} counted")
             break
-    tests.tell(f"what {call} of {example} asks for ahead", ahead == AHEAD.get(call, 0), f"{ahead}")
     return call, total, numbers
 
 

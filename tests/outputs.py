@@ -154,8 +154,8 @@ def direct(tests):
     tests.tell("no other file is left", not beside(), f"{beside()}")
 
 
-def in_segments(tests):
-    """Buffers that are laid in many segments: tables of all sets of eight fields, between texts of several lengths."""
+def large(tests):
+    """A large buffer: tables of all sets of eight fields, between texts of several lengths."""
     write("rows.fbs", ROWS)
     names = [f"n{k}" for k in range(8)]
     rows = [
@@ -166,9 +166,9 @@ def in_segments(tests):
     rows[999]["text"] = "long " * 60_000
     write("rows.json", json.dumps({"rows": rows}).encode())
     words = ["binary", "rows.fbs", "rows.json"]
-    tests.expect("OUT of many segments", [*words, "rows.bin"], 0)
+    tests.expect("a large OUT", [*words, "rows.bin"], 0)
     buffer = content("rows.bin")
-    tests.tell("it is as long as several segments", len(buffer) > 1_000_000, f"{len(buffer)} bytes")
+    tests.tell("it is large", len(buffer) > 1_000_000, f"{len(buffer)} bytes")
     tests.expect("it holds a value", ["check", "rows.fbs", "rows.bin"], 0, out=b"ok\n")
     printed = tests.run(["json", "rows.fbs", "rows.bin"])
     tests.tell("the value is that of the JSON", json.loads(printed.stdout) == {"rows": rows})
@@ -251,7 +251,7 @@ def killed(tests):
 
 def main():
     tests = Tests("outputs", program_of(sys.argv, __doc__))
-    return tests.main((absent, replaced, unchanged, guarded, direct, in_segments, forbidden, full, killed))
+    return tests.main((absent, replaced, unchanged, guarded, direct, large, forbidden, full, killed))
 
 
 if __name__ == "__main__":

@@ -1,3 +1,11 @@
-pub mod covered
 pub mod apart
+pub mod covered
+pub mod fields
+pub mod numbers
+pub mod order
+pub mod structs
+pub mod tables
 pub mod taped
+pub mod texts
+pub mod vectors
+pub mod vtables

@@ -1,2 +1,1 @@
-pub mod ReservedMemoryIsZero
 pub mod RootIsNoted

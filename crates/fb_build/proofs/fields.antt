@@ -1,12 +1,11 @@
 pub mod AlignmentDividesTheSize
 pub mod CodeIsBeforeItsUnion
-pub mod EntriesStandIn
 pub mod FieldEndsBehindThoseBefore
 pub mod FieldHasItsValue
 pub mod FieldLeadsToItsTarget
 pub mod FieldsAreLaidInOrder
 pub mod FieldsFillTheTable
-pub mod NextFieldStandsIn
 pub mod NumbersHaveDefaults
+pub mod ReferencesLeadInside
 pub mod SlotStoresItsEntry
 pub mod UnionValueHasItsCode

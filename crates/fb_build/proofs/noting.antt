@@ -1,4 +1,5 @@
+pub mod EntryHasItsFields
 mod PartsAreAdded
 mod ElementsAreNoted
-mod SlotsAreNoted
-mod PartsFollow
+pub mod SlotsAreNoted
+pub mod PartsFollow

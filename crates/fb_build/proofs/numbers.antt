@@ -1,4 +1,2 @@
-pub mod BoolIsZeroOrOne
 pub mod BytesSumToTheirNumber
-pub mod NumberFitsItsSize
 pub mod NumberReadsBack

@@ -1,2 +1,1 @@
 pub mod TailWithItsRootIsABuffer
-pub mod RootIsMadeOfItsParts

@@ -1,2 +1,1 @@
-pub mod FieldAddsToItsStruct
 pub mod StructPaddingIsZero

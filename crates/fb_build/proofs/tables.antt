@@ -2,7 +2,6 @@ pub mod CodeSlotHasNoEntry
 pub mod EachSlotAddsItsParts
 pub mod EndsNameTheParts
 pub mod PartsFitTheirSlots
-pub mod ReferencesWait
 pub mod TableFitsItsRoom
 pub mod TableHasItsFields
 pub mod TableHasNoSlack

@@ -1,4 +1,4 @@
--- A buffer that is laid while its value comes in, as contracts see it.
+-- A buffer whose value comes in part by part, as contracts see it.
 use Rattle.std.specs.Prelude.{◌≡◌, ◌++◌, false, true, List, [], ◌∷◌, Option, Some, length, slice_get}
 use Rattle.fb_layout.specs.Laid.{LaidSchema, Slot, StoredKind, slots_of, one_of, vector_of}
 use Rattle.fb_value.specs.Counts.{is_whole}
@@ -14,6 +14,10 @@ pub record BuiltSoFar : Type 0 where
   pub layout : LaidSchema
   pub entries : List (Option Datum)
   pub elements : List Datum
+
+-- no entry yet
+abbrev pub nothing_built : LaidSchema → BuiltSoFar
+nothing_built L = record { layout = L; entries = []; elements = [] }
 
 abbrev pub root_slots : LaidSchema → List Slot
 root_slots L = slots_of L L.schema.root

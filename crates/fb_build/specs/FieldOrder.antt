@@ -1,12 +1,11 @@
 -- In which order the stored fields of a table are laid, and how their slots are linked in it.
 -- From the FlatBuffers documentation, "FlatBuffer Internals": Tables. The order is this project's own: by descending
 -- alignment, fields of one alignment in the order of their slots.
-use Rattle.std.specs.Prelude.{ℕ, ◌+◌, ◌*◌, ◌<◌, ◌≤◌, ◌≡◌, ◌⊎◌, Bool, true, false, cond, nat_lt, List}
-use Rattle.std.specs.Prelude.{Option, Some, slice_get, slice_index}
+use Rattle.std.specs.Prelude.{ℕ, ◌+◌, ◌≡◌, ◌⊎◌, Bool, true, cond, nat_lt, List}
+use Rattle.std.specs.Prelude.{Option, Some, slice_get}
 use Rattle.fb_layout.specs.Laid.{LaidSchema, Slot}
 use Rattle.fb_layout.specs.Widths.{inline_align}
 use Rattle.fb_value.specs.Datum.{Datum}
-use Rattle.fb_value.specs.Num.{Bytes}
 use Rattle.fb_build.specs.Fields.{is_stored, above, from}
 
 -- whether a slot comes before slot k of an alignment
@@ -40,48 +39,4 @@ pub record NamesNextSlot (L : LaidSchema) (laid : ℕ → Slot → Bool) (fs : L
 abbrev pub LinksNext : LaidSchema → (ℕ → Slot → Bool) → List Slot → List (Option Datum) → ℕ → Type 0
 LinksNext L laid fs xs link = ((link ≡ 0) × SameOfStored laid (λ k f. true) fs xs) ⊎ NamesNextSlot L laid fs xs link
 
--- the link of slot k, in two bytes
-abbrev pub link_in : Bytes → ℕ → ℕ
-link_in b k = slice_index b (2 * k) + 256 * slice_index b (2 * k + 1)
-
--- Each stored slot links to the one behind it, and `first` to the first of all.
-pub record AreLinked (L : LaidSchema) (fs : List Slot) (xs : List (Option Datum)) (links : Bytes) (first : ℕ)
-    : Type 0 where
-  pub begin : LinksNext L (λ k f. false) fs xs first
-  pub each : (k a : ℕ) → IsStoredAt L a fs xs k → LinksNext L (before L a (k + 1)) fs xs (link_in links k)
-
 -- ---- while the slots below m are linked, those of each alignment for themselves
-
--- Nothing is stored at an alignment from slot j on and below slot k.
-abbrev pub NoneStoredAt : LaidSchema → ℕ → List Slot → List (Option Datum) → ℕ → ℕ → Type 0
-NoneStoredAt L a fs xs j k = (i : ℕ) → j ≤ i → i < k → IsStoredAt L a fs xs i → ⊥
-
-pub record IsFirst (L : LaidSchema) (a : ℕ) (fs : List Slot) (xs : List (Option Datum)) (first m : ℕ) : Type 0 where
-  pub slot : ℕ
-  pub is : first ≡ slot + 1
-  pub under : slot < m
-  pub there : IsStoredAt L a fs xs slot
-  pub none : NoneStoredAt L a fs xs 0 slot
-
-pub record IsLast (L : LaidSchema) (a : ℕ) (fs : List Slot) (xs : List (Option Datum)) (last m : ℕ) : Type 0 where
-  pub slot : ℕ
-  pub is : last ≡ slot + 1
-  pub under : slot < m
-  pub there : IsStoredAt L a fs xs slot
-  pub none : NoneStoredAt L a fs xs (slot + 1) m
-
-pub record IsFollowed (L : LaidSchema) (a : ℕ) (fs : List Slot) (xs : List (Option Datum)) (j link m : ℕ)
-    : Type 0 where
-  pub slot : ℕ
-  pub is : link ≡ slot + 1
-  pub over : j < slot
-  pub under : slot < m
-  pub there : IsStoredAt L a fs xs slot
-  pub none : NoneStoredAt L a fs xs (j + 1) slot
-
--- The slots below m that are stored at an alignment: the first and the last, plus one, and each links to the next.
-pub record IsList (L : LaidSchema) (a : ℕ) (fs : List Slot) (xs : List (Option Datum)) (links : Bytes)
-    (first last m : ℕ) : Type 0 where
-  pub begin : ((first ≡ 0) × NoneStoredAt L a fs xs 0 m) ⊎ (IsFirst L a fs xs first m × IsLast L a fs xs last m)
-  pub each : (j : ℕ) → j < m → IsStoredAt L a fs xs j
-      → NoneStoredAt L a fs xs (j + 1) m ⊎ IsFollowed L a fs xs j (link_in links j) m

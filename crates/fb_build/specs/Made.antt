@@ -4,10 +4,10 @@ use Rattle.std.specs.Prelude.{List, [], ◌∷◌, length, replicate, map, drop,
 use Rattle.std.specs.Prelude.{None, Some, option_map}
 use Rattle.std.specs.List.{All, sum_by}
 use Rattle.byteorder.specs.Endian.{little_bytes}
-use Rattle.fb_layout.specs.Laid.{LaidSchema, Slot, StoredKind, StoredShape, one_of, vector_of, size_of}
-use Rattle.fb_value.specs.Datum.{Datum, a_text, a_vector, a_table, a_member}
+use Rattle.fb_layout.specs.Laid.{LaidSchema, Slot, StoredKind, StoredShape, one_of, size_of}
+use Rattle.fb_value.specs.Datum.{Datum}
 use Rattle.fb_value.specs.Num.{Bytes, num}
-use Rattle.fb_value.specs.Places.{Target, table_part, member_part, text_part, vector_part}
+use Rattle.fb_value.specs.Places.{Target}
 pub use Rattle.fb_tape.specs.NamedParts.{NamedPart}
 use Rattle.fb_build.specs.Pieces.{PartAt, part_size, part_align, greatest_align, vtable_of, is_among, tables_vtables}
 use Rattle.fb_build.specs.CoveredTails.{part_further, parts_in_tail}
@@ -78,16 +78,6 @@ parts_at L s (Some x) e = parts_in_tail L s x.target e x.value
 abbrev pub ends_parts : LaidSchema → Bytes → List (Option NamedPart) → List ℕ → List PartAt
 ends_parts L s [] ends = []
 ends_parts L s (x ∷ xs) ends = parts_at L s x (slice_index ends 0) ++ ends_parts L s xs (drop 1 ends)
-
--- what lay outside of a value's place: a part of its own, told by the value alone
-abbrev pub part_named : StoredShape → Datum → Option NamedPart
-part_named shape (a_text bytes) = Some (record { target = text_part; value = a_text bytes })
-part_named shape (a_table t es) = Some (record { target = table_part t; value = a_table t es })
-part_named shape (a_member c (a_table t es)) =
-    Some (record { target = member_part c t; value = a_member c (a_table t es) })
-part_named shape (a_member c d) = part_named shape d
-part_named (vector_of kind) (a_vector ds) = Some (record { target = vector_part kind; value = a_vector ds })
-part_named shape _ = None
 
 abbrev pub named_stored : Slot → Option Datum → Option NamedPart
 named_stored f None = None

@@ -1,10 +1,11 @@
 -- What noting a value adds to a tape, and to the fields of the tables that aren't whole yet.
-use Rattle.std.specs.Prelude.{ℕ, ◌+◌, ◌≡◌, ◌++◌, List, [], Option}
-use Rattle.fb_layout.specs.Laid.{LaidSchema, Slot}
-use Rattle.fb_value.specs.Datum.{Datum}
+use Rattle.std.specs.Prelude.{ℕ, ◌+◌, ◌-◌, ◌≡◌, ◌++◌, List, [], ◌∷◌, Option, Some, pos}
+use Rattle.fb_schema.specs.declared.kinds.Base.TheVariants.{U8}
+use Rattle.fb_layout.specs.Laid.{LaidSchema, Slot, scalar_kind}
+use Rattle.fb_value.specs.Datum.{Datum, a_member, a_number}
 use Rattle.fb_value.specs.UpTo.{at_most_usize}
 use Rattle.fb_tape.specs.NamedParts.{NamedPart}
-use Rattle.fb_tape.specs.OpenFields.{OpenField, IsOpenIf, AreOpen}
+use Rattle.fb_tape.specs.OpenFields.{OpenField, IsOpenIf, IsInlineField, AreOpen, reference_field}
 use Rattle.fb_tape.specs.Tapes.{Taped, Waits}
 use Rattle.fb_build.specs.Fields.{is_stored}
 
@@ -15,10 +16,14 @@ pub record AddsParts (a b : Taped) (parts : List NamedPart) (room : ℕ) : Type 
   pub layout : b.layout ≡ a.layout
   pub whole : b.unfinished ≡ []
 
--- The field of slot k, where it is stored.
-abbrev pub AddsSlot : LaidSchema → ℕ → Slot → Option Datum → List OpenField → List OpenField → Type 0
-AddsSlot L k f x a b = (own : List OpenField) × (b ≡ a ++ own)
-    × IsOpenIf (is_stored f x) L k f x own (λ behind. behind ≡ [])
+-- The fields that the entry of slot k adds: a union's value comes with its code, which is in the slot before.
+abbrev pub AreFieldsOf : LaidSchema → ℕ → Slot → Option Datum → List OpenField → Type 0
+AreFieldsOf L k f (Some (a_member c d)) own = (code : OpenField) × (own ≡ code ∷ reference_field k ∷ [])
+    × IsInlineField L (k - 1) (scalar_kind U8) (a_number (pos c)) code
+AreFieldsOf L k f x own = IsOpenIf (is_stored f x) L k f x own (λ behind. behind ≡ [])
+
+abbrev pub AddsFields : LaidSchema → ℕ → Slot → Option Datum → List OpenField → List OpenField → Type 0
+AddsFields L k f x a b = (own : List OpenField) × (b ≡ a ++ own) × AreFieldsOf L k f x own
 
 -- The fields of all slots that are stored.
 abbrev pub AddsSlots : LaidSchema → List Slot → List (Option Datum) → List OpenField → List OpenField → Type 0

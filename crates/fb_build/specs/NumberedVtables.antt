@@ -8,7 +8,8 @@ use Rattle.fb_value.specs.Num.{Bytes, num}
 use Rattle.fb_value.specs.Places.{table_part, part_place}
 use Rattle.fb_value.specs.View.{entries_in}
 use Rattle.fb_tape.specs.Vtables.{vtable_of}
-use Rattle.fb_vtables.specs.Vtables.{AreDifferent, AreLaid, TellsItsLength}
+use Rattle.fb_tape.specs.KnownVtables.{EachHasOneNumber}
+use Rattle.fb_build.specs.Vtables.{AreLaid, TellsItsLength}
 use Rattle.fb_build.specs.CoveredTails.{parts_in_tail}
 use Rattle.fb_build.specs.Fields.{stored_in, stored_align}
 use Rattle.fb_build.specs.Made.{Adds, FieldsFront, OldVtable, NewVtable, named_fields, ends_parts}
@@ -53,7 +54,7 @@ pub record IsTableOpen (L : LaidSchema) (vtables : List Bytes) (t : ℕ) (entrie
   pub is : slice_get vtables number ≡ Some vtable
   pub turn : number ≤ length places
   pub shared : AreLaidInTurn vtables places o.bytes
-  pub different : AreDifferent vtables
+  pub different : EachHasOneNumber vtables
 
 -- It is whole.
 pub record IsTableClosed (L : LaidSchema) (vtables : List Bytes) (t : ℕ) (entries : List (Option Datum)) (start : ℕ)

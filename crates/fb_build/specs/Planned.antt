@@ -1,6 +1,12 @@
 -- What a plan stands for.
 use Rattle.fb_layout.specs.Laid.{LaidSchema}
 use Rattle.fb_value.specs.declared.values.Value.{Value}
+use Rattle.fb_tape.specs.Tapes.{Taped}
+
+-- the tape that is to be laid, and its layout
+pub record TapePlanned : Type 0 where
+  pub layout : LaidSchema
+  pub tape : Taped
 
 -- the value whose bytes are to be laid, and its layout
 pub record Planned : Type 0 where

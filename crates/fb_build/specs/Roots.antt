@@ -8,8 +8,8 @@ use Rattle.fb_build.specs.Fields.{EntriesEnd, stored_in}
 use Rattle.fb_build.specs.Made.{IsMade, ends_parts, named_fields}
 use Rattle.fb_build.specs.Tails.{TailSeen, LaidInTail}
 
--- All that the references of a table name lies at an end-count for each slot, and the tail is made of those parts and of
--- the vtables that are laid.
+-- All that the references of a table name lies at an end-count for each slot, and the tail is made of those parts and
+-- of the vtables that are laid.
 pub record AreTargetsLaid (L : LaidSchema) (o : TailSeen) (places : List ℕ) (t : ℕ) (xs : List (Option Datum))
     (ends : List ℕ) : Type 0 where
   pub each : length ends ≡ length (slots_of L t)

@@ -3,7 +3,7 @@
 use Rattle.std.specs.Prelude.{ℕ, ◌≡◌, List, length, Option, None, Some, slice_get}
 use Rattle.fb_layout.specs.Laid.{Slot}
 use Rattle.fb_value.specs.Datum.{Datum}
-use Rattle.fb_build.specs.Fields.{code_in, is_stored, stored_here, target_for}
+use Rattle.fb_build.specs.Fields.{is_stored, target_for}
 
 -- What a slot stores stands in for another: it is stored where that is, and it is the same unless it is behind a
 -- reference.
@@ -16,13 +16,3 @@ pub record AllStandIn (fs : List Slot) (xs ys : List (Option Datum)) : Type 0 wh
   pub long : length xs ≡ length ys
   pub each : (k : ℕ) (f : Slot) (x y : Option Datum) → slice_get fs k ≡ Some f → slice_get xs k ≡ Some x
       → slice_get ys k ≡ Some y → StandsIn f x y
-
--- What is kept of an entry once its part is laid: it has the same union code, and what its slot stores stands in for
--- what the entry's does.
-pub record EntryStands (f : Slot) (x y : Option Datum) : Type 0 where
-  pub code : code_in y ≡ code_in x
-  pub stored : (code : Option ℕ) → StandsIn f (stored_here f.shape code y) (stored_here f.shape code x)
-
-abbrev pub EachEntryStands : List Slot → List (Option Datum) → List (Option Datum) → Type 0
-EachEntryStands fs xs ys = (k : ℕ) (f : Slot) (x y : Option Datum) → slice_get fs k ≡ Some f → slice_get xs k ≡ Some x
-    → slice_get ys k ≡ Some y → EntryStands f x y

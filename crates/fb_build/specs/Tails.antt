@@ -1,4 +1,4 @@
--- Bytes that are laid from their end, in a block and in segments behind it, as contracts see them.
+-- Bytes that are laid from their end, as contracts see them.
 use Rattle.std.specs.Prelude.{ℕ, ◌+◌, ◌≡◌, ◌++◌, length, true}
 use Rattle.fb_layout.specs.Laid.{LaidSchema}
 use Rattle.fb_value.specs.Datum.{Datum}
@@ -7,21 +7,18 @@ use Rattle.fb_value.specs.Places.{Sort}
 use Rattle.fb_value.specs.Tails.{LiesInTail, OldInTail}
 use Rattle.fb_build.specs.CoveredTails.{TightInTail, InlineInTail}
 
--- the zeros that are left in front, what is laid, the greatest multiple that was padded to, and how many of the bytes
--- are in segments behind the block
+-- the zeros that are left in front, what is laid, and the greatest multiple that was padded to
 pub record TailSeen : Type 0 where
   pub free : ℕ
   pub bytes : Bytes
   pub most : ℕ
-  pub in_segments : ℕ
 
--- From a to b only bytes were laid in front, in the same block.
+-- From a to b only bytes were laid in front.
 pub record Grows (a b : TailSeen) : Type 0 where
   pub front : Bytes
   pub grown : b.bytes ≡ front ++ a.bytes
   pub spent : b.free + length front ≡ a.free
   pub multiple : divides a.most b.most ≡ true
-  pub same : b.in_segments ≡ a.in_segments
 
 -- A value lies e bytes before the end, its tables have nothing in slots that aren't in use, and they, its structs and
 -- its numbers have nothing to spare.

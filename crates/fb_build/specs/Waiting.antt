@@ -10,7 +10,7 @@ use Rattle.fb_tape.specs.Tapes.{Lays, IsInTurn}
 use Rattle.fb_tape.specs.declared.ops.NotedField.{NotedField}
 use Rattle.fb_tape.specs.declared.ops.Op.{Op}
 use Rattle.fb_tape.specs.declared.ops.Op.TheVariants.{Table}
-use Rattle.fb_vtables.specs.Vtables.{AreDifferent}
+use Rattle.fb_tape.specs.KnownVtables.{EachHasOneNumber}
 use Rattle.fb_build.specs.Made.{IsMade, ends_parts}
 use Rattle.fb_build.specs.NumberedVtables.{AreLaidInTurn}
 use Rattle.fb_build.specs.OpLengths.{op_end}
@@ -43,7 +43,7 @@ pub record MayStep (L : LaidSchema) (vtables : List Bytes) (op : Op) (room : ℕ
     : Type 0 where
   pub made : IsWellMade L
   pub waiting : AreWaiting L vtables ps ends places o
-  pub different : AreDifferent vtables
+  pub different : EachHasOneNumber vtables
   pub turn : IsInTurn (length places) op
   pub has : HasVtable vtables op vtable
   pub lays : Lays L vtables op room ps notes bytes qs

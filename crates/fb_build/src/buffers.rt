@@ -11,10 +11,9 @@ ghost use Rattle.fb_build.specs.Covered.{Covered, EndsAligned};
 ghost use Rattle.fb_build.specs.declared.faults.BuildFault.TheVariants.{TooBig, Memory};
 
 use crate::faults::BuildFault;
-use crate::needs::table_needs;
 use crate::noting::note_root;
-use crate::plans::Plan;
-use crate::taped_lengths::buffer_end;
+use crate::plans::{Plan, TapePlan};
+use crate::rooms::table_with_parts_room;
 use fb_layout::Layout;
 use fb_value::{Value, buffer_room};
 use std::alloc::Global;
@@ -34,25 +33,14 @@ pub fn plan<'v>(alloc: Global, layout: &'v Layout, value: &'v Value) -> Result<P
     let Value::Fields(table, entries) = value else {
         unreachable!();
     };
-    let needs = table_needs(layout, *table, entries);
+    let room = table_with_parts_room(layout, *table, entries);
     // What is too big is so whatever memory there is.
-    let Some(_) = buffer_room(layout, needs.room) else {
+    let Some(_) = buffer_room(layout, room) else {
         return Err(BuildFault::TooBig);
     };
     let tape = note_root(alloc, layout, *table, entries)?;
-    let block = vec![in alloc; 0u8; buffer_end(layout, &tape)]?;
-    let mut waiting: Vec<u32> = Vec::new(alloc);
-    waiting.reserve(tape.ops().len())?;
-    let mut places: Vec<u32> = Vec::new(alloc);
-    places.reserve(tape.vtable_count())?;
-    Ok(Plan {
-        layout,
-        value,
-        tape,
-        block,
-        waiting,
-        places,
-    })
+    let plan = TapePlan::for_tape(alloc, layout, tape)?;
+    Ok(Plan { value, plan })
 }
 
 /// The bytes that encode a value of the root table.

@@ -23,9 +23,16 @@ fn drop_parts(parts: Vec<Value>) {
 #[cycle(drops)]
 fn drop_entries(entries: Vec<Option<Value>>) {
     for entry in entries {
-        match entry {
-            None | Some(Value::Number(_)) => {}
-            Some(value) => drop_value(value),
-        }
+        drop_entry(entry);
+    }
+}
+
+/// Drops an entry of a table.
+#[inline(always)]
+#[cycle(drops)]
+pub fn drop_entry(entry: Option<Value>) {
+    match entry {
+        None | Some(Value::Number(_)) => {}
+        Some(value) => drop_value(value),
     }
 }

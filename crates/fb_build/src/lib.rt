@@ -4,39 +4,27 @@
 mod blocks;
 mod buffer_builder;
 mod buffers;
-mod builder;
 mod data;
-mod drafts;
 mod drops;
 mod faults;
-mod fields;
 mod laws;
 mod laying;
-mod needs;
 mod noting;
-mod numbers;
-mod order;
-mod places;
 mod plans;
 mod references;
+mod rooms;
 mod roots;
-mod structs;
-mod tables;
 mod tail;
-mod taped_buffers;
 mod taped_data;
 mod taped_fields;
 mod taped_lengths;
 mod taped_ops;
 mod taped_references;
 mod taped_vtables;
-mod texts;
-mod vectors;
-mod vtables;
 
 pub use buffer_builder::BufferBuilder;
 pub use buffers::{build, plan};
-pub use drops::drop_value;
+pub use drops::{drop_entry, drop_value};
 pub use faults::BuildFault;
 pub use laws::{
     chunks_join, covered_by_its_value, covered_whole, examples_are_covered, examples_have_slack,

@@ -1,7 +1,7 @@
 //! Notes values on a tape.
-ghost use Rattle.std.specs.Prelude.{ℕ, ◌≡◌, ◌≤◌, ◌+◌, ◌++◌, List, [], ◌∷◌, Option, true, false, length, map};
+ghost use Rattle.std.specs.Prelude.{ℕ, ◌≡◌, ◌≤◌, ◌<◌, ◌+◌, List, [], ◌∷◌, Some, true, false, not, length, map};
 ghost use Rattle.std.specs.Prelude.{option_map, OnOk, IfOk};
-ghost use Rattle.fb_layout.specs.Laid.{LaidSchema, slots_of, one_of, kind_in, align_of, table_kind};
+ghost use Rattle.fb_layout.specs.Laid.{LaidSchema, slots_of, one_of, kind_in, align_of, table_kind, union_kind};
 ghost use Rattle.fb_layout.specs.Widths.{greatest};
 ghost use Rattle.fb_value.specs.Counts.{is_whole, entries_whole, parts_whole};
 ghost use Rattle.fb_value.specs.Datum.{a_table, a_vector};
@@ -14,12 +14,11 @@ ghost use Rattle.fb_value.specs.UpTo.{at_most_usize};
 ghost use Rattle.fb_value.specs.View.{view, parts_view, entries_view};
 ghost use Rattle.fb_tape.specs.NamedParts.{NamedPart, apart_of, entry_apart, entries_apart, elements_apart, as_list};
 ghost use Rattle.fb_tape.specs.Tapes.{Waits};
-ghost use Rattle.fb_build.specs.Fields.{IsSimple, IsElement, is_reference, next_code, entries_seen, slot_seen};
-ghost use Rattle.fb_build.specs.Fields.{shape_seen, kind_seen, slots_seen, stored_seen, entry_stored};
-ghost use Rattle.fb_build.specs.Noted.{AddsParts, AddsSlot, AddsSlots};
+ghost use Rattle.fb_build.specs.Fields.{IsSimple, IsElement, is_reference, entries_seen, slot_seen};
+ghost use Rattle.fb_build.specs.Fields.{code_in, is_coded, is_stored, shape_seen, kind_seen, slots_seen, stored_seen};
+ghost use Rattle.fb_build.specs.Noted.{AddsParts, AddsFields, AddsSlots};
 ghost use Rattle.fb_build.specs.Parts.{EntryWhole, TableKnown};
 
-use crate::fields::{code_at, is_stored};
 use fb_layout::Layout;
 use fb_schema::{FieldInfo, Kind, Shape, TypeId};
 use fb_tape::{OpenFields, Tape};
@@ -33,8 +32,24 @@ pub(crate) struct Noting<'l> {
     pub(crate) opened: OpenFields,
 }
 
+impl<'l> Noting<'l> {
+    /// A tape of nothing.
+    pub(crate) fn new(alloc: Global, layout: &'l Layout) -> Noting<'l>
+        ensures layout { result.tape.layout ≡ layout.now }
+        ensures waits { Waits result.tape [] }
+        ensures whole { result.tape.unfinished ≡ [] }
+        ensures room { result.tape.room ≡ 0 }
+        ensures opened { result.opened ≡ [] }
+    {
+        Noting {
+            tape: Tape::new(alloc, layout),
+            opened: OpenFields::new(alloc),
+        }
+    }
+}
+
 /// Whether a shape is stored as a reference.
-fn is_reference(shape: Shape) -> bool
+pub(crate) fn is_reference(shape: Shape) -> bool
     ensures { (L : LaidSchema) → result ≡ is_reference (shape_seen L shape) }
 {
     match shape {
@@ -89,27 +104,46 @@ fn note_entries(
         (stored_seen layout.now slots.now entries.now) noting.old.opened noting.new.opened) }
 {
     for k in 0..slots.len() {
-        note_entry(
-            noting,
-            layout,
-            k as u16,
-            &slots[k],
-            &entries[k],
-            &entries[k + 1..],
-        )?;
+        note_entry(noting, layout, k as u16, &slots[k], &entries[k])?;
     }
     Ok(())
 }
 
-/// Notes what a slot stores, and what its reference names.
+/// Whether a number is the default of a scalar or enum in use that is neither optional nor required.
+fn is_default(slot: &FieldInfo, value: &Value) -> bool
+    ensures stored { (L : LaidSchema) → is_coded slot.now.shape ≡ false
+        → is_stored (slot_seen L slot.now) (Some (view value.now)) ≡ not result }
+{
+    match value {
+        Value::Number(number) => {
+            *number == slot.default
+                && !slot.optional
+                && !slot.required
+                && !slot.deprecated
+                && matches!(slot.shape, Shape::One(Kind::Scalar(_) | Kind::Enum(_)))
+        }
+        _ => false,
+    }
+}
+
+/// The code of a union's member.
+fn code_of(value: &Value) -> Option<u8>
+    ensures { result ≡ code_in (Some (view value.now)) }
+{
+    match value {
+        Value::Member(code, _) => Some(*code),
+        _ => None,
+    }
+}
+
+/// Notes what a slot stores, and what its reference names. A union's code, in the slot before, comes with its value.
 #[cycle(noting)]
-fn note_entry(
+pub(crate) fn note_entry(
     noting: &mut Noting<'_>,
     layout: &Layout,
     k: u16,
     slot: &FieldInfo,
     entry: &Option<Value>,
-    behind: &[Option<Value>],
 ) -> Result<(), AllocError>
     requires layout { noting.old.tape.layout ≡ layout.now }
     requires whole { noting.old.tape.unfinished ≡ [] }
@@ -117,41 +151,36 @@ fn note_entry(
     requires low { align_of layout.now (kind_in (shape_seen layout.now slot.now.shape)) ≤ greatest layout.now }
     requires fits { EntryFits layout.now (slot_seen layout.now slot.now) (option_map view entry.now) }
     requires known { EntryWhole (option_map view entry.now) }
+    requires coded { (u : ℕ) → shape_seen layout.now slot.now.shape ≡ one_of (union_kind u) → 0 < k }
     ensures adds { OnOk result (AddsParts noting.old.tape noting.new.tape
         (as_list (entry_apart (slot_seen layout.now slot.now) (option_map view entry.now)))
         (entry_room layout.now (slot_seen layout.now slot.now) (option_map view entry.now))) }
-    ensures slot { OnOk result (AddsSlot layout.now k (slot_seen layout.now slot.now)
-        (entry_stored layout.now slot.now (next_code (entries_seen behind.now)) entry.now)
+    ensures fields { OnOk result (AddsFields layout.now k (slot_seen layout.now slot.now) (option_map view entry.now)
         noting.old.opened noting.new.opened) }
 {
-    if !is_stored(slot, entry, behind) {
-        return Ok(());
-    }
-    if let Shape::One(Kind::Code(_)) = slot.shape {
-        let Some(code) = code_at(behind, 0) else {
-            unreachable!();
-        };
-        noting.opened.push_code(k, code)?;
-        return Ok(());
-    }
     let Some(value) = entry else {
-        unreachable!();
+        return Ok(());
     };
     if is_reference(slot.shape) {
+        if let Some(code) = code_of(value) {
+            noting.opened.push_code(k - 1, code)?;
+        }
         note_part(noting, layout, slot.shape, value)?;
         noting.opened.push_reference(k)?;
+        return Ok(());
+    }
+    if is_default(slot, value) {
         return Ok(());
     }
     let Shape::One(kind) = slot.shape else {
         unreachable!();
     };
-    noting.opened.push_inline(layout, k, kind, value)?;
-    Ok(())
+    noting.opened.push_inline(layout, k, kind, value)
 }
 
 /// Notes what a reference names.
 #[cycle(noting)]
-fn note_part(
+pub(crate) fn note_part(
     noting: &mut Noting<'_>,
     layout: &Layout,
     shape: Shape,
@@ -290,10 +319,7 @@ pub(crate) fn note_root<'l>(
     ensures room { IfOk result (λ t. at_most_usize t.room ≡ at_most_usize (table_room layout.now table.0
         + entries_room layout.now (slots_of layout.now table.0) (entries_view entries.now))) }
 {
-    let mut noting = Noting {
-        tape: Tape::new(alloc, layout),
-        opened: OpenFields::new(alloc),
-    };
+    let mut noting = Noting::new(alloc, layout);
     note_table(&mut noting, layout, table, entries)?;
     let Noting { tape, .. } = noting;
     Ok(tape)

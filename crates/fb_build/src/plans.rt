@@ -1,29 +1,112 @@
-//! A value for which all memory is taken.
-ghost use Rattle.std.specs.Prelude.{Bool, ◌≤◌, length};
+//! What is to be laid, with all the memory that laying it takes.
+ghost use Rattle.std.specs.Prelude.{Bool, List, Option, ◌≡◌, ◌≤◌, ◌+◌, ◌-◌, length, IfOk};
+ghost use Rattle.fb_layout.specs.Widths.{greatest};
 ghost use Rattle.fb_value.specs.Bounds.{Bounds};
 ghost use Rattle.fb_value.specs.Counts.{cells, depth};
+ghost use Rattle.fb_value.specs.Datum.{Datum, a_table};
 ghost use Rattle.fb_value.specs.Holds.{Holds};
 ghost use Rattle.fb_value.specs.OldSlots.{OnlyOld};
 ghost use Rattle.fb_value.specs.Room.{room_of};
-ghost use Rattle.fb_value.specs.View.{view};
+ghost use Rattle.fb_value.specs.View.{view, entries_in};
+ghost use Rattle.fb_tape.specs.Tapes.{MeansRoot};
 ghost use Rattle.fb_build.specs.Covered.{Covered, EndsAligned};
+ghost use Rattle.fb_build.specs.TapeLaid.{SomeRoot};
 
-use crate::taped_buffers::fill_from_tape;
+use crate::laying::Laying;
+use crate::roots::close_tail;
+use crate::tail::Tail;
+use crate::taped_lengths::buffer_end;
+use crate::taped_ops::lay_tape;
 use fb_layout::Layout;
 use fb_tape::Tape;
 use fb_value::Value;
+use std::alloc::{AllocError, Global};
 use std::marker::Model;
 
-/// A value on a tape, with all the memory that laying its bytes takes: a block as long as they are, a count for each
-/// part that waits, and a place for each vtable.
+/// A tape that means a value of the root table, with all the memory that laying its buffer takes: a block as long as
+/// that, a count for each part that waits, and a place for each vtable.
+#[derive(Drop)]
+pub(crate) struct TapePlan<'l> {
+    layout: &'l Layout,
+    tape: Tape<'l>,
+    block: Vec<u8>,
+    waiting: Vec<u32>,
+    places: Vec<u32>,
+}
+
+impl<'l> Model for TapePlan<'l> {
+    ghost use Rattle.fb_build.specs.Planned.{TapePlanned};
+
+    ghost Value = { TapePlanned };
+
+    ghost use Rattle.fb_build.specs.Ready.{tape_planned_seen, IsTapeReady};
+
+    ghost view = { tape_planned_seen };
+
+    ghost invariant = { IsTapeReady };
+}
+
+impl<'l> TapePlan<'l> {
+    /// Takes all the memory that laying a tape takes.
+    pub(crate) fn for_tape(
+        alloc: Global,
+        layout: &'l Layout,
+        tape: Tape<'l>,
+    ) -> Result<TapePlan<'l>, AllocError>
+        requires layout { tape.layout ≡ layout.now }
+        requires means { SomeRoot tape }
+        requires room { tape.room + (8 + (greatest layout.now - 1)) ≤ 2147483647 }
+        ensures layout { IfOk result (λ p. p.layout ≡ layout.now) }
+        ensures tape { IfOk result (λ p. p.tape ≡ tape.entry) }
+    {
+        let block = vec![in alloc; 0u8; buffer_end(layout, &tape)]?;
+        let mut waiting: Vec<u32> = Vec::new(alloc);
+        waiting.reserve(tape.ops().len())?;
+        let mut places: Vec<u32> = Vec::new(alloc);
+        places.reserve(tape.vtable_count())?;
+        Ok(TapePlan {
+            layout,
+            tape,
+            block,
+            waiting,
+            places,
+        })
+    }
+
+    /// Lays the bytes, with no memory but what the plan has.
+    pub(crate) fn finish(self) -> Vec<u8>
+        ensures holds { (xs : List (Option Datum)) (most : Bounds) (raw : Bool) → MeansRoot self.entry.tape xs
+            → depth (a_table self.entry.layout.schema.root (entries_in xs)) ≤ most.depth
+            → cells (a_table self.entry.layout.schema.root (entries_in xs)) ≤ most.cells
+            → Holds self.entry.layout most raw result.items (a_table self.entry.layout.schema.root (entries_in xs)) }
+        ensures old_slots { OnlyOld self.entry.layout result.items }
+        ensures covered { Covered self.entry.layout result.items }
+        ensures aligned { EndsAligned self.entry.layout result.items }
+        ensures short { length result.items ≤ self.entry.tape.room + (8 + (greatest self.entry.layout - 1)) }
+    {
+        let TapePlan {
+            layout,
+            tape,
+            block,
+            waiting,
+            places,
+        } = self;
+        let mut laying = Laying {
+            tail: Tail::new(block),
+            waiting,
+            places,
+        };
+        lay_tape(&mut laying, layout, &tape);
+        let place = laying.waiting[0];
+        close_tail(layout, laying.tail, place).into_bytes()
+    }
+}
+
+/// A value for which all memory is taken.
 #[derive(Drop)]
 pub struct Plan<'v> {
-    pub(crate) layout: &'v Layout,
     pub(crate) value: &'v Value,
-    pub(crate) tape: Tape<'v>,
-    pub(crate) block: Vec<u8>,
-    pub(crate) waiting: Vec<u32>,
-    pub(crate) places: Vec<u32>,
+    pub(crate) plan: TapePlan<'v>,
 }
 
 impl<'v> Model for Plan<'v> {
@@ -54,14 +137,6 @@ impl Plan<'_> {
         ensures aligned { EndsAligned self.entry.layout result.items }
         ensures short { length result.items ≤ room_of self.entry.layout (view self.entry.value) }
     {
-        let Plan {
-            layout,
-            tape,
-            block,
-            waiting,
-            places,
-            ..
-        } = self;
-        fill_from_tape(layout, &tape, block, waiting, places)
+        self.plan.finish()
     }
 }

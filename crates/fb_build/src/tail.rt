@@ -4,30 +4,15 @@ ghost use Rattle.std.specs.Prelude.{length, replicate, max, true, IfOk, OnOk, On
 ghost use Rattle.fb_value.specs.Num.{divides};
 ghost use Rattle.byteorder.specs.Endian.{little_bytes};
 ghost use Rattle.fb_layout.specs.Sizes.{IsAlignment};
-ghost use Rattle.fb_segments.specs.LaidBytes.{laid_bytes};
 ghost use Rattle.fb_build.specs.Tails.{Grows};
 
-use crate::blocks::{end_of, fitted, put_in_front};
+use crate::blocks::{end_of, put_in_front};
 use byteorder::{ByteOrder, LittleEndian};
-use fb_segments::{LaidBytes, Segments};
-use std::alloc::AllocError;
 use std::marker::Model;
-use std::mem;
 
-/// The bytes that a buffer has at most.
-pub(crate) const MOST_BYTES: usize = 2147483647;
-
-/// The greatest length of the first block, and as many bytes as another one has to spare where parts are small. A block
-/// of that length may reuse the memory of what was dropped meanwhile.
-pub(crate) const BLOCK_BYTES: usize = 65536;
-
-// How many bytes a block has to spare at most.
-const MOST_SPARE_BYTES: usize = 1048576;
-
-/// A block of zeros whose end is filled, and segments of what was laid before it.
+/// A block of zeros whose end is filled.
 #[derive(Drop)]
 pub(crate) struct Tail {
-    segments: Segments,
     block: Vec<u8>,
     free: usize,
     most: usize,
@@ -42,13 +27,12 @@ impl Model for Tail {
 
     ghost view = { λ t. record {
       free = t.free;
-      bytes = drop t.free t.block.items ++ t.segments.bytes;
+      bytes = drop t.free t.block.items;
       most = t.most;
-      in_segments = length t.segments.bytes;
     } };
 
     ghost invariant = { λ t. (t.free ≤ length t.block.items)
-        × (length t.block.items + length t.segments.bytes ≤ 2147483647)
+        × (length t.block.items ≤ 2147483647)
         × (take t.free t.block.items ≡ replicate t.free 0) × IsAlignment t.most };
 }
 
@@ -60,11 +44,9 @@ impl Tail {
         ensures free { result.free ≡ length block.items }
         ensures bytes { length result.bytes ≡ 0 }
         ensures most { result.most ≡ 4 }
-        ensures one_block { result.in_segments ≡ 0 }
     {
         let free = block.len();
         Tail {
-            segments: Segments::new(*block.allocator()),
             block,
             free,
             most: 4,
@@ -76,17 +58,7 @@ impl Tail {
         ensures exact { result ≡ length self.now.bytes }
         ensures short { self.now.free + result ≤ 2147483647 }
     {
-        self.block.len() - self.free + self.segments.len()
-    }
-
-    /// The bytes that are laid.
-    pub(crate) fn laid(&self) -> LaidBytes<'_>
-        ensures { laid_bytes result ≡ self.now.bytes }
-    {
-        LaidBytes {
-            front: &self.block[self.free..],
-            behind: &self.segments,
-        }
+        self.block.len() - self.free
     }
 
     /// The greatest multiple that was padded to.
@@ -97,37 +69,11 @@ impl Tail {
         self.most
     }
 
-    /// Makes so many bytes free at least. Where the block is too short, what is laid in it becomes a segment, and
-    /// another block comes in front. That has some bytes to spare, as many as are laid at most, so that few blocks are
-    /// filled with zeros where parts need less than they ask for.
-    pub(crate) fn grow(&mut self, free: usize) -> Result<(), AllocError>
-        requires short { length self.old.bytes + free ≤ 2147483647 }
-        ensures bytes { self.new.bytes ≡ self.old.bytes }
-        ensures most { self.new.most ≡ self.old.most }
-        ensures enough { OnOk result (free ≤ self.new.free) }
-        ensures kept { OnErr result (self.new.free ≡ self.old.free) }
-    {
-        if free <= self.free {
-            return Ok(());
-        }
-        let laid = self.count();
-        let spare = laid.min(free.max(BLOCK_BYTES)).min(MOST_SPARE_BYTES);
-        let length = (free + spare).min(MOST_BYTES - laid);
-        let block = vec![in *self.block.allocator(); 0u8; length]?;
-        self.segments.reserve()?;
-        let old_free = mem::replace(&mut self.free, length);
-        let old_block = mem::replace(&mut self.block, block);
-        self.segments
-            .push_reserved(fitted(end_of(old_block, old_free)));
-        Ok(())
-    }
-
     fn put(&mut self, bytes: &[u8])
         requires room { length bytes.now ≤ self.old.free }
         ensures bytes { self.new.bytes ≡ bytes.now ++ self.old.bytes }
         ensures free { self.new.free + length bytes.now ≡ self.old.free }
         ensures most { self.new.most ≡ self.old.most }
-        ensures segments { self.new.in_segments ≡ self.old.in_segments }
     {
         self.free = put_in_front(&mut self.block, self.free, bytes);
     }
@@ -139,7 +85,6 @@ impl Tail {
         ensures bytes { self.new.bytes ≡ bytes.now ++ self.old.bytes }
         ensures free { self.new.free + length bytes.now ≡ self.old.free }
         ensures most { self.new.most ≡ self.old.most }
-        ensures segments { self.new.in_segments ≡ self.old.in_segments }
         ensures grows { Grows self.old self.new }
     {
         self.put(bytes);
@@ -151,7 +96,6 @@ impl Tail {
         ensures bytes { self.new.bytes ≡ little_bytes 2 number ++ self.old.bytes }
         ensures free { self.new.free + 2 ≡ self.old.free }
         ensures most { self.new.most ≡ self.old.most }
-        ensures segments { self.new.in_segments ≡ self.old.in_segments }
         ensures grows { Grows self.old self.new }
     {
         let mut bytes = [0u8; 2];
@@ -165,25 +109,10 @@ impl Tail {
         ensures bytes { self.new.bytes ≡ little_bytes 4 number ++ self.old.bytes }
         ensures free { self.new.free + 4 ≡ self.old.free }
         ensures most { self.new.most ≡ self.old.most }
-        ensures segments { self.new.in_segments ≡ self.old.in_segments }
         ensures grows { Grows self.old self.new }
     {
         let mut bytes = [0u8; 4];
         LittleEndian::write_u32(&mut bytes, number);
-        self.lay(&bytes);
-    }
-
-    /// Lays a number of eight bytes.
-    pub(crate) fn lay_u64(&mut self, number: u64)
-        requires room { 8 ≤ self.old.free }
-        ensures bytes { self.new.bytes ≡ little_bytes 8 number ++ self.old.bytes }
-        ensures free { self.new.free + 8 ≡ self.old.free }
-        ensures most { self.new.most ≡ self.old.most }
-        ensures segments { self.new.in_segments ≡ self.old.in_segments }
-        ensures grows { Grows self.old self.new }
-    {
-        let mut bytes = [0u8; 8];
-        LittleEndian::write_u64(&mut bytes, number);
         self.lay(&bytes);
     }
 
@@ -192,7 +121,6 @@ impl Tail {
         ensures bytes { self.new.bytes ≡ replicate zeros 0 ++ self.old.bytes }
         ensures free { self.new.free + zeros ≡ self.old.free }
         ensures most { self.new.most ≡ self.old.most }
-        ensures segments { self.new.in_segments ≡ self.old.in_segments }
     {
         self.free -= zeros;
     }
@@ -203,7 +131,6 @@ impl Tail {
         ensures bytes { self.new.bytes ≡ replicate zeros 0 ++ self.old.bytes }
         ensures free { self.new.free + zeros ≡ self.old.free }
         ensures most { self.new.most ≡ self.old.most }
-        ensures segments { self.new.in_segments ≡ self.old.in_segments }
         ensures grows { Grows self.old self.new }
     {
         self.skip(zeros);
@@ -214,7 +141,6 @@ impl Tail {
         ensures bytes { self.new.bytes ≡ self.old.bytes }
         ensures free { self.new.free ≡ self.old.free }
         ensures most { self.new.most ≡ max self.old.most align }
-        ensures segments { self.new.in_segments ≡ self.old.in_segments }
         ensures power { IsAlignment self.old.most }
     {
         self.most = self.most.max(align);
@@ -233,7 +159,6 @@ impl Tail {
         ensures multiple { (length self.new.bytes + more) % align ≡ 0 }
         ensures most { self.new.most ≡ max self.old.most align }
         ensures wide { divides align self.new.most ≡ true }
-        ensures segments { self.new.in_segments ≡ self.old.in_segments }
         ensures grows { Grows self.old self.new }
     {
         let after = self.count() + more;
@@ -255,32 +180,15 @@ impl Tail {
         ensures multiple { (length self.new.bytes + more) % align ≡ 0 }
         ensures most { self.new.most ≡ max self.old.most align }
         ensures wide { divides align self.new.most ≡ true }
-        ensures segments { self.new.in_segments ≡ self.old.in_segments }
         ensures grows { Grows self.old self.new }
     {
         self.fit(align, more)
     }
 
-    /// The bytes that are laid, where all of them are in the block.
+    /// The bytes that are laid.
     pub(crate) fn into_bytes(self) -> Vec<u8>
-        requires one_block { self.in_segments ≡ 0 }
         ensures { result.items ≡ self.bytes }
     {
         end_of(self.block, self.free)
-    }
-
-    /// The bytes that are laid, in segments.
-    pub(crate) fn into_segments(self) -> Result<Segments, AllocError>
-        ensures { IfOk result (λ s. s.bytes ≡ self.bytes) }
-    {
-        let Tail {
-            mut segments,
-            block,
-            free,
-            ..
-        } = self;
-        segments.reserve()?;
-        segments.push_reserved(fitted(end_of(block, free)));
-        Ok(segments)
     }
 }

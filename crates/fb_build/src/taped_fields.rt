@@ -12,7 +12,7 @@ ghost use Rattle.fb_build.specs.NotesLaid.{AreToBeLaid, SomeToBeLaid, AreLaidNow
 ghost use Rattle.fb_build.specs.TapeLaid.{notes_bytes};
 ghost use Rattle.fb_build.specs.Tails.{Grows};
 
-use crate::fields::lay_reference;
+use crate::references::lay_reference;
 use crate::tail::Tail;
 use fb_tape::NotedField;
 

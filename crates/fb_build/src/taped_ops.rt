@@ -4,7 +4,7 @@ ghost use Rattle.std.specs.Vec.{vec_capacity};
 ghost use Rattle.fb_layout.specs.Widths.{greatest};
 ghost use Rattle.fb_tape.specs.NamedParts.{NamedPart};
 ghost use Rattle.fb_tape.specs.Tapes.{Lay, Waits};
-ghost use Rattle.fb_vtables.specs.Vtables.{AreDifferent};
+ghost use Rattle.fb_tape.specs.KnownVtables.{EachHasOneNumber};
 ghost use Rattle.fb_build.specs.Steps.{Steps};
 ghost use Rattle.fb_build.specs.TapeLaid.{op_fields, op_bytes, op_vtable, notes_bytes, MayLayOp, op_end, op_most};
 ghost use Rattle.fb_build.specs.TapeLaid.{tape_most};
@@ -87,7 +87,7 @@ fn lay_op(laying: &mut Laying, tape: &Tape, op: Op, notes: &[NotedField], bytes:
 pub(crate) fn lay_tape(laying: &mut Laying, layout: &Layout, tape: &Tape)
     requires layout { tape.now.layout ≡ layout.now }
     requires means { SomeLay tape.now }
-    requires different { AreDifferent tape.now.vtables }
+    requires different { EachHasOneNumber tape.now.vtables }
     requires room { tape_end tape.now ≤ laying.old.tail.free }
     requires reserved { length tape.now.ops ≤ vec_capacity laying.old.waiting }
     requires places { length tape.now.vtables ≤ vec_capacity laying.old.places }

@@ -12,7 +12,7 @@ ghost use Rattle.fb_build.specs.Made.{Adds, ItemsLead, named_items, ends_parts};
 ghost use Rattle.fb_build.specs.Referred.{AreReferred};
 ghost use Rattle.fb_build.specs.Tails.{Grows, LaidInTail};
 
-use crate::fields::lay_reference;
+use crate::references::lay_reference;
 use crate::tail::Tail;
 
 /// Lays references to what was laid at some end-counts, from the last to the first.

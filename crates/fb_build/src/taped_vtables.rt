@@ -1,5 +1,6 @@
 //! Lays the vtables of a tape, each once, and what is before the fields of its tables.
-ghost use Rattle.std.specs.Prelude.{ℕ, List, Option, ◌≡◌, ◌≤◌, ◌<◌, ◌+◌, ◌⊎◌, length, max, slice_index};
+ghost use Rattle.std.specs.Prelude.{ℕ, List, Option, ◌≡◌, ◌≤◌, ◌<◌, ◌+◌, ◌-◌, ◌++◌, length, max, slice_index};
+ghost use Rattle.byteorder.specs.Endian.{little_bytes};
 ghost use Rattle.std.specs.Vec.{vec_capacity};
 ghost use Rattle.fb_layout.specs.Laid.{LaidSchema};
 ghost use Rattle.fb_value.specs.Datum.{Datum};
@@ -9,7 +10,28 @@ ghost use Rattle.fb_build.specs.NumberedVtables.{IsVtableInTurn, IsVtableLaid, I
 ghost use Rattle.fb_build.specs.Tails.{Grows};
 
 use crate::tail::Tail;
-use crate::vtables::{lay_new, way_back};
+
+/// What a table's first number is, where its vtable is laid before it.
+fn way_back(place: u32, at: u32) -> u32
+    requires some { 0 < at }
+    requires before { at < place }
+    ensures { result ≡ 4294967296 - (place - at) }
+{
+    u32::MAX - (place - at) + 1
+}
+
+/// Lays the first number of a table, and its vtable in front.
+fn lay_new(out: &mut Tail, vtable: &[u8])
+    requires room { 4 + length vtable.now ≤ out.old.free }
+    requires short { length vtable.now ≤ 65534 }
+    ensures bytes { out.new.bytes ≡ vtable.now ++ (little_bytes 4 (length vtable.now) ++ out.old.bytes) }
+    ensures free { out.new.free + (4 + length vtable.now) ≡ out.old.free }
+    ensures most { out.new.most ≡ out.old.most }
+    ensures grows { Grows out.old out.new }
+{
+    out.lay_u32(vtable.len() as u32);
+    out.lay(vtable);
+}
 
 /// Lays the first number of a table, and its vtable where that is the next to come, and returns how many bytes are laid
 /// up to the table.

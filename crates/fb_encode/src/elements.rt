@@ -1,6 +1,6 @@
 //! Vectors of the root's table. Each element is read, laid where it is a text or a table, and dropped before the next,
 //! so that no long vector is whole in memory beside its tree.
-ghost use Rattle.std.specs.Prelude.{◌≡◌, [], IfOk, map, string_bytes, true, vec_len};
+ghost use Rattle.std.specs.Prelude.{◌≡◌, [], IfOk, length, map, string_bytes, true, vec_len};
 ghost use Rattle.serde_json.specs.Data.{string};
 ghost use Rattle.serde_json.specs.View.{view as tree_view, items_view};
 ghost use Rattle.fb_schema.specs.declared.kinds.Shape.TheVariants.{One};
@@ -114,8 +114,9 @@ pub(crate) fn lay_elements(
     ensures gives { Gives (λ rest. (builder.new.elements, rest)) result
         (items_meant source.entry.layout.now source.entry.unknown (items_view elements.items)
         kind place levels left) }
-    ensures entries { builder.new.entries ≡ builder.old.entries }
+    ensures entries { IfOk result (λ rest. builder.new.entries ≡ builder.old.entries) }
     ensures layout { builder.new.layout ≡ builder.old.layout }
+    ensures count { IfOk result (λ rest. length builder.new.elements ≡ vec_len elements) }
 {
     let mut left = left;
     let mut elements = elements;

@@ -14,7 +14,7 @@ ghost use Rattle.fb_build.specs.Fields.{is_reference};
 ghost use Rattle.fb_encode.specs.OneMore.{IsNextField, one_more};
 
 use crate::elements::{items_from, lay_elements};
-use fb_build::BufferBuilder;
+use fb_build::{BufferBuilder, drop_entry};
 use fb_json::{JsonFault, Place, Source, TakenSlot, code_after, is_marked, take_slot};
 use fb_schema::{FieldInfo, Kind, TypeId};
 use fb_value::Value;
@@ -50,12 +50,15 @@ fn lay_vector(
     ensures none { IfOk result (λ rest. builder.new.elements ≡ []) }
 {
     if is_referred(kind) {
+        let count = elements.len();
         let left = lay_elements(source, builder, elements, kind, place, levels, left)?;
-        builder.close_vector()?;
+        builder.close_vector(count)?;
         return Ok(left);
     }
     let (items, left) = items_from(source, elements, kind, place, levels, left)?;
-    builder.push_entry(Some(Value::Items(items)))?;
+    let entry = Some(Value::Items(items));
+    builder.push_entry(&entry)?;
+    drop_entry(entry);
     Ok(left)
 }
 
@@ -89,7 +92,8 @@ fn lay_slot(
     let (taken, left) = take_slot(source, members, slot, place, code, marked, levels, left)?;
     match taken {
         TakenSlot::Entry(entry) => {
-            builder.push_entry(entry)?;
+            builder.push_entry(&entry)?;
+            drop_entry(entry);
             Ok(left)
         }
         TakenSlot::Elements(kind, elements) => {

@@ -16,7 +16,6 @@ use fb_json::{
     slots_decide_the_root,
 };
 use fb_layout::Layout;
-use fb_segments::Segments;
 use fb_value::Limits;
 use serde_json::{Map, Value as Json};
 use std::alloc::Global;
@@ -26,7 +25,6 @@ fn lay_root<'l>(
     source: Source<'l>,
     members: Map<String, Json>,
     limits: Limits,
-    expected: usize,
 ) -> Result<BufferBuilder<'l>, JsonFault>
     ensures layout { IfOk result (λ b. b.layout ≡ source.entry.layout.now) }
     ensures all { IfOk result (λ b. length b.entries ≡ length (root_slots b.layout)) }
@@ -41,7 +39,7 @@ fn lay_root<'l>(
     let slots = source.layout.slots_of(root);
     let marks = marks_of(source, root, slots, &members)?;
     let marks = marks.as_slice();
-    let mut builder = BufferBuilder::new(source.alloc, source.layout, expected)?;
+    let mut builder = BufferBuilder::new(source.alloc, source.layout);
     let levels = limits.most_depth().saturating_sub(1);
     let left = limits.most_cells().saturating_sub(1);
     match lay_slots(
@@ -59,21 +57,20 @@ fn lay_root<'l>(
     }
 }
 
-/// The bytes that encode the value that a tree means under a layout, as the root table's, in segments.
+/// The bytes that encode the value that a tree means under a layout, as the root table's.
 ///
-/// The tree is given away. What a slot of the root's table refers to is laid once it is read, and an element of its
-/// vectors of texts and tables too, and then dropped: only one of them is in memory at a time. The segments may reuse
-/// the memory of what was dropped. The first block has as many bytes as are `expected`, at most 65,536: the length of
-/// the JSON text is a good guess. The error is that of the tree's first fault, and then that of the value's size.
+/// The tree is given away. What a slot of the root's table has is noted once it is read, and an element of its vectors
+/// of texts and tables too, and then dropped: only one of them is in memory at a time. Memory for the bytes is taken
+/// once the tree is dropped, and before the first of them is laid. The error is that of the tree's first fault, and
+/// then that of the value's size.
 pub fn encode_tree(
     alloc: Global,
     layout: &Layout,
     tree: Json,
     limits: Limits,
     unknown: bool,
-    expected: usize,
-) -> Result<Segments, EncodeFault>
-    ensures encoded { IfOk result (λ b. IsEncoded layout.now limits unknown (tree_view tree) b.bytes) }
+) -> Result<Vec<u8>, EncodeFault>
+    ensures encoded { IfOk result (λ b. IsEncoded layout.now limits unknown (tree_view tree) b.items) }
     ensures refused { IfErr result (EncodeRefused layout.now limits unknown (tree_view tree)) }
 {
     first_fault_refuses();
@@ -87,7 +84,7 @@ pub fn encode_tree(
         Ok(members) => members,
         Err(fault) => return Err(EncodeFault::Json(fault)),
     };
-    let builder = match lay_root(source, members, limits, expected) {
+    let builder = match lay_root(source, members, limits) {
         Ok(builder) => builder,
         Err(fault) => return Err(EncodeFault::Json(fault)),
     };

@@ -154,6 +154,7 @@ impl OpenFields {
     }
 
     /// The field of an index.
+    #[inline(always)]
     pub(crate) fn field(&self, index: usize) -> FieldInTable<'_>
         requires within { index < length self.now }
         ensures is { slice_get self.now index ≡ Some (field_in result) }

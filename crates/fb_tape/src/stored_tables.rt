@@ -4,7 +4,7 @@ ghost use Rattle.std.specs.Prelude.{replicate, Option, OnOk};
 ghost use Rattle.std.specs.List.{All};
 ghost use Rattle.byteorder.specs.Endian.{little_bytes};
 ghost use Rattle.fb_schema.specs.Alignments.{greatest_in};
-ghost use Rattle.fb_layout.specs.Sizes.{ceil4};
+ghost use Rattle.fb_layout.specs.Sizes.{IsAlignment, ceil4};
 ghost use Rattle.fb_layout.specs.Laid.{LaidSchema, Slot};
 ghost use Rattle.fb_value.specs.Datum.{Datum};
 ghost use Rattle.fb_tape.specs.LayingOrder.{laying_order};
@@ -150,15 +150,18 @@ fn note_fields_at(
 // The alignments that a field may have, falling.
 const ALIGNMENTS: [u16; 9] = [256, 128, 64, 32, 16, 8, 4, 2, 1];
 
-/// Notes the fields of a table in the order of laying.
+/// Notes the fields of a table in the order of laying. No field is aligned to more than `greatest`.
 pub(crate) fn note_fields(
     notes: &mut Vec<NotedField>,
     bytes: &mut Vec<u8>,
     offsets: &mut Offsets,
     opened: &OpenFields,
     first: usize,
+    greatest: u16,
 ) -> Result<(), AllocError>
     requires within { first ≤ length opened.now }
+    requires aligned { All (λ x. IsAlignment x.align) (drop first opened.now) }
+    requires greatest { greatest_in (map (λ x. x.align) (drop first opened.now)) ≤ greatest }
     requires room { offsets.old.laid + taken (in_order (drop first opened.now)) ≤ offsets.old.size }
     requires slots { All (λ x. x.slot < length offsets.old.slots.items) (drop first opened.now) }
     ensures size { offsets.new.size ≡ offsets.old.size }
@@ -170,7 +173,12 @@ pub(crate) fn note_fields(
     ensures placed { OnOk result (offsets.new.slots.items ≡ placed offsets.old.size offsets.old.laid
         (in_order (drop first opened.now)) offsets.old.slots.items) }
 {
+    let before = notes.len();
     for align in ALIGNMENTS {
+        let all_are_noted = notes.len() - before == opened.len() - first;
+        if align > greatest || all_are_noted {
+            continue;
+        }
         note_fields_at(notes, bytes, offsets, opened, first, align)?;
     }
     Ok(())
@@ -198,7 +206,8 @@ pub(crate) fn vtable_into(vtable: &mut Vec<u8>, offsets: &Offsets) -> Result<(),
     Ok(())
 }
 
-/// Notes the fields of a table in the order of laying, and writes its vtable.
+/// Notes the fields of a table in the order of laying, and writes its vtable. No field is aligned to more than
+/// `greatest`.
 pub(crate) fn note_table(
     notes: &mut Vec<NotedField>,
     bytes: &mut Vec<u8>,
@@ -206,8 +215,10 @@ pub(crate) fn note_table(
     vtable: &mut Vec<u8>,
     opened: &OpenFields,
     first: usize,
+    greatest: u16,
 ) -> Result<(), AllocError>
     requires within { first ≤ length opened.now }
+    requires greatest { greatest_in (map (λ x. x.align) (drop first opened.now)) ≤ greatest }
     requires some { (L : LaidSchema) × (fs : List Slot) × (xs : List (Option Datum))
         × AreStored L fs xs (drop first opened.now) }
     ensures grown { length bytes.old.items ≤ length bytes.new.items }
@@ -219,7 +230,7 @@ pub(crate) fn note_table(
         → AreStored L fs xs (drop first opened.now) → vtable.new.items ≡ vtable_of L fs xs) }
 {
     offsets.begin(opened, first)?;
-    note_fields(notes, bytes, offsets, opened, first)?;
+    note_fields(notes, bytes, offsets, opened, first, greatest)?;
     vtable_into(vtable, offsets)?;
     Ok(())
 }

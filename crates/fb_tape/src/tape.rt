@@ -330,6 +330,7 @@ impl<'l> Tape<'l> {
         if self.is_over() {
             return Ok(());
         }
+        let align = start_align(opened, from);
         note_table(
             &mut self.fields,
             &mut self.bytes,
@@ -337,12 +338,13 @@ impl<'l> Tape<'l> {
             &mut self.scratch,
             opened,
             from,
+            align,
         )?;
         let vtable = self.vtables.number_of(self.scratch.as_slice())?;
         self.finished = self.bytes.len();
         self.ops.push(Op::Table {
             fields: (opened.len() - from) as u16,
-            align: start_align(opened, from),
+            align,
             vtable: (vtable % SIZES) as u32,
         })?;
         Ok(())

@@ -1,6 +1,6 @@
 //! A task over many files, each for itself, under one schema.
 use crate::explained::explain_refusal;
-use crate::faults::{Laid, read_fault, write_fault};
+use crate::faults::{Buffer, read_fault, write_fault};
 use crate::{limits, tell};
 use clap::Error;
 use clap::error::ErrorKind;
@@ -9,7 +9,7 @@ use flatc_files::{
     Content, Misuse, Progress, Reasoned, Target, Texts, directory_of, targets_of, write_file,
 };
 use flatc_tool::{
-    DecodeOptions, EncodeOptions, Entries, Layout, Noted, ToolFault, decode_to, encode_segments,
+    DecodeOptions, EncodeOptions, Entries, Layout, Noted, ToolFault, decode_to, encode_owned,
     schema_of, verify,
 };
 use std::alloc::AllocError;
@@ -74,8 +74,8 @@ fn write_buffer<'j>(
         unknown_json,
     };
     let json = texts.input.give(rt);
-    let buffer = encode_segments(rt.alloc(), layout, json, &options)?;
-    match write_file(rt, target, &mut Laid(&buffer)) {
+    let buffer = encode_owned(rt.alloc(), layout, json, &options)?;
+    match write_file(rt, target, &mut Buffer(buffer.as_slice())) {
         Ok(()) => Ok(()),
         Err(error) => Err(write_fault(rt, texts, target.path.as_str(), &error)),
     }

@@ -1,15 +1,15 @@
 //! Buffers as what is written, and the faults of files that failed.
 use flatc_files::{Content, TakeFault, Texts};
-use flatc_tool::{Segments, ToolFault, command};
+use flatc_tool::{ToolFault, command};
 use std::io::{self, ErrorKind, Write};
 
 /// A buffer, to be written.
 #[derive(Drop)]
-pub(crate) struct Laid<'b>(pub(crate) &'b Segments);
+pub(crate) struct Buffer<'b>(pub(crate) &'b [u8]);
 
-impl Content for Laid<'_> {
+impl Content for Buffer<'_> {
     fn write_to<W: Write>(&mut self, out: &mut W) -> io::Result<()> {
-        self.0.write_to(out)
+        out.write_all(self.0)
     }
 
     fn len(&self) -> Option<u64> {

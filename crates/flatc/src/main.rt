@@ -12,7 +12,7 @@ mod terminal;
 
 use crate::batches::do_batch;
 use crate::explained::{explain_number, explain_refusal, flags_of, list_numbers, warn};
-use crate::faults::{Laid, read_fault, write_fault};
+use crate::faults::{Buffer, read_fault, write_fault};
 use crate::hints::hint_for;
 use crate::terminal::is_explained;
 use clap::Error;
@@ -21,8 +21,8 @@ use flatc_cli::{Job, Request, request_of};
 use flatc_files::{Reasoned, Texts, write_out};
 use flatc_tool::command::report_noted;
 use flatc_tool::{
-    EncodeOptions, Limits, Noted, Segments, ToolFault, check, conform_names, conform_texts,
-    print_to, to_binary, to_binary_segments, to_json,
+    EncodeOptions, Limits, Noted, ToolFault, check, conform_names, conform_texts, encode_owned,
+    print_to, schema_of, to_binary, to_json,
 };
 use std::alloc::Global;
 use std::process::ExitCode;
@@ -69,11 +69,17 @@ fn example(alloc: Global) -> Result<String, ToolFault> {
 fn buffer_of(
     rt: &HostRuntime,
     texts: &mut Texts<'_>,
-    unknown: bool,
-) -> Result<Segments, ToolFault> {
+    unknown_json: bool,
+) -> Result<Vec<u8>, ToolFault> {
     let json = texts.input.give(rt);
-    let schema = texts.schema.bytes.as_slice();
-    to_binary_segments(rt.alloc(), schema, json, limits(), unknown)
+    let options = EncodeOptions {
+        limits: limits(),
+        unknown_json,
+    };
+    match schema_of(rt.alloc(), texts.schema.bytes.as_slice()) {
+        Ok(layout) => encode_owned(rt.alloc(), &layout, json, &options),
+        Err(fault) => Err(ToolFault::Schema(fault)),
+    }
 }
 
 /// Reads a schema, and what is under it or compared with it.
@@ -95,7 +101,7 @@ fn write_buffer<'j>(
     let [schema, json, out] = paths;
     read_both(rt, texts, [schema, json])?;
     let buffer = buffer_of(rt, texts, unknown)?;
-    match write_out(rt, out, &mut Laid(&buffer), [schema, json]) {
+    match write_out(rt, out, &mut Buffer(buffer.as_slice()), [schema, json]) {
         Ok(()) => Ok(()),
         Err(error) => Err(write_fault(rt, texts, out, &error)),
     }

@@ -63,7 +63,7 @@ pub record NoneIsMeant (schema json : List ℕ) (most : Bounds) (unknown : Bool)
   pub fault : JsonFault
   pub first : IsFirst L most unknown t fault
   pub no_buffer : (b : Bytes) → ¬ IsBinary schema json most unknown b
-  -- `to_binary` and `to_binary_segments`
+  -- `to_binary`
   pub refused : (f : ToolFault) → BinaryRefused schema json most unknown f → IsNotMemory f → f ≡ Json fault
 
 -- JSON that means no value is refused with its first fault, at its place; a text that isn't JSON as such.

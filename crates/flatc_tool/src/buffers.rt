@@ -2,18 +2,15 @@
 ghost use Rattle.std.specs.Prelude.{◌≡◌, ◌⊎◌, ℕ, List, IfOk, IfErr};
 ghost use Rattle.serde_json.specs.Data.{Data};
 ghost use Rattle.serde_json.specs.View.{view as tree_view};
-ghost use Rattle.fb_build.specs.declared.faults.BuildFault.TheVariants.{Memory};
 ghost use Rattle.flatc_tool.specs.Encodes.{encode_fault};
 ghost use Rattle.flatc_tool.specs.Jobs.{IsBinaryOf, MayBeBinaryOf, BinaryRefusedOf, IsNotMemory};
 ghost use Rattle.flatc_tool.specs.JsonText.{IsTree};
 
 use crate::laws::layer_laws;
 use crate::options::EncodeOptions;
-use fb_build::BuildFault;
 use fb_encode::{EncodeFault, encode_tree};
 use fb_faults::ToolFault;
 use fb_layout::Layout;
-use fb_segments::Segments;
 use serde_json::Value as Json;
 use std::alloc::Global;
 
@@ -40,16 +37,15 @@ fn refused(fault: EncodeFault) -> ToolFault
     }
 }
 
-/// The buffer of a JSON text's tree, in segments.
-fn segments_of(
+/// The buffer of a JSON text's tree.
+fn buffer_of(
     alloc: Global,
     layout: &Layout,
     tree: Json,
     options: &EncodeOptions,
-    expected: usize,
-) -> Result<Segments, ToolFault>
+) -> Result<Vec<u8>, ToolFault>
     ensures binary { (json : List ℕ) → IsTree json (tree_view tree) → IfOk result
-        (λ b. IsBinaryOf layout.now json options.now.limits options.now.unknown_json b.bytes) }
+        (λ b. IsBinaryOf layout.now json options.now.limits options.now.unknown_json b.items) }
     ensures refused { (json : List ℕ) → IsTree json (tree_view tree) → IfErr result
         (BinaryRefusedOf layout.now json options.now.limits options.now.unknown_json) }
     ensures exact { (json : List ℕ) → IsTree json (tree_view tree) → IfErr result (λ f. IsNotMemory f
@@ -57,20 +53,9 @@ fn segments_of(
 {
     layer_laws();
     let (limits, unknown) = (options.limits, options.unknown_json);
-    match encode_tree(alloc, layout, tree, limits, unknown, expected) {
-        Ok(segments) => Ok(segments),
-        Err(fault) => Err(refused(fault)),
-    }
-}
-
-/// The bytes of segments in one block.
-fn joined(alloc: Global, segments: Segments) -> Result<Vec<u8>, ToolFault>
-    ensures bytes { IfOk result (λ b. b.items ≡ segments.bytes) }
-    ensures refused { IfErr result (λ f. f ≡ ToolFault.Build Memory) }
-{
-    match segments.into_bytes(alloc) {
+    match encode_tree(alloc, layout, tree, limits, unknown) {
         Ok(bytes) => Ok(bytes),
-        Err(_) => Err(ToolFault::Build(BuildFault::Memory)),
+        Err(fault) => Err(refused(fault)),
     }
 }
 
@@ -93,32 +78,28 @@ pub fn encode(
         → ¬ MayBeBinaryOf layout.now json.now options.now.limits options.now.unknown_json) }
 {
     let tree = tree_of(alloc, json)?;
-    let segments = segments_of(alloc, layout, tree, options, json.len())?;
-    joined(alloc, segments)
+    buffer_of(alloc, layout, tree, options)
 }
 
-/// The buffer of a JSON text that is given away, under a layout, in segments.
-///
-/// This takes the least memory: the text is dropped before the buffer is laid, what is read is dropped as it is laid,
-/// and the segments can be written without being joined. The errors are those of `encode`, in the same order.
-pub fn encode_segments(
+/// The same of a JSON text that is given away, and dropped before memory for the buffer is taken. This takes the least
+/// memory.
+pub fn encode_owned(
     alloc: Global,
     layout: &Layout,
     json: Vec<u8>,
     options: &EncodeOptions,
-) -> Result<Segments, ToolFault>
+) -> Result<Vec<u8>, ToolFault>
     ensures binary { IfOk result
-        (λ b. IsBinaryOf layout.now json.items options.now.limits options.now.unknown_json b.bytes) }
+        (λ b. IsBinaryOf layout.now json.items options.now.limits options.now.unknown_json b.items) }
     ensures refused { IfErr result
         (BinaryRefusedOf layout.now json.items options.now.limits options.now.unknown_json) }
     ensures exact { IfErr result (λ f. IsNotMemory f
         → ¬ MayBeBinaryOf layout.now json.items options.now.limits options.now.unknown_json) }
 {
     let tree = tree_of(alloc, json.as_slice());
-    let expected = json.len();
     drop(json);
     match tree {
-        Ok(tree) => segments_of(alloc, layout, tree, options, expected),
+        Ok(tree) => buffer_of(alloc, layout, tree, options),
         Err(fault) => Err(fault),
     }
 }

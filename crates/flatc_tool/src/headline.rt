@@ -16,7 +16,7 @@ pub fn json_is_carried()
 }
 
 /// JSON that means no value is refused with its first fault, at its place, and a text that isn't JSON as such: by
-/// `to_binary` and `to_binary_segments`.
+/// `to_binary`.
 pub fn other_json_is_refused()
     ensures { OtherJsonIsRefused }
 {

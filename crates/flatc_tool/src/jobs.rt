@@ -2,12 +2,11 @@
 ghost use Rattle.std.specs.Prelude.{IfOk, IfErr};
 ghost use Rattle.flatc_tool.specs.Jobs.{IsBinary, MayBeBinary, BinaryRefused, IsNotMemory};
 
-use crate::buffers::{encode, encode_segments};
+use crate::buffers::encode;
 use crate::laws::layer_laws;
 use crate::options::EncodeOptions;
 use fb_faults::ToolFault;
 use fb_schema_text::schema_of;
-use fb_segments::Segments;
 use fb_value::Limits;
 use std::alloc::Global;
 
@@ -38,31 +37,4 @@ pub fn to_binary(
         unknown_json: unknown,
     };
     encode(alloc, &layout, json, &options)
-}
-
-/// The buffer of a JSON text that is given away, under a schema text, in segments.
-///
-/// This takes the least memory, as `encode_segments` does. The errors are those of `to_binary`, in the same order.
-pub fn to_binary_segments(
-    alloc: Global,
-    schema: &[u8],
-    json: Vec<u8>,
-    limits: Limits,
-    unknown: bool,
-) -> Result<Segments, ToolFault>
-    ensures binary { IfOk result (λ b. IsBinary schema.now json.items limits unknown b.bytes) }
-    ensures refused { IfErr result (BinaryRefused schema.now json.items limits unknown) }
-    ensures exact { IfErr result
-        (λ f. IsNotMemory f → ¬ MayBeBinary schema.now json.items limits unknown) }
-{
-    layer_laws();
-    let layout = match schema_of(alloc, schema) {
-        Ok(layout) => layout,
-        Err(fault) => return Err(ToolFault::Schema(fault)),
-    };
-    let options = EncodeOptions {
-        limits,
-        unknown_json: unknown,
-    };
-    encode_segments(alloc, &layout, json, &options)
 }

@@ -12,7 +12,7 @@ mod laws;
 mod options;
 mod prints;
 
-pub use buffers::{encode, encode_segments};
+pub use buffers::{encode, encode_owned};
 pub use checks::check;
 pub use evolution::{conform_names, conform_texts};
 pub use fb_build::{BuildFault, build};
@@ -24,7 +24,6 @@ pub use fb_layout::{Layout, LayoutFault};
 pub use fb_read::{Entries, Entry, FixedView, Items, View, read, verify};
 pub use fb_schema::TypeId;
 pub use fb_schema_text::{SchemaTextFault, schema_of};
-pub use fb_segments::Segments;
 pub use fb_syntax::SyntaxFault;
 pub use fb_text::{Noted, TextFault, WriteFault};
 pub use fb_value::{
@@ -34,7 +33,7 @@ pub use headline::{
     chains_carry, chains_conform, json_is_carried, old_programs_read, old_texts_are_carried,
     old_texts_are_read, other_json_is_refused, others_are_refused,
 };
-pub use jobs::{to_binary, to_binary_segments};
+pub use jobs::to_binary;
 pub use json_texts::{decode, decode_to};
 pub use options::{DecodeOptions, EncodeOptions};
 pub use prints::{print_to, to_json};

@@ -3,18 +3,8 @@ use crate::arming::{Matching, Outcome, arm, disarm};
 use crate::examples::Example;
 use crate::meanings::limits;
 use flatc_tool::{
-    Noted, Segments, ToolFault, check, conform_names, conform_texts, print_to, to_binary,
-    to_binary_segments, to_json,
+    Noted, ToolFault, check, conform_names, conform_texts, print_to, to_binary, to_json,
 };
-use std::alloc::Global;
-
-/// Whether segments are these bytes.
-pub(crate) fn are_bytes(alloc: Global, segments: Segments, bytes: &[u8]) -> bool {
-    match segments.into_bytes(alloc) {
-        Ok(found) => found.as_slice() == bytes,
-        Err(_) => false,
-    }
-}
 
 fn try_binary(rt: &HostRuntime, example: &Example, arms: bool) -> Outcome {
     let (schema, json, limits) = (example.schema, example.json, limits());
@@ -23,20 +13,6 @@ fn try_binary(rt: &HostRuntime, example: &Example, arms: bool) -> Outcome {
     disarm(rt, arms);
     match answer {
         Ok(bytes) => Outcome::of(bytes.as_slice() == example.bytes),
-        Err(fault) => Outcome::of_refusal(fault.number()),
-    }
-}
-
-fn try_segments(rt: &HostRuntime, example: &Example, arms: bool) -> Outcome {
-    let Ok(json) = Vec::from_slice(rt.alloc(), example.json) else {
-        return Outcome::Wrong;
-    };
-    let (schema, limits) = (example.schema, limits());
-    arm(rt, arms);
-    let answer = to_binary_segments(rt.alloc(), schema, json, limits, false);
-    disarm(rt, arms);
-    match answer {
-        Ok(segments) => Outcome::of(are_bytes(rt.alloc(), segments, example.bytes)),
         Err(fault) => Outcome::of_refusal(fault.number()),
     }
 }
@@ -109,7 +85,6 @@ pub(crate) fn try_job(
 ) -> Option<Outcome> {
     match call {
         "to_binary" => Some(try_binary(rt, example, arms)),
-        "to_binary_segments" => Some(try_segments(rt, example, arms)),
         "to_json" => Some(try_json(rt, example, arms)),
         "print_to" => Some(try_print(rt, example, arms)),
         "check" => Some(try_check(rt, example, arms)),

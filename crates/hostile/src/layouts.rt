@@ -2,13 +2,12 @@
 use crate::arming::{Outcome, arm, disarm};
 use crate::diagnoses::{try_breaches, try_json_path, try_path};
 use crate::examples::Example;
-use crate::jobs::are_bytes;
 use crate::meanings::limits;
 use crate::values::{is_printed_as, try_value_call};
 use fb_json::value_of;
 use fb_layout::Layout;
 use fb_read::{Entries, read};
-use flatc_tool::{DecodeOptions, EncodeOptions, decode, encode, encode_segments, schema_of};
+use flatc_tool::{DecodeOptions, EncodeOptions, decode, encode, encode_owned, schema_of};
 use serde_json::Value as Json;
 
 fn try_encode(rt: &HostRuntime, example: &Example, layout: &Layout, arms: bool) -> Outcome {
@@ -22,16 +21,16 @@ fn try_encode(rt: &HostRuntime, example: &Example, layout: &Layout, arms: bool) 
     }
 }
 
-fn try_segments(rt: &HostRuntime, example: &Example, layout: &Layout, arms: bool) -> Outcome {
+fn try_owned(rt: &HostRuntime, example: &Example, layout: &Layout, arms: bool) -> Outcome {
     let Ok(json) = Vec::from_slice(rt.alloc(), example.json) else {
         return Outcome::Wrong;
     };
     let options = EncodeOptions::new();
     arm(rt, arms);
-    let answer = encode_segments(rt.alloc(), layout, json, &options);
+    let answer = encode_owned(rt.alloc(), layout, json, &options);
     disarm(rt, arms);
     match answer {
-        Ok(segments) => Outcome::of(are_bytes(rt.alloc(), segments, example.bytes)),
+        Ok(bytes) => Outcome::of(bytes.as_slice() == example.bytes),
         Err(fault) => Outcome::of_refusal(fault.number()),
     }
 }
@@ -82,7 +81,7 @@ fn try_under(
 ) -> Option<Outcome> {
     match call {
         "encode" => Some(try_encode(rt, example, layout, arms)),
-        "encode_segments" => Some(try_segments(rt, example, layout, arms)),
+        "encode_owned" => Some(try_owned(rt, example, layout, arms)),
         "decode" => Some(try_decode(rt, example, layout, arms)),
         "read" => Some(try_read(rt, example, layout, arms)),
         "value_of" => Some(try_value_of(rt, example, layout, arms)),

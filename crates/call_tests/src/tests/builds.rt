@@ -45,7 +45,7 @@ fn entries_and_elements_come_in_one_by_one(rt: HostRuntime) -> Result<(), Fail> 
     Ok(())
 }
 
-/// Two tables with one vtable, and between them texts that fill several segments.
+/// Two tables with one vtable, and long texts between them.
 fn long_json(alloc: Global) -> Result<String, AllocError> {
     let mut json = String::from_str(alloc, "{\"s\":\"hi\",\"qs\":[{\"x\":1}],\"ts\":[\"")?;
     push_times(&mut json, "x", 70_000)?;
@@ -56,7 +56,7 @@ fn long_json(alloc: Global) -> Result<String, AllocError> {
 }
 
 #[test]
-fn parts_in_many_segments(rt: HostRuntime) -> Result<(), Fail> {
+fn one_vtable_behind_long_texts(rt: HostRuntime) -> Result<(), Fail> {
     let json = long_json(rt.alloc())?;
     expect_same(&rt, rt.alloc(), json.as_str())
 }

@@ -12,20 +12,18 @@ use Rattle.fb_value.specs.declared.values.Value.{Value, Fields}
 use Rattle.fb_value.proofs.types.EachVariantHasItsView.{view-Fields}
 use Rattle.fb_tape.specs.Tapes.{Taped, Waits, MeansRoot}
 use Rattle.fb_build.specs.Fields.{entries_seen}
-use Rattle.fb_build.specs.TapeLaid.{SomeLay}
 
 -- the room of a root's value
-pub root_room : (L : LaidSchema) (value : Value) (table : TypeId) (v : Vec (Option Value) Global) → value ≡ Fields table v
+pub root_room : (L : LaidSchema) (value : Value) (table : TypeId) (v : Vec (Option Value) Global)
+    → value ≡ Fields table v
     → table_room L table.0 + entries_room L (slots_of L table.0) (entries_view v.items)
     ≡ room L (one_of (table_kind L.schema.root)) (view value)
 root_room L value table v is = rw (is, view-Fields table v) refl
 
 pub record IsNotedRoot (L : LaidSchema) (value : Value) (es : Vec (Option Value) Global) (tape : Taped) : Type 0 where
   pub room : tape.room ≡ room L (one_of (table_kind L.schema.root)) (view value)
-  pub small : tape.room ≤ 2147483647
   pub value_is : view value ≡ a_table L.schema.root (entries_in (entries_seen es.items))
   pub means : MeansRoot tape (entries_seen es.items)
-  pub lays : SomeLay tape
 
 pub root_noted : (L : LaidSchema) (value : Value) (table : TypeId) (es : Vec (Option Value) Global) (tape : Taped)
     → value ≡ Fields table es → Fits L (one_of (table_kind L.schema.root)) (view value) → tape.layout ≡ L
@@ -37,14 +35,11 @@ pub root_noted : (L : LaidSchema) (value : Value) (table : TypeId) (es : Vec (Op
 root_noted L value table es tape is fits same low waits sum =
     let root = (rw (is, view-Fields table es) at fits).0 in
     let own = root_room L value table es is in
-    let small : tape.room ≤ 2147483647 = omega (arith, sum, own, low) in
     record {
       room = omega (arith, sum, own, low);
-      small = small;
       value_is = rw (is, view-Fields table es, root) refl;
       means = subst (λ (r : ℕ). Waits tape (record {
         target = table_part r;
         value = a_table r (entries_view es.items);
       } ∷ [])) (root ∙ sym (ap (λ M. M.schema.root) same)) waits;
-      lays = record { parts = _; lay = waits small };
     }

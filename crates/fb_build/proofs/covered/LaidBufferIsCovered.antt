@@ -3,8 +3,6 @@ use Rattle.std.proofs.Common.{◌≡◌, ℕ, zero, suc, ◌+◌, ◌-◌, ◌<�
 use Rattle.std.proofs.Common.{◌||◌, max, List, [], ◌∷◌, length, replicate, take, drop, map, slice_index, Option, None}
 use Rattle.std.proofs.Common.{Some, refl, ap, sym, ◌∙◌, subst, arith, append_assoc, length-append}
 use Rattle.std.proofs.lemmas.Bool.{false≢true, or_cases, eqb-true, eq-eqb}
-use Rattle.std.proofs.lemmas.List.Elements.{All-nil}
-use Rattle.std.proofs.lemmas.List.Sorted.{IsPermutation-refl}
 use Rattle.std.proofs.lemmas.List.Sums.{sum_by-cons}
 use Rattle.std.proofs.Math.Seq.{drop-append_seam, take-append_seam}
 use Rattle.fb_layout.specs.Laid.{LaidSchema}
@@ -13,16 +11,17 @@ use Rattle.fb_value.specs.Num.{Bytes, num, divides}
 use Rattle.fb_value.specs.Places.{table_part, part_place}
 use Rattle.fb_value.specs.Lies.{LiesAt}
 use Rattle.fb_value.specs.Holds.{root_place}
-use Rattle.fb_segments.specs.Ends.{StandsEnd}
+use Rattle.fb_build.specs.Vtables.{StandsEnd}
 use Rattle.fb_build.specs.Tails.{TailSeen, LaidInTail}
-use Rattle.fb_vtables.specs.Vtables.{AreDifferent, AreLaid, TellsItsLength}
+use Rattle.fb_tape.specs.KnownVtables.{EachHasOneNumber}
+use Rattle.fb_build.specs.Vtables.{AreLaid, TellsItsLength}
 use Rattle.fb_build.specs.Pieces.{PartAt, reached, reached_parts, greatest_align, is_among, tables_vtables}
 use Rattle.fb_build.specs.Pieces.{whole_header, header_piece, header_size}
 use Rattle.fb_build.specs.Covered.{Chunk, piece_chunk, zeros_chunk, pieces_among, vtable_at, EqualVtablesAreOne}
 use Rattle.fb_build.specs.Covered.{Covered, EndsAligned}
 use Rattle.fb_build.specs.CoveredTails.{part_further, parts_in_tail}
 use Rattle.fb_build.specs.CoveredSteps.{AreDistinct, ChunksOfTail}
-use Rattle.fb_build.specs.Made.{StaysInFront, laid_at, times_among, IsMade, LeadsEnd, identifier_bytes, HeaderFront}
+use Rattle.fb_build.specs.Made.{laid_at, times_among, IsMade, LeadsEnd, identifier_bytes, HeaderFront}
 use Rattle.fb_build.proofs.tables.CodeSlotHasNoEntry.{got}
 use Rattle.fb_build.proofs.numbers.NumberReadsBack.{num_behind}
 use Rattle.fb_build.proofs.covered.ReachedVtablesAreInside.{reached_front_shown}
@@ -30,27 +29,6 @@ use Rattle.fb_build.proofs.covered.TightTailIsCovered.{covered_shown}
 use Rattle.fb_build.proofs.covered.HeaderCompletesTheBuffer.{whole_shown}
 use Rattle.fb_build.proofs.covered.PartsInFrontAreAdded.{greatest_stay}
 use Rattle.fb_build.proofs.covered.PartAddsItself.{front_joined}
-
--- ---- before anything is laid
-
-no_bytes : (s : Bytes) → length s ≡ 0 → s ≡ []
-no_bytes [] e = refl
-no_bytes (b ∷ s) e = absurd (omega (arith, e))
-
-pub made_of_nothing : (L : LaidSchema) (o : TailSeen) → length o.bytes ≡ 0 → o.most ≡ 4 → IsMade L o [] []
-made_of_nothing L o empty least =
-    record {
-      within = λ i. omega arith;
-      stay = All-nil (StaysInFront L o.bytes);
-      made = record {
-        chunks = [];
-        are = record { joined = no_bytes o.bytes empty; runs = tt; first = refl };
-        pieces = IsPermutation-refl [];
-      };
-      once = λ q. omega arith;
-      served = λ q. refl;
-      widest = least;
-    }
 
 -- ---- each vtable once
 
@@ -101,7 +79,7 @@ vtable_stood s e vt h told =
     rw at (ap (λ n. take n (drop (length h.before) s)) number ∙ ap (λ b. take (length vt) b) rest
     ∙ take-append_seam vt h.behind)
 
-pub one_place : (s : Bytes) (known : List Bytes) (places ns : List ℕ) → AreLaid known places s → AreDifferent known
+pub one_place : (s : Bytes) (known : List Bytes) (places ns : List ℕ) → AreLaid known places s → EachHasOneNumber known
     → ((q : ℕ) → is_among q (laid_at s places) ≡ is_among q ns) → EqualVtablesAreOne s ns
 one_place s known places ns shared different served q r here there same =
     let x = laid_from s places q (served q ∙ here) in
@@ -130,7 +108,7 @@ pub record IsWhole (L : LaidSchema) (o d : TailSeen) (b : Bytes) (e : ℕ) (v : 
   pub laid : LaidInTail L o.most o.bytes (part_place (table_part L.schema.root)) e v
   pub made : IsMade L o places (parts_in_tail L o.bytes (table_part L.schema.root) e v)
   pub shared : AreLaid known places o.bytes
-  pub different : AreDifferent known
+  pub different : EachHasOneNumber known
   pub header : HeaderFront L.schema.identifier o d
   pub identified : (id : Bytes) → L.schema.identifier ≡ Some id → length id ≡ 4
   pub four : Bytes

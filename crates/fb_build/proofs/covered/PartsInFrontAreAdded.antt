@@ -1,6 +1,6 @@
 -- Steps of what is made: parts in another order, and parts that are laid in front.
 use Rattle.std.proofs.Common.{◌≡◌, ℕ, ◌+◌, ◌-◌, ◌≤◌, ◌++◌, Bool, true, false, ◌==◌, ◌||◌, max, nat_lt, cond, List, []}
-use Rattle.std.proofs.Common.{◌∷◌, length, map, slice_index, Option, None, Some, option_map, refl, ap, sym, ◌∙◌, subst}
+use Rattle.std.proofs.Common.{◌∷◌, length, map, slice_index, Option, None, Some, option_map, refl, ap, sym, ◌∙◌}
 use Rattle.std.proofs.Common.{arith, append_assoc, length-append}
 use Rattle.std.specs.Prelude.{IsPermutation}
 use Rattle.std.specs.List.{All, sum_by, filter_map, cons_option}
@@ -19,7 +19,7 @@ use Rattle.fb_build.specs.Covered.{Chunk, pieces_among}
 use Rattle.fb_build.specs.CoveredTails.{part_further, piece_further}
 use Rattle.fb_build.specs.CoveredSteps.{ChunksOfTail, MadeInTail}
 use Rattle.fb_build.specs.Tails.{TailSeen}
-use Rattle.fb_build.specs.Made.{StaysInFront, laid_at, times_among, IsMade, Adds}
+use Rattle.fb_build.specs.Made.{StaysInFront, laid_at, times_among, IsMade}
 use Rattle.fb_build.proofs.covered.ChunksJoin.{more_shown, made_shown}
 
 -- ---- in another order
@@ -232,45 +232,3 @@ made_laid L a b before after ys rs h xs made served once =
       served = λ q. served q ∙ ap (is_among q) (sym both);
       widest = omega (arith, h.most, made.widest, joined, aligns);
     })
-
--- ---- one after the other
-
-further_twice : (j k : ℕ) (xs : List PartAt)
-    → map (part_further j) (map (part_further k) xs) ≡ map (part_further (j + k)) xs
-further_twice j k [] = refl
-further_twice j k (x ∷ xs) =
-    let at : j + (k + x.at) ≡ (j + k) + x.at = omega arith in
-    rw (at, further_twice j k xs) refl
-
-further_none : (xs : List PartAt) → map (part_further 0) xs ≡ xs
-further_none [] = refl
-further_none (x ∷ xs) = let same : 0 + x.at ≡ x.at = omega arith in rw (same, further_none xs) refl
-
--- where nothing is laid
-pub adds_nothing : (L : LaidSchema) (a : TailSeen) (places : List ℕ) → Adds L a places a places []
-adds_nothing L a places xs made =
-    let none : length a.bytes - length a.bytes ≡ 0 = omega arith in
-    rw (none, further_none xs) made
-
-pub adds_then : (L : LaidSchema) (a b c : TailSeen) (before between after : List ℕ) (ys zs : List PartAt)
-    → length a.bytes ≤ length b.bytes → length b.bytes ≤ length c.bytes
-    → Adds L a before b between ys → Adds L b between c after zs
-    → Adds L a before c after (zs ++ map (part_further (length c.bytes - length b.bytes)) ys)
-adds_then L a b c before between after ys zs up more first second xs made =
-    let j = length c.bytes - length b.bytes in
-    let k = length b.bytes - length a.bytes in
-    let sum : j + k ≡ length c.bytes - length a.bytes = omega (arith, up, more) in
-    let all = second (ys ++ map (part_further k) xs) (first xs made) in
-    let moved : map (part_further j) (ys ++ map (part_further k) xs)
-    ≡ map (part_further j) ys ++ map (part_further (length c.bytes - length a.bytes)) xs =
-    map-append (part_further j) ys (map (part_further k) xs)
-    ∙ ap (λ z. map (part_further j) ys ++ z) (further_twice j k xs ∙ ap (λ n. map (part_further n) xs) sum) in
-    let same : zs ++ map (part_further j) (ys ++ map (part_further k) xs)
-    ≡ (zs ++ map (part_further j) ys) ++ map (part_further (length c.bytes - length a.bytes)) xs =
-    ap (λ z. zs ++ z) moved ∙ sym (append_assoc zs (map (part_further j) ys) _) in
-    subst (λ (ps : List PartAt). IsMade L c after ps) same all
-
-pub adds_permuted : (L : LaidSchema) (a b : TailSeen) (before after : List ℕ) (ys zs : List PartAt)
-    → IsPermutation ys zs → Adds L a before b after ys → Adds L a before b after zs
-adds_permuted L a b before after ys zs h adds xs made =
-    made_permuted L b after _ _ (IsPermutation-append_left _ ys zs h) (adds xs made)

@@ -1,14 +1,9 @@
 -- Where references lead once more bytes are laid.
-use Rattle.std.proofs.Common.{◌≡◌, ℕ, ◌+◌, ◌-◌, ◌++◌, length, Option, None, Some, refl, arith, length-append}
+use Rattle.std.proofs.Common.{◌≡◌, ℕ, ◌+◌, ◌-◌, ◌++◌, length, Option, None, Some, arith, length-append}
 use Rattle.std.proofs.lemmas.List.{get_or-append-add}
-use Rattle.fb_schema.specs.declared.kinds.Base.{Base}
-use Rattle.fb_layout.specs.Laid.{StoredShape, one_of, vector_of, scalar_kind, struct_kind, table_kind, union_kind}
-use Rattle.fb_layout.specs.Laid.{code_kind, text_kind}
-use Rattle.fb_value.specs.Datum.{Datum}
 use Rattle.fb_value.specs.Num.{Bytes, num}
 use Rattle.fb_value.specs.Places.{Target}
 use Rattle.fb_build.specs.Tails.{TailSeen, Grows}
-use Rattle.fb_build.specs.Fields.{scalar_in, target_for}
 use Rattle.fb_build.specs.Made.{LeadsEnd, LeadsTo}
 use Rattle.fb_value.proofs.tails.SameBytesReadTheSameFurtherOn.{number_moved}
 
@@ -28,14 +23,3 @@ pub leads_grown : (a b : TailSeen) (X : Option Target) (e t : ℕ) → Grows a b
     → LeadsTo b.bytes X e t
 leads_grown a b None e t g h = tt
 leads_grown a b (Some X) e t g h = rw g.grown (end_grown g.front a.bytes e t h)
-
--- a number has no reference
-pub number_leads_nowhere : (shape : StoredShape) (base : Base) (d : Datum) → scalar_in shape ≡ Some base
-    → target_for shape d ≡ None
-number_leads_nowhere (one_of (scalar_kind b)) base d e = refl
-number_leads_nowhere (one_of (code_kind u)) base d e = refl
-number_leads_nowhere (one_of (struct_kind u)) base d e = cc
-number_leads_nowhere (one_of (table_kind u)) base d e = cc
-number_leads_nowhere (one_of (union_kind u)) base d e = cc
-number_leads_nowhere (one_of text_kind) base d e = cc
-number_leads_nowhere (vector_of kind) base d e = cc

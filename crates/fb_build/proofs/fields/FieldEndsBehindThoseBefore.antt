@@ -1,5 +1,5 @@
 -- The end-count of a field: behind all that stands before it.
-use Rattle.std.proofs.Common.{◌≡◌, ℕ, zero, suc, ◌+◌, ◌<◌, ◌⊎◌, inl, inr, Bool, true, false, ◌&&◌, cond, if◌then◌else◌}
+use Rattle.std.proofs.Common.{◌≡◌, ℕ, zero, suc, ◌+◌, ◌<◌, ◌⊎◌, inl, inr, Bool, true, false, ◌&&◌, cond}
 use Rattle.std.proofs.Common.{nat_lt, nat_le, List, [], ◌∷◌, length, take, slice_get, slice_index, slice_set, Option}
 use Rattle.std.proofs.Common.{Some, refl, ap, sym, subst, arith}
 use Rattle.std.proofs.lemmas.List.{get_or-set_same, get_or-set_other}
@@ -92,9 +92,6 @@ end_retested P t u fs xs ends same h k f x fk xk =
 -- the two kinds of end-counts
 abbrev pub Counted : LaidSchema → ℕ → List Slot → List (Option Datum) → ℕ → Slot → Option Datum → Bool → ℕ → Type 0
 Counted L base fs xs k f x test e = test ≡ true → e ≡ base + stored_end L fs xs k f
-
-abbrev pub Placed : LaidSchema → List Slot → List (Option Datum) → ℕ → Slot → Option Datum → Bool → ℕ → Type 0
-Placed L fs xs k f x test e = e ≡ (if test then stored_end L fs xs k f else 0)
 
 -- the end-count of the slot that a pass is at
 pub own_end : (L : LaidSchema) (a k : ℕ) (fs : List Slot) (xs : List (Option Datum)) (f : Slot) (x : Option Datum)

@@ -6,29 +6,24 @@ use Rattle.std.proofs.Math.Nat.{add-mul-mod_self_left}
 use Rattle.std.proofs.lemmas.Bool.Decides.{Decides-int_eq}
 use Rattle.std.specs.Ordering.{int_eq}
 use Rattle.byteorder.specs.Endian.{little_bytes}
-use Rattle.fb_schema.specs.declared.kinds.Base.{Base}
-use Rattle.fb_schema.specs.declared.kinds.Base.TheVariants as the_base
-use Rattle.fb_schema.specs.Alignments.{base_size}
 use Rattle.fb_layout.specs.Laid.{LaidSchema, Slot, scalar_kind, struct_kind, table_kind, union_kind, code_kind}
 use Rattle.fb_layout.specs.Laid.{text_kind, StoredShape, one_of, vector_of}
 use Rattle.fb_layout.specs.Widths.{inline_align}
 use Rattle.fb_value.specs.Wanted.{struct_wanted}
-use Rattle.fb_schema.specs.WellDeclared.{InRange}
 use Rattle.fb_value.specs.Datum.{Datum, a_number, a_text, a_vector, a_struct, a_table, a_member, an_unknown}
-use Rattle.fb_value.specs.Num.{Bytes, num, scalar_of, divides}
-use Rattle.fb_value.specs.Places.{Target, ref_place, part_place, inline_place}
+use Rattle.fb_value.specs.Num.{Bytes, num, divides}
+use Rattle.fb_value.specs.Places.{Target, ref_place, part_place}
 use Rattle.fb_value.specs.Rules.{fault_by, KeepsBy}
 use Rattle.fb_value.specs.Lies.{LiesBy}
 use Rattle.fb_value.specs.EachTable.{EachTable, EachTableAt, IsOldTable}
 use Rattle.fb_value.specs.Tails.{from_end, LiesInTail, OldInTail}
 use Rattle.fb_build.specs.Tails.{TailSeen, Grows, LaidInTail}
-use Rattle.fb_build.specs.Fields.{SlotFits, member_target, scalar_in, number_in, from, is_stored, differs}
+use Rattle.fb_build.specs.Fields.{SlotFits, member_target, scalar_in, from, is_stored, differs}
 use Rattle.fb_build.specs.Fields.{TargetEnd, StoredEnd, EntryEnd, EntriesEnd, sort_for, target_for}
 use Rattle.fb_value.proofs.rules.RulesHoldOneByOne.{hold, no_rules}
 use Rattle.fb_build.proofs.numbers.NumberReadsBack.{num_first}
 use Rattle.fb_value.proofs.tails.TailsAreKeptInFront.{front_shown, old_shown}
 use Rattle.fb_build.specs.CoveredTails.{IsTightInTail, TightInTail, InlineInTail}
-use Rattle.fb_build.specs.Stored.{IsBit}
 use Rattle.fb_tape.specs.InlineBytes.{IsTightInline, EachInline, EachInlineAt}
 use Rattle.fb_build.proofs.covered.TightStructStaysTightFurtherOn.{inline_front_shown}
 use Rattle.fb_build.proofs.covered.TightTableStaysTightFurtherOn.{tight_front_shown}
@@ -37,27 +32,6 @@ use Rattle.fb_build.proofs.tail.WhatIsLaidStaysLaid.{laid_grown}
 -- a number that isn't stored
 abbrev pub IsDefault : Slot → Datum → Type 0
 IsDefault f d = (f.required ≡ false) × (n : ℤ) × (f.if_absent ≡ Some n) × (d ≡ a_number n)
-
--- a number that was laid last
-pub scalar_end : (L : LaidSchema) (m : ℕ) (base : Base) (n : ℤ) (s : Bytes) (rest : ℕ)
-    → length s ≡ rest + base_size base → n ≡ scalar_of base (num s 0 (base_size base)) → IsBit base (num s 0 1)
-    → divides (base_size base) (length s) ≡ true → divides (base_size base) m ≡ true
-    → LaidInTail L m s (inline_place (scalar_kind base)) (length s) (a_number n)
-unfolding fault_by
-scalar_end L m base n s rest long is bit whole most =
-    let size = base_size base in
-    let first : length s - length s ≡ 0 = omega arith in
-    let all : length s - 0 ≡ length s = omega arith in
-    let aligned : from_end s m size 0 ≡ true = and_from _ _ (rw all whole) most in
-    let inside : 0 + size ≤ length s = omega (arith, long) in
-    let keeps : KeepsBy (from_end s m) L s (inline_place (scalar_kind base)) 0 =
-    hold _ _ _ aligned (hold _ _ _ (le-leb _ _ inside) no_rules) in
-    record {
-      lies = record { within = omega arith; lies = rw first (keeps, is) };
-      old = tt;
-      tight = tt;
-      inline = rw first bit;
-    }
 
 -- a reference that was laid last
 pub reference_end : (L : LaidSchema) (m : ℕ) (X : Target) (e : ℕ) (d : Datum) (s rest : Bytes)
@@ -143,48 +117,6 @@ entry_grown L low a b laid f x e g h = record {
 
 -- ---- one field
 
--- a slot of a number, or of a union's code
-pub record IsNumber (L : LaidSchema) (shape : StoredShape) (base : Base) (d : Datum) : Type 0 where
-  pub sort : sort_for shape d ≡ inline_place (scalar_kind base)
-  pub align : inline_align L shape ≡ base_size base
-  pub is : d ≡ a_number (number_in (Some d))
-  pub range : InRange base (number_in (Some d))
-
-pub number_fits : (L : LaidSchema) (shape : StoredShape) (base : Base) (d : Datum) → scalar_in shape ≡ Some base
-    → SlotFits L shape d → IsNumber L shape base d
-number_fits L (one_of (scalar_kind b)) base (a_number n) e h =
-    let same : b ≡ base = cc in record {
-      sort = ap (λ x. inline_place (scalar_kind x)) same;
-      align = ap base_size same;
-      is = refl;
-      range = rw (← same) h;
-    }
-number_fits L (one_of (scalar_kind b)) base (a_text bytes) e h = absurd h
-number_fits L (one_of (scalar_kind b)) base (a_vector ds) e h = absurd h
-number_fits L (one_of (scalar_kind b)) base (a_struct ds) e h = absurd h
-number_fits L (one_of (scalar_kind b)) base (a_table t es) e h = absurd h
-number_fits L (one_of (scalar_kind b)) base (a_member c d) e h = absurd h
-number_fits L (one_of (scalar_kind b)) base (an_unknown c) e h = absurd h
-number_fits L (one_of (struct_kind s)) base d e h = cc
-number_fits L (one_of (table_kind t)) base d e h = cc
-number_fits L (one_of (union_kind u)) base d e h = cc
-number_fits L (one_of (code_kind u)) base (a_number n) e h =
-    let same : the_base.U8 ≡ base = cc in
-    record {
-      sort = ap (λ x. inline_place (scalar_kind x)) same;
-      align = ap base_size same;
-      is = refl;
-      range = rw (← same) h.0;
-    }
-number_fits L (one_of (code_kind u)) base (a_text bytes) e h = absurd h
-number_fits L (one_of (code_kind u)) base (a_vector ds) e h = absurd h
-number_fits L (one_of (code_kind u)) base (a_struct ds) e h = absurd h
-number_fits L (one_of (code_kind u)) base (a_table t es) e h = absurd h
-number_fits L (one_of (code_kind u)) base (a_member c d) e h = absurd h
-number_fits L (one_of (code_kind u)) base (an_unknown c) e h = absurd h
-number_fits L (one_of text_kind) base d e h = cc
-number_fits L (vector_of kind) base d e h = cc
-
 -- a slot of a reference
 pub record IsReference (L : LaidSchema) (shape : StoredShape) (d : Datum) : Type 0 where
   pub target : Target
@@ -237,16 +169,6 @@ now_laid L low m s a f x e at is lies =
     no_both : (b : Bool) → b ≡ true → b ≡ false → ⊥
     no_both true a b = cc
     no_both false a b = cc
-
--- a number that was laid last, for a slot of its shape
-pub number_element : (L : LaidSchema) (m : ℕ) (s : Bytes) (shape : StoredShape) (base : Base) (d : Datum)
-    → scalar_in shape ≡ Some base → SlotFits L shape d
-    → LaidInTail L m s (inline_place (scalar_kind base)) (length s) (a_number (number_in (Some d)))
-    → LaidInTail L m s (sort_for shape d) (length s) d
-number_element L m s shape base d scalar fits lies =
-    let known = number_fits L shape base d scalar fits in
-    rw known.sort (subst (λ (y : Datum). LaidInTail L m s (inline_place (scalar_kind base)) (length s) y) (sym known.is)
-    lies)
 
 pub more_divides : (a n k : ℕ) → divides a n ≡ true → k ≡ n + a → divides a k ≡ true
 more_divides a n k h e =

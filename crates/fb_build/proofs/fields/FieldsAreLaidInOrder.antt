@@ -9,7 +9,7 @@ use Rattle.fb_value.specs.Num.{Bytes, divides}
 use Rattle.fb_value.proofs.tails.TailsAreKeptInFront.{through}
 use Rattle.fb_build.specs.Tails.{TailSeen, Grows}
 use Rattle.fb_build.specs.Fields.{AreKnown, EntriesEnd, StoredEnd, is_stored, fields_size, stored_align}
-use Rattle.fb_build.specs.FieldOrder.{LinksNext, before, SameOfStored, AreLinked, link_in}
+use Rattle.fb_build.specs.FieldOrder.{LinksNext, before, SameOfStored}
 use Rattle.fb_build.specs.FieldsLaid.{AreSlotsLaid}
 use Rattle.fb_build.specs.Made.{FieldLeads, FieldsLead}
 use Rattle.fb_build.proofs.tail.WhatIsLaidStaysLaid.{power_divides, grown_long}
@@ -79,14 +79,6 @@ none_laid_before L o n start align fs xs ends first known next g each begin powe
       (power_divides (inline_align L f.shape) align (simple_aligned L f.shape (known.each k f x fk xk).0) power
       (omega (arith, own, low))) whole;
 }
-
-pub none_laid : (L : LaidSchema) (o n : TailSeen) (start align : ℕ) (fs : List Slot) (xs : List (Option Datum))
-    (ends : List ℕ) (links : Bytes) (first : ℕ) → AreKnown L fs xs → AreLinked L fs xs links first → Grows o n
-    → length ends ≡ length fs → start ≡ length n.bytes → IsAlignment align → stored_align L fs xs ≤ align
-    → divides align (length n.bytes) ≡ true
-    → EntriesEnd L 0 o.most o.bytes (λ k f. false) fs xs ends → AreLaidUpTo L n fs xs start ends ends first
-none_laid L o n start align fs xs ends links first known linked g each begin power low whole h =
-    none_laid_before L o n start align fs xs ends first known linked.begin g each begin power low whole h
 
 -- ---- the next one
 
@@ -192,20 +184,6 @@ next_laid_before L o n start k e link fs xs targets ends behind f x known next h
     whole = whole_step L (inline_align L f.shape) (length o.bytes) (length n.bytes) o.free n.free f
         (known.each k f x fk xk).0 refl (omega (arith, grown_long o n g)) free
         (next_whole L o start k link fs xs targets ends f x h fk xk named)
-
-pub next_laid : (L : LaidSchema) (o n : TailSeen) (start k e link : ℕ) (fs : List Slot) (xs : List (Option Datum))
-    (targets ends : List ℕ) (links : Bytes) (first : ℕ) (f : Slot) (x : Option Datum) → AreKnown L fs xs
-    → AreLinked L fs xs links first → (h : AreLaidUpTo L o fs xs start targets ends link)
-    → slice_get fs k ≡ Some f → slice_get xs k ≡ Some x → IsNamed L h.laid fs xs k f x → Grows o n
-    → n.free + inline_size L f.shape ≡ o.free → e ≡ length n.bytes → StoredEnd L start n.most n.bytes true f x e
-    → FieldLeads n.bytes true f x (slice_index ends k) e → k < length ends
-    → AreLaidUpTo L n fs xs start targets (slice_set ends k e) (link_in links k)
-next_laid L o n start k e link fs xs targets ends links first f x known linked h fk xk named g free end lies lead
-    under =
-    next_laid_before L o n start k e link fs xs targets ends (link_in links k) f x known
-    (linked.each k (inline_align L f.shape)
-    (record { field = f; entry = x; is = fk; has = xk; stored = named.stored; at = refl })) h fk xk named g free end
-    lies lead under
 
 -- ---- behind the last field
 

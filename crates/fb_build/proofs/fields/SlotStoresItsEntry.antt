@@ -1,6 +1,6 @@
 -- What each slot of a table stores, and its end-count once its field is laid.
 use Rattle.std.proofs.Common.{◌≡◌, ℕ, zero, suc, ◌+◌, ◌<◌, ◌≤◌, ◌⊎◌, inl, inr, Bool, true, false, cond, nat_lt, List}
-use Rattle.std.proofs.Common.{[], ◌∷◌, length, map, drop, get_or, slice_get, slice_index, slice_set, Option, Some}
+use Rattle.std.proofs.Common.{[], ◌∷◌, length, map, get_or, slice_get, slice_index, slice_set, Option, Some}
 use Rattle.std.proofs.Common.{option_map, refl, ap, sym, ◌∙◌, subst, arith}
 use Rattle.std.proofs.lemmas.List.{get_or-set_same, get_or-set_other}
 use Rattle.std.proofs.lemmas.Bool.{lt-ltb, ltb-true, ltb-false}
@@ -13,7 +13,7 @@ use Rattle.fb_value.specs.Num.{divides}
 use Rattle.fb_value.specs.View.{view}
 use Rattle.fb_value.specs.declared.values.Value.{Value}
 use Rattle.fb_build.specs.Tails.{TailSeen, Grows}
-use Rattle.fb_build.specs.Fields.{IsSimple, above, from, EntryEnd, EntriesEnd, stored_here, stored_seen, next_code}
+use Rattle.fb_build.specs.Fields.{IsSimple, above, from, EntryEnd, EntriesEnd}
 use Rattle.fb_build.specs.Fields.{slots_seen, entries_seen}
 use Rattle.fb_build.proofs.fields.FieldHasItsValue.{entry_grown}
 use Rattle.fb_build.proofs.tail.MultiplesAdd.{sum_divides}
@@ -34,30 +34,6 @@ slots_at L (y ∷ ys) (suc k) r low is = slots_at L ys k r (omega (arith, low)) 
 pub entries_at : (entries : List (Option Value)) (k : ℕ) (v : Option Value) → k < length entries
     → v ≡ get_or entries k v → slice_get (entries_seen entries) k ≡ Some (option_map view v)
 entries_at entries k v low is = get_mapped (option_map view) entries k v low is
-
--- what slot k stores
-pub stored_next : (L : LaidSchema) (slots : List FieldInfo) (entries : List (Option Value)) (k : ℕ) (r : FieldInfo)
-    (v : Option Value) → k < length slots → k < length entries → r ≡ get_or slots k r → v ≡ get_or entries k v
-    → slice_get (stored_seen L slots entries) k
-    ≡ Some (stored_here (slot_of L.schema (field_seen r)).shape (next_code (entries_seen (drop (suc k) entries)))
-    (option_map view v))
-stored_next L [] entries k r v low1 low2 is1 is2 = absurd (omega (arith, low1))
-stored_next L (s ∷ slots) [] k r v low1 low2 is1 is2 = absurd (omega (arith, low2))
-stored_next L (s ∷ slots) (e ∷ entries) zero r v low1 low2 is1 is2 = rw (is1, is2) refl
-stored_next L (s ∷ slots) (e ∷ entries) (suc k) r v low1 low2 is1 is2 =
-    stored_next L slots entries k r v (omega (arith, low1)) (omega (arith, low2)) is1 is2
-
-pub stored_at : (L : LaidSchema) (slots : List FieldInfo) (entries : List (Option Value)) (k : ℕ) (r : FieldInfo)
-    (v : Option Value) (code : Option ℕ) → k < length slots → k < length entries → r ≡ get_or slots k r
-    → v ≡ get_or entries k v
-    → code ≡ next_code (entries_seen (drop (k + 1) entries))
-    → slice_get (stored_seen L slots entries) k
-    ≡ Some (stored_here (slot_of L.schema (field_seen r)).shape code (option_map view v))
-stored_at L slots entries k r v code low1 low2 is1 is2 e =
-    let one : suc k ≡ k + 1 = omega arith in
-    rw e (subst (λ (j : ℕ). slice_get (stored_seen L slots entries) k
-    ≡ Some (stored_here (slot_of L.schema (field_seen r)).shape (next_code (entries_seen (drop j entries)))
-    (option_map view v))) one (stored_next L slots entries k r v low1 low2 is1 is2))
 
 pub ltb_yes : (j k : ℕ) → nat_lt j k ≡ true → j < k
 ltb_yes j k e = ltb-true j k e

@@ -6,9 +6,6 @@ use Rattle.fb_tape.specs.NamedParts.{NamedPart}
 use Rattle.fb_tape.specs.Tapes.{Taped, Waits}
 use Rattle.fb_build.specs.Noted.{AddsParts}
 
-pub empty_waits : (t : Taped) → t.ops ≡ [] → t.notes ≡ [] → t.bytes ≡ [] → t.vtables ≡ [] → Waits t []
-empty_waits t ops notes bytes vtables = λ small. rw ops (rw vtables refl, notes, bytes, refl)
-
 pub adds_none : (t : Taped) → t.unfinished ≡ [] → AddsParts t t [] 0
 adds_none t whole = record {
   waits = λ others w. rw (append-nil others) w;

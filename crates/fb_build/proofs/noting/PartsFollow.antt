@@ -16,7 +16,7 @@ use Rattle.fb_value.specs.View.{view, parts_view}
 use Rattle.fb_value.specs.declared.values.Value.{Value}
 use Rattle.fb_tape.specs.NamedParts.{NamedPart, apart_of, elements_apart, as_list}
 use Rattle.fb_build.specs.Fields.{IsElement, IsSimple, is_reference}
-use Rattle.fb_build.proofs.needs.NeedsAddUp.{number_inline, struct_inline, all_inline}
+use Rattle.fb_build.proofs.rooms.RoomsAddUp.{number_inline, struct_inline, all_inline}
 
 -- Numbers and structs take no room beside their vector's.
 pub nothing_apart : (L : LaidSchema) (kind : StoredKind) (ds : Parts) → IsElement L kind

@@ -4,7 +4,7 @@ use Rattle.std.proofs.Math.Seq.{drop-append-add}
 use Rattle.byteorder.specs.Endian.{little_bytes, little_number}
 use Rattle.byteorder.specs.Numbers.{little_number-reads_back}
 use Rattle.fb_value.specs.Num.{Bytes, num}
-use Rattle.fb_segments.specs.Ends.{StandsEnd}
+use Rattle.fb_build.specs.Vtables.{StandsEnd}
 use Rattle.fb_build.proofs.numbers.BytesSumToTheirNumber.{num_is}
 
 -- behind bytes in front

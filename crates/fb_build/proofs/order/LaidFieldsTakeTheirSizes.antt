@@ -131,8 +131,3 @@ size_before L a k fs xs =
     let e : 0 + k ≡ k = omega arith in
     subst (λ (m : ℕ). size_from L (before L a m) 0 fs xs
     ≡ size_above L a fs xs + size_at L a (take k fs) (take k xs)) e (size_up_to L a 0 k fs xs)
-
--- a part of all fields
-pub placed_part : (L : LaidSchema) (a k : ℕ) (fs : List Slot) (xs : List (Option Datum))
-    → size_above L a fs xs + size_at L a (take k fs) (take k xs) ≤ fields_size L fs xs
-placed_part L a k fs xs = omega (arith, size_before L a k fs xs, size_part L (before L a k) 0 fs xs)

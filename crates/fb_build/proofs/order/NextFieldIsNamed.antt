@@ -1,6 +1,6 @@
 -- The slot that a link names is stored, and all that is laid stands before it.
 use Rattle.std.proofs.Common.{◌≡◌, ℕ, zero, suc, ◌+◌, ◌≤◌, inl, inr, Bool, true, false, cond, nat_lt, nat_le, List}
-use Rattle.std.proofs.Common.{length, slice_get, Option, Some, refl, sym, ap, ◌∙◌, subst, take, arith, [], ◌∷◌}
+use Rattle.std.proofs.Common.{slice_get, Option, Some, refl, sym, ap, ◌∙◌, subst, take, arith, [], ◌∷◌}
 use Rattle.std.proofs.Common.{if◌then◌else◌}
 use Rattle.std.proofs.lemmas.Bool.Decides.{nat_tests}
 use Rattle.fb_layout.specs.Laid.{LaidSchema, Slot}
@@ -8,18 +8,11 @@ use Rattle.fb_layout.specs.Widths.{inline_size, inline_align}
 use Rattle.fb_value.specs.Datum.{Datum}
 use Rattle.fb_build.specs.Fields.{is_stored, size_at, size_above, fields_size, stored_align, above, from}
 use Rattle.fb_build.specs.FieldEnds.{stored_end}
-use Rattle.fb_build.specs.FieldOrder.{before, SameOfStored, NamesNextSlot, LinksNext}
-use Rattle.fb_build.proofs.fields.SlotStoresItsEntry.{same_some, in_mapped}
+use Rattle.fb_build.specs.FieldOrder.{before, SameOfStored, LinksNext}
+use Rattle.fb_build.proofs.fields.SlotStoresItsEntry.{same_some}
 use Rattle.fb_build.proofs.fields.FieldEndsBehindThoseBefore.{own_end}
 use Rattle.fb_build.proofs.order.LaidFieldsTakeTheirSizes.{size_retested, size_before, size_part}
 use Rattle.fb_build.proofs.order.LaidFieldsTakeTheirSizes.{size_from}
-
--- a link names a slot
-pub link_low : (L : LaidSchema) (laid : ℕ → Slot → Bool) (fs : List Slot) (xs : List (Option Datum)) (link : ℕ)
-    → LinksNext L laid fs xs link → link ≤ length fs
-link_low L laid fs xs link (inl none) = omega (arith, none.0)
-link_low L laid fs xs link (inr next) =
-    omega (arith, next.is, in_mapped fs next.slot next.there.field next.there.is)
 
 pub record IsNamed (L : LaidSchema) (laid : ℕ → Slot → Bool) (fs : List Slot) (xs : List (Option Datum)) (k : ℕ)
     (f : Slot) (x : Option Datum) : Type 0 where
@@ -108,20 +101,6 @@ lower_behind L a k j g out = by_test (nat_lt j k) out
 
 -- ---- the first of all
 
-one_most : (s : Bool) (n a : ℕ) → (s ≡ true → n ≤ a) → (if s then n else 0) ≤ a
-one_most true n a h = h refl
-one_most false n a h = omega arith
-
-align_most : (L : LaidSchema) (a : ℕ) (fs : List Slot) (xs : List (Option Datum))
-    → ((k : ℕ) (f : Slot) (x : Option Datum) → slice_get fs k ≡ Some f → slice_get xs k ≡ Some x → is_stored f x ≡ true
-    → inline_align L f.shape ≤ a) → stored_align L fs xs ≤ a
-align_most L a [] xs low = omega arith
-align_most L a (f ∷ fs) [] low = omega arith
-align_most L a (f ∷ fs) (x ∷ xs) low =
-    let own = one_most (is_stored f x) (inline_align L f.shape) a (λ is. low 0 f x refl refl is) in
-    let rest = align_most L a fs xs (λ k g y gk yk is. low (suc k) g y gk yk is) in
-    omega (arith, own, rest)
-
 pub align_least : (L : LaidSchema) (k : ℕ) (fs : List Slot) (xs : List (Option Datum)) (f : Slot) (x : Option Datum)
     → slice_get fs k ≡ Some f → slice_get xs k ≡ Some x → is_stored f x ≡ true
     → inline_align L f.shape ≤ stored_align L fs xs
@@ -134,27 +113,3 @@ align_least L zero (g ∷ fs) (y ∷ xs) f x fk xk is =
     rw (f_is, x_is, is) refl in
     omega (arith, own)
 align_least L (suc k) (g ∷ fs) (y ∷ xs) f x fk xk is = omega (arith, align_least L k fs xs f x fk xk is)
-
-pub none_aligned : (L : LaidSchema) (fs : List Slot) (xs : List (Option Datum))
-    → SameOfStored (λ k f. false) (λ k f. true) fs xs → stored_align L fs xs ≡ 0
-none_aligned L fs xs none =
-    let low = align_most L 0 fs xs (λ k f x fk xk is. let both : false ≡ true = none k f x fk xk is in cc) in
-    omega (arith, low)
-
-pub first_aligned : (L : LaidSchema) (fs : List Slot) (xs : List (Option Datum)) (link : ℕ)
-    → (next : NamesNextSlot L (λ k f. false) fs xs link) → stored_align L fs xs ≡ next.align
-first_aligned L fs xs link next =
-    let low = align_most L next.align fs xs
-    (λ k f x fk xk is. lower_behind L next.align next.slot k f (sym (next.behind k f x fk xk is))) in
-    let high = align_least L next.slot fs xs next.there.field next.there.entry next.there.is next.there.has
-    next.there.stored in
-    omega (arith, low, high, next.there.at)
-
-pub first_align_is : (L : LaidSchema) (fs : List Slot) (xs : List (Option Datum)) (link k : ℕ) (f : Slot)
-    → NamesNextSlot L (λ k f. false) fs xs link → link ≡ k + 1 → slice_get fs k ≡ Some f
-    → stored_align L fs xs ≡ inline_align L f.shape
-first_align_is L fs xs link k f next e fk =
-    let at : next.slot ≡ k = omega (arith, next.is, e) in
-    let field = subst (λ (j : ℕ). slice_get fs j ≡ Some next.there.field) at next.there.is in
-    let f_is : next.there.field ≡ f = same_some (slice_get fs k) next.there.field f field fk in
-    first_aligned L fs xs link next ∙ sym next.there.at ∙ ap (λ (g : Slot). inline_align L g.shape) f_is

@@ -1,7 +1,7 @@
 -- The parts of what was laid for slots or elements.
-use Rattle.std.proofs.Common.{◌≡◌, ℕ, zero, suc, ◌+◌, ◌-◌, ◌*◌, ◌<◌, ◌≤◌, ◌++◌, List, [], ◌∷◌, length, map, take, drop}
-use Rattle.std.proofs.Common.{slice_get, slice_index, slice_set, Option, None, Some, true, refl, ap, sym, ◌∙◌, subst}
-use Rattle.std.proofs.Common.{arith, append_assoc, length-append}
+use Rattle.std.proofs.Common.{◌≡◌, ℕ, zero, suc, ◌+◌, ◌-◌, ◌*◌, ◌≤◌, ◌++◌, List, [], ◌∷◌, length, map, take, drop}
+use Rattle.std.proofs.Common.{slice_get, slice_index, Option, None, Some, true, refl, ap, sym}
+use Rattle.std.proofs.Common.{arith, length-append}
 use Rattle.std.proofs.lemmas.List.{map-append}
 use Rattle.fb_layout.specs.Laid.{LaidSchema, StoredKind, scalar_kind, struct_kind, table_kind, union_kind, code_kind}
 use Rattle.fb_layout.specs.Laid.{text_kind, one_of, size_of}
@@ -12,7 +12,7 @@ use Rattle.fb_value.specs.Tails.{LiesInTail}
 use Rattle.fb_value.specs.View.{parts_in}
 use Rattle.fb_build.specs.Tails.{TailSeen, Grows}
 use Rattle.fb_build.specs.Fields.{IsElement, is_reference, target_for}
-use Rattle.fb_build.specs.Pieces.{PartAt, reached, reached_element, reached_items}
+use Rattle.fb_build.specs.Pieces.{reached, reached_element, reached_items}
 use Rattle.fb_build.specs.CoveredTails.{part_further}
 use Rattle.fb_build.specs.Made.{LeadsTo, NamedPart, named_of, named_items, parts_at, ends_parts}
 use Rattle.fb_build.proofs.covered.ReachedVtablesAreInside.{reached_front_shown}
@@ -50,30 +50,6 @@ pub ends_moved : (L : LaidSchema) (a b : TailSeen) (xs : List (Option NamedPart)
     → AreThere L a.most a.bytes xs ends
     → ends_parts L b.bytes xs ends ≡ map (part_further (length b.bytes - length a.bytes)) (ends_parts L a.bytes xs ends)
 ends_moved L a b xs ends g there = rw (long_front a b g, g.grown) (all_moved L a.most g.front a.bytes xs ends there)
-
--- one more
-more_parts_end : (L : LaidSchema) (s : Bytes) (k : ℕ) (xs : List (Option NamedPart)) (x : Option NamedPart)
-    (ends : List ℕ) (e : ℕ) → slice_get xs k ≡ Some x → k < length ends
-    → ends_parts L s (take (suc k) xs) (slice_set ends k e) ≡ ends_parts L s (take k xs) ends ++ parts_at L s x e
-more_parts_end L s k [] x ends e is under = cc
-more_parts_end L s k (y ∷ xs) x [] e is under = absurd (omega (arith, under))
-more_parts_end L s zero (y ∷ xs) x (o ∷ ends) e is under =
-    let same : y ≡ x = cc in rw same (append_none (parts_at L s x e))
-  where
-    append_none : (ps : List PartAt) → ps ++ [] ≡ ps
-    append_none [] = refl
-    append_none (p ∷ ps) = ap (λ zs. p ∷ zs) (append_none ps)
-more_parts_end L s (suc k) (y ∷ xs) x (o ∷ ends) e is under =
-    ap (λ zs. parts_at L s y o ++ zs) (more_parts_end L s k xs x ends e is (omega (arith, under)))
-    ∙ sym (append_assoc (parts_at L s y o) (ends_parts L s (take k xs) ends) (parts_at L s x e))
-
-pub ends_more : (L : LaidSchema) (s : Bytes) (k : ℕ) (xs : List (Option NamedPart)) (x : Option NamedPart)
-    (ends : List ℕ) (e : ℕ) → slice_get xs k ≡ Some x → k < length ends
-    → ends_parts L s (take (k + 1) xs) (slice_set ends k e) ≡ ends_parts L s (take k xs) ends ++ parts_at L s x e
-ends_more L s k xs x ends e is under =
-    let one : suc k ≡ k + 1 = omega arith in
-    subst (λ (j : ℕ). ends_parts L s (take j xs) (slice_set ends k e)
-    ≡ ends_parts L s (take k xs) ends ++ parts_at L s x e) one (more_parts_end L s k xs x ends e is under)
 
 pub take_whole : {A : Type 0} (k : ℕ) (xs : List A) → length xs ≤ k → take k xs ≡ xs
 take_whole zero [] h = refl

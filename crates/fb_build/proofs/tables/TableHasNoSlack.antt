@@ -76,17 +76,6 @@ zeros_stay a b o r e zeros g over within =
     (omega (arith, whole, parts, within))
     ∙ ap (λ i. slice_index a.bytes i) back ∙ ap (λ x. slice_index x (length a.bytes - e)) zeros ∙ rest
 
--- the last slot that is used
-pub last_used : (u : ℕ) (ends : List ℕ) → (0 < u → slice_index ends (u - 1) ≢ 0) → (k : ℕ) → k + 1 ≡ u
-    → 0 < slice_index ends k
-last_used u ends last k one =
-    let at : u - 1 ≡ k = omega (arith, one) in
-    some (slice_index ends k) (subst (λ (j : ℕ). slice_index ends j ≢ 0) at (last (omega (arith, one))))
-  where
-    some : (n : ℕ) → n ≢ 0 → 0 < n
-    some zero h = absurd (h refl)
-    some (suc n) h = omega arith
-
 -- ---- numbers that are stored
 
 -- a number that is stored isn't its slot's default

@@ -11,7 +11,7 @@ use Rattle.fb_value.specs.Datum.{Datum}
 use Rattle.fb_value.specs.Num.{Bytes, divides}
 use Rattle.fb_value.specs.Places.{Sort}
 use Rattle.fb_value.specs.Tails.{LiesInTail}
-use Rattle.fb_segments.specs.Ends.{StandsEnd}
+use Rattle.fb_build.specs.Vtables.{StandsEnd}
 use Rattle.fb_layout.specs.Sizes.{IsAlignment}
 use Rattle.fb_build.specs.Tails.{TailSeen, Grows, LaidInTail}
 use Rattle.fb_value.proofs.tails.TailsAreKeptInFront.{front_shown, multiple_shown, old_shown, through}
@@ -62,27 +62,24 @@ right_divides a b pa pb = power_divides b (max a b) pb (power_max a b pa pb) (le
 -- ---- growing
 
 pub same_grows : (a : TailSeen) → Grows a a
-same_grows a = record { front = []; grown = refl; spent = omega arith; multiple = self_divides a.most; same = refl }
+same_grows a = record { front = []; grown = refl; spent = omega arith; multiple = self_divides a.most }
 
 pub grows_by : (a b : TailSeen) (front : Bytes) → b.bytes ≡ front ++ a.bytes → b.free + length front ≡ a.free
-    → b.most ≡ a.most → b.in_segments ≡ a.in_segments → Grows a b
-grows_by a b front grown spent most same = record {
+    → b.most ≡ a.most → Grows a b
+grows_by a b front grown spent most = record {
   front = front;
   grown = grown;
   spent = spent;
   multiple = rw most (self_divides a.most);
-  same = same;
 }
 
 pub pads_by : (a b w : TailSeen) (k align : ℕ) → b.bytes ≡ replicate k 0 ++ a.bytes → b.free + k ≡ a.free
-    → w.most ≡ a.most → IsAlignment w.most → IsAlignment align → b.most ≡ max w.most align → b.in_segments ≡ a.in_segments
-    → Grows a b
-pads_by a b w k align grown spent kept pw pb most same = record {
+    → w.most ≡ a.most → IsAlignment w.most → IsAlignment align → b.most ≡ max w.most align → Grows a b
+pads_by a b w k align grown spent kept pw pb most = record {
   front = replicate k 0;
   grown = grown;
   spent = (let z : length (replicate {A = ℕ} k 0) ≡ k = length-replicate k 0 in omega (arith, z, spent));
   multiple = rw (most, ← kept) (left_divides w.most align pw pb);
-  same = same;
 }
 
 pub power_some : (n : ℕ) → IsAlignment n → 0 < n
@@ -97,7 +94,6 @@ then_grows a b c g h = record {
   grown = h.grown ∙ ap (λ x. h.front ++ x) g.grown ∙ sym (append_assoc h.front g.front a.bytes);
   spent = (let long = length-append h.front g.front in omega (arith, long, g.spent, h.spent));
   multiple = through a.most b.most c.most g.multiple h.multiple;
-  same = h.same ∙ g.same;
 }
 
 pub grown_long : (a b : TailSeen) → Grows a b → length b.bytes + b.free ≡ length a.bytes + a.free

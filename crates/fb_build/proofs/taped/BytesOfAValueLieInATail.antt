@@ -101,15 +101,10 @@ pub elements_end : (L : LaidSchema) (kind : StoredKind) (ds : List Datum) (bytes
 elements_end L kind [] bytes p el inline is whole wide = record { lie = tt; old = tt; tight = tt; inline = tt }
 elements_end L kind (d ∷ ds) bytes p el inline is whole wide =
     let rest = elements_end L kind ds is.behind p el inline is.rest whole wide in
-    let a : TailSeen = record {
-      free = length is.own;
-      bytes = is.behind ++ p.bytes;
-      most = p.most;
-      in_segments = 0;
-    } in
-    let b : TailSeen = record { free = 0; bytes = is.own ++ a.bytes; most = p.most; in_segments = 0 } in
+    let a : TailSeen = record { free = length is.own; bytes = is.behind ++ p.bytes; most = p.most } in
+    let b : TailSeen = record { free = 0; bytes = is.own ++ a.bytes; most = p.most } in
     let grows : Grows a b =
-    record { front = is.own; grown = refl; spent = omega arith; multiple = self_divides p.most; same = refl } in
+    record { front = is.own; grown = refl; spent = omega arith; multiple = self_divides p.most } in
     let behind = elements_long L kind ds is.behind is.rest in
     let parts = length-append is.behind p.bytes in
     let own = length-append is.own a.bytes in

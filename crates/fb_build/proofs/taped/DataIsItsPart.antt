@@ -34,7 +34,6 @@ pub record IsDataLaid (align zeros : ℕ) (bytes : Bytes) (o p b : TailSeen) : T
   pub laid : b.bytes ≡ bytes ++ p.bytes
   pub free : b.free + length bytes ≡ p.free
   pub most : b.most ≡ p.most
-  pub segments : b.in_segments ≡ p.in_segments
   pub short : length bytes ≤ 2147483647
 
 module _ (L : LaidSchema) (part : NamedPart) (align zeros : ℕ) (bytes : Bytes) (o p b : TailSeen)
@@ -99,7 +98,6 @@ module _ (L : LaidSchema) (part : NamedPart) (align zeros : ℕ) (bytes : Bytes)
     free = b.free + 4;
     bytes = d.element_bytes ++ p.bytes;
     most = p.most;
-    in_segments = p.in_segments;
   }
 
   vector_closed : IsClosed L d.kind d.elements o p elements_laid b zeros
@@ -130,7 +128,6 @@ module _ (L : LaidSchema) (part : NamedPart) (align zeros : ℕ) (bytes : Bytes)
           grown = refl;
           spent = omega (arith, vector_long, all, c.free);
           multiple = self_divides p.most;
-          same = refl;
         };
         long = omega (arith, parts, all);
         as_wide = refl;
@@ -143,7 +140,6 @@ module _ (L : LaidSchema) (part : NamedPart) (align zeros : ℕ) (bytes : Bytes)
               ∙ append_assoc (little_bytes 4 n) d.element_bytes p.bytes;
           spent = omega (arith, four);
           multiple = rw c.most (self_divides p.most);
-          same = c.segments;
         };
         number = c.laid ∙ ap (λ x. x ++ p.bytes) d.bytes_are
             ∙ append_assoc (little_bytes 4 n) d.element_bytes p.bytes;

@@ -30,7 +30,7 @@ use Rattle.fb_build.specs.Made.{FieldLeads}
 use Rattle.fb_build.specs.NotesLaid.{noted_size, noted_references, MayLay, LaysField, AreReferences}
 use Rattle.fb_build.specs.Tails.{TailSeen, Grows, LaidInTail}
 use Rattle.fb_build.proofs.fields.AlignmentDividesTheSize.{simple_aligned, simple_some, simple_multiple}
-use Rattle.fb_build.proofs.fields.EntriesStandIn.{leads_any, reference_there, target_inside}
+use Rattle.fb_build.proofs.fields.ReferencesLeadInside.{leads_any, reference_there, target_inside}
 use Rattle.fb_build.proofs.fields.FieldsAreLaidInOrder.{AreLaidUpTo, next_target, next_whole, next_laid_before}
 use Rattle.fb_build.proofs.fields.SlotStoresItsEntry.{same_some}
 use Rattle.fb_build.proofs.order.NextFieldIsNamed.{IsNamed, named, still_waits, room_of_next, align_least}

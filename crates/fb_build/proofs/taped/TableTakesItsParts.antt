@@ -1,5 +1,5 @@
 -- A table that is laid takes the parts that its references lead to.
-use Rattle.std.proofs.Common.{◌≡◌, ℕ, suc, ◌+◌, ◌-◌, ◌*◌, ◌≤◌, ◌<◌, ◌⊎◌, inl, inr, ◌++◌, true, false, max, List, []}
+use Rattle.std.proofs.Common.{◌≡◌, ℕ, ◌+◌, ◌-◌, ◌*◌, ◌≤◌, ◌<◌, ◌++◌, true, false, max, List, []}
 use Rattle.std.proofs.Common.{◌∷◌, length, take, drop, replicate, slice_get, slice_index, Option, Some, refl, ap, ◌∙◌}
 use Rattle.std.proofs.Common.{subst, arith, length-drop}
 use Rattle.std.proofs.lemmas.List.{length-replicate}
@@ -31,7 +31,7 @@ use Rattle.fb_build.proofs.apart.EntriesAreKnown.{known_in}
 use Rattle.fb_build.proofs.fields.AlignmentDividesTheSize.{inline_low}
 use Rattle.fb_build.proofs.fields.SlotStoresItsEntry.{same_some}
 use Rattle.fb_build.proofs.tables.TableFitsItsRoom.{fields_narrow, stored_low}
-use Rattle.fb_build.proofs.tail.WhatIsLaidStaysLaid.{then_grows, grown_long, lower}
+use Rattle.fb_build.proofs.tail.WhatIsLaidStaysLaid.{then_grows, grown_long}
 use Rattle.fb_build.proofs.taped.OnePartMoreWaits.{IsLaidNow}
 use Rattle.fb_build.proofs.taped.PartsOfATable.{AllFit, spread, spread_long, spread_state, spread_parts}
 use Rattle.fb_build.proofs.taped.PartsOfATable.{refer_count, apart_many}
@@ -40,7 +40,7 @@ use Rattle.fb_build.proofs.taped.ReferencesComeInOrder.{noted_references as in_o
 use Rattle.fb_build.proofs.taped.StepsOfALaying.{taken_lie, taken_within, stepped, least_most}
 use Rattle.fb_build.proofs.taped.VtableOfTheEnds.{slots_used, vtable_told_by}
 use Rattle.fb_build.proofs.vtables.ClosedTableHasItsValue.{vtable_long}
-use Rattle.fb_build.proofs.vtables.EndsAreWithinTheTable.{ends_under, index_past, got}
+use Rattle.fb_build.proofs.vtables.EndsAreWithinTheTable.{ends_under, got}
 use Rattle.fb_build.proofs.vtables.VtableIsLaidOnce.{shared_grown}
 
 -- ---- as many parts are taken as there are references
@@ -70,20 +70,11 @@ notes_many L fs zs targets (k ∷ ks) (Inline n ∷ notes) bytes noted =
 
 -- ---- the places of vtables
 
-pub places_some : (known : List Bytes) (places : List ℕ) (s : Bytes) → Rattle.fb_vtables.specs.Vtables.AreLaid
+pub places_some : (known : List Bytes) (places : List ℕ) (s : Bytes) → Rattle.fb_build.specs.Vtables.AreLaid
     known places s
     → (i : ℕ) → i < length places → 0 < slice_index places i
 places_some known places s h i low =
     let vt = got known i (omega (arith, low, h.each)) in (h.stand i vt.0 vt.1).0
-
-pub places_inside : (known : List Bytes) (places : List ℕ) (s : Bytes)
-    → Rattle.fb_vtables.specs.Vtables.AreLaid known places s → (i : ℕ) → slice_index places i ≤ length s
-places_inside known places s h i = by_case (lower (suc i) (length places))
-  where
-    by_case : (suc i ≤ length places) ⊎ (length places < suc i) → slice_index places i ≤ length s
-    by_case (inl low) =
-        let vt = got known i (omega (arith, low, h.each)) in (h.stand i vt.0 vt.1).1.within
-    by_case (inr past) = omega (arith, index_past places i (omega (arith, past)))
 
 -- ---- a vtable takes two bytes for each slot at most, behind its first four
 

@@ -236,6 +236,3 @@ module _ (L : LaidSchema) (vtables : List Bytes) (most known : ℕ) (op : Op) (o
     enough = (let bound = op_bound L vtables known op _ _ _ _ _ laid made h.lay.lays in
         omega (arith, bound, h.lay.room_is, h.enough));
   })
-
-  pub laid_small : laid ≤ most
-  laid_small = omega (arith, h.enough)

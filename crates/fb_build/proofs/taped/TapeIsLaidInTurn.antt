@@ -6,7 +6,6 @@ use Rattle.std.proofs.Common.{slice_index_or}
 use Rattle.std.proofs.Math.Seq.{drop-append_seam, take-append_seam, drop-cons}
 use Rattle.fb_layout.specs.Laid.{LaidSchema, Slot}
 use Rattle.fb_layout.specs.WellMade.{IsWellMade}
-use Rattle.fb_layout.specs.Widths.{greatest}
 use Rattle.fb_value.specs.Datum.{Datum}
 use Rattle.fb_value.specs.Num.{Bytes}
 use Rattle.fb_tape.specs.NamedParts.{NamedPart}
@@ -17,12 +16,10 @@ use Rattle.fb_tape.specs.declared.ops.NotedField.{NotedField}
 use Rattle.fb_tape.specs.declared.ops.NotedField.TheVariants.{Reference, Inline}
 use Rattle.fb_tape.specs.declared.ops.Op.{Op}
 use Rattle.fb_tape.specs.declared.ops.Op.TheVariants.{Data, References, Table}
-use Rattle.fb_vtables.specs.Vtables.{AreDifferent}
-use Rattle.fb_build.specs.Made.{IsMade}
+use Rattle.fb_tape.specs.KnownVtables.{EachHasOneNumber}
 use Rattle.fb_build.specs.Steps.{Steps}
-use Rattle.fb_build.specs.Tails.{TailSeen}
 use Rattle.fb_build.specs.TapeLaid.{op_fields, op_bytes, op_vtable, notes_bytes, MayLayOp, IsLaidUpTo, op_end, ops_end}
-use Rattle.fb_build.specs.Waiting.{AreWaiting, MayStep, HasVtable}
+use Rattle.fb_build.specs.Waiting.{MayStep, HasVtable}
 use Rattle.fb_build.proofs.tail.WhatIsLaidStaysLaid.{grown_long}
 use Rattle.fb_build.specs.declared.laying.Laying.{Laying}
 
@@ -144,8 +141,9 @@ module _ (L : LaidSchema) (vtables : List Bytes) (op : Op) (ops : List Op) (note
     length-append h.lay.own_bytes h.lay.bytes_behind,
   ))
 
-  may_step : IsWellMade L → AreDifferent vtables → MayStep L vtables op h.lay.own_room h.parts (op_vtable vtables op)
-      h.lay.own_notes h.lay.own_bytes h.lay.waiting a.waiting.items a.places.items a.tail
+  may_step : IsWellMade L → EachHasOneNumber vtables
+      → MayStep L vtables op h.lay.own_room h.parts (op_vtable vtables op) h.lay.own_notes h.lay.own_bytes h.lay.waiting
+      a.waiting.items a.places.items a.tail
   may_step made different = record {
     made = made;
     waiting = h.waiting;
@@ -158,7 +156,7 @@ module _ (L : LaidSchema) (vtables : List Bytes) (op : Op) (ops : List Op) (note
         rw (← fields_taken) (omega (arith, more, h.enough)));
   }
 
-  pub may_lay_op : IsWellMade L → AreDifferent vtables → MayLayOp L vtables op (take (op_fields op) notes)
+  pub may_lay_op : IsWellMade L → EachHasOneNumber vtables → MayLayOp L vtables op (take (op_fields op) notes)
       (take (op_bytes op (take (op_fields op) notes)) bytes) a
   may_lay_op made different = rw (bytes_taken, fields_taken) (record {
     own_room = h.lay.own_room;
@@ -167,7 +165,7 @@ module _ (L : LaidSchema) (vtables : List Bytes) (op : Op) (ops : List Op) (note
     may = may_step made different;
   })
 
-  pub op_laid : IsWellMade L → AreDifferent vtables → (b : Laying) → length b.tail.bytes
+  pub op_laid : IsWellMade L → EachHasOneNumber vtables → (b : Laying) → length b.tail.bytes
       ≡ op_end vtables (length a.places.items) op (take (op_fields op) notes) (length a.tail.bytes) → Steps op
       (op_vtable vtables op)
       (take (op_fields op) notes) (take (op_bytes op (take (op_fields op) notes)) bytes) a b
@@ -188,16 +186,3 @@ module _ (L : LaidSchema) (vtables : List Bytes) (op : Op) (ops : List Op) (note
         waiting = given.waits L vtables h.lay.own_room h.parts h.lay.waiting may;
         enough = omega (arith, same, grown, h.enough);
       })
-
--- ---- before the first
-
-pub none_laid : (L : LaidSchema) (vtables : List Bytes) (o : TailSeen) → o.most ≡ 4 → 4 ≤ greatest L → IsMade L o [] []
-    → AreWaiting L vtables [] [] [] o
-none_laid L vtables o most least made = record {
-  each = refl;
-  lie = λ k x is. cc;
-  made = made;
-  shared = record { each = refl; stand = λ i vt is. cc };
-  four = rw most refl;
-  bound = omega (arith, most, least);
-}

@@ -3,7 +3,7 @@ use Rattle.std.proofs.Common.{◌≡◌, ℕ, zero, suc, ◌<◌, ◌++◌, List
 use Rattle.std.proofs.Common.{◌∙◌, arith}
 use Rattle.std.proofs.Common.{length-append}
 use Rattle.fb_value.specs.Num.{Bytes}
-use Rattle.fb_vtables.specs.Vtables.{AreDifferent}
+use Rattle.fb_tape.specs.KnownVtables.{EachHasOneNumber}
 use Rattle.fb_build.specs.NumberedVtables.{come}
 
 -- one that has come is there
@@ -27,7 +27,7 @@ key_was (x ∷ vtables) zero i vt is = cc
 key_was (x ∷ vtables) (suc n) zero vt is = is
 key_was (x ∷ vtables) (suc n) (suc i) vt is = key_was vtables n i vt is
 
-pub come_different : (vtables : List Bytes) (n : ℕ) → AreDifferent vtables → AreDifferent (take n vtables)
+pub come_different : (vtables : List Bytes) (n : ℕ) → EachHasOneNumber vtables → EachHasOneNumber (take n vtables)
 come_different vtables n different i j vt at there = different i j vt (key_was vtables n i vt at)
     (key_was vtables n j vt there)
 

@@ -200,9 +200,6 @@ views_at [] i v low is = absurd (omega (arith, low))
 views_at (x ∷ items) zero v low is = ap (λ z. Some (view z)) (sym is)
 views_at (x ∷ items) (suc i) v low is = views_at items i v (omega (arith, low)) is
 
-pub times_more : (k z : ℕ) → (k + 1) * z ≡ k * z + z
-times_more k z = omega arith
-
 pub times_least : (k n z : ℕ) → k ≤ n → k * z ≤ n * z
 times_least k n z h =
     let split : n ≡ k + (n - k) = omega (arith, h) in

@@ -1,6 +1,6 @@
 -- A table that was laid, with a vtable that stands in the tail.
 use Rattle.std.proofs.Common.{◌≡◌, ℕ, zero, suc, ◌+◌, ◌-◌, ◌*◌, ◌^◌, ◌<◌, ◌≤◌, ◌⊎◌, inl, inr, ◌++◌, true, List, [], ◌∷◌}
-use Rattle.std.proofs.Common.{length, slice_get, slice_index, Option, Some, refl, ap, sym, ◌∙◌, subst, arith}
+use Rattle.std.proofs.Common.{length, slice_get, slice_index, Option, Some, refl, ap, sym, ◌∙◌, arith}
 use Rattle.std.proofs.Common.{append_assoc, length-append}
 use Rattle.std.proofs.lemmas.Bool.{and_from, eqb-true}
 use Rattle.byteorder.specs.Endian.{little_bytes}
@@ -16,7 +16,7 @@ use Rattle.fb_layout.specs.Sizes.{ceil4}
 use Rattle.fb_build.specs.Fields.{EntriesEnd, AreKnown, stored_in, fields_size}
 use Rattle.fb_build.specs.Filled.{AreFilled}
 use Rattle.fb_build.specs.TableBytes.{offset_from, offset_bytes, vtable_bytes, VtableEnd}
-use Rattle.fb_vtables.specs.Vtables.{TellsItsLength}
+use Rattle.fb_build.specs.Vtables.{TellsItsLength}
 use Rattle.fb_build.proofs.numbers.NumberReadsBack.{num_behind, num_first, num_standing}
 use Rattle.fb_build.proofs.vtables.TableLeadsToItsVtable.{vtable_is, vtable_inside, vtable_good, slot_there, slot_past}
 use Rattle.fb_build.proofs.vtables.TableLeadsToItsVtable.{table_lies}
@@ -55,19 +55,6 @@ vtable_told c size u ends within few rest =
     let parts = append_assoc (little_bytes 2 (4 + 2 * u)) (little_bytes 2 size ++ offset_bytes c u ends) rest in
     ap (λ b. num b 0 2) parts ∙ num_first 2 (4 + 2 * u) ((little_bytes 2 size ++ offset_bytes c u ends) ++ rest)
     (omega (arith, few)) ∙ sym (vtable_long c size u ends within)
-
--- one more offset
-pub offsets_more : (c k : ℕ) (ends : List ℕ) → k < length ends
-    → offset_bytes c (k + 1) ends ≡ offset_bytes c k ends ++ little_bytes 2 (offset_from c (slice_index ends k))
-offsets_more c k ends low = let one : suc k ≡ k + 1 = omega arith in
-    subst (λ (j : ℕ). offset_bytes c j ends ≡ offset_bytes c k ends
-    ++ little_bytes 2 (offset_from c (slice_index ends k))) one (next k ends low)
-  where
-    next : (k : ℕ) (ends : List ℕ) → k < length ends
-        → offset_bytes c (suc k) ends ≡ offset_bytes c k ends ++ little_bytes 2 (offset_from c (slice_index ends k))
-    next k [] low = absurd (omega (arith, low))
-    next zero (e ∷ ends) low = refl
-    next (suc k) (e ∷ ends) low = ap (λ x. little_bytes 2 (offset_from c e) ++ x) (next k ends (omega (arith, low)))
 
 lower : (i j : ℕ) → (i < j) ⊎ (j ≤ i)
 lower zero zero = inr (omega arith)

@@ -1,63 +1,18 @@
 -- A vtable that was laid, or was laid before.
 use Rattle.std.proofs.Common.{◌≡◌, ℕ, zero, suc, ◌+◌, ◌-◌, ◌%◌, ◌<◌, ◌≤◌, ◌++◌, true, false, nat_lt, List, [], ◌∷◌}
 use Rattle.std.proofs.Common.{length, slice_get, slice_index, Some, refl, ap, sym, ◌∙◌, subst, arith}
-use Rattle.std.proofs.Common.{length-append, append_assoc}
+use Rattle.std.proofs.Common.{length-append}
 use Rattle.std.proofs.lemmas.Bool.{eq-eqb, lt-ltb}
 use Rattle.std.proofs.lemmas.Bool.Decides.{nat_tests}
 use Rattle.byteorder.specs.Endian.{little_bytes}
 use Rattle.fb_value.specs.Num.{Bytes, num, divides}
-use Rattle.fb_segments.specs.Ends.{StandsEnd}
+use Rattle.fb_build.specs.Vtables.{StandsEnd}
 use Rattle.fb_build.specs.Tails.{TailSeen, Grows}
-use Rattle.fb_build.specs.TableBytes.{way_to, VtableEnd}
-use Rattle.fb_vtables.specs.Vtables.{AreDifferent, AreLaid, IsKnown, TellsItsLength}
+use Rattle.fb_build.specs.TableBytes.{way_to}
+use Rattle.fb_build.specs.Vtables.{AreLaid, TellsItsLength}
+-- ISKNOWN
 use Rattle.fb_build.proofs.tail.WhatIsLaidStaysLaid.{stands_grown}
 use Rattle.fb_build.proofs.numbers.NumberReadsBack.{num_behind, num_first}
-
-pub new_end : (s old vt : Bytes) (place : ℕ) → s ≡ vt ++ (little_bytes 4 (length vt) ++ old) → place ≡ length old + 4
-    → length old % 4 ≡ 0 → length vt % 2 ≡ 0 → length vt ≤ 65534 → VtableEnd s place vt
-new_end s old vt place e is four even short =
-    let n = little_bytes 4 (length vt) in
-    let whole = ap length e in
-    let parts = length-append vt (n ++ old) in
-    let first : length vt + 0 ≡ length s - place = omega (arith, whole, parts, is) in
-    let number : num s (length s - place) 4 ≡ length vt =
-    subst (λ (p : ℕ). num s p 4 ≡ length vt) first (ap (λ b. num b (length vt + 0) 4) e ∙ num_behind vt (n ++ old) 0 4
-    ∙ num_first 4 (length vt) old (omega (arith, short))) in
-    let behind : nat_lt (length s - place) (length s - length s) ≡ false =
-    low_test (length s - place) (length s - length s) (omega arith) in
-    let far : (length s - place) - (length s - length s) ≡ length vt = omega (arith, whole, parts, is) in
-    record {
-      at = length s;
-      stands = record { within = omega arith; behind = n ++ old; before = []; split = e; at = sym whole };
-      even = eq-eqb _ _ (omega (arith, whole, parts, four, even));
-      way = rw (behind, far) number;
-    }
-  where
-    low_test : (a b : ℕ) → b ≡ 0 → nat_lt a b ≡ false
-    low_test a b e = grind (arith, nat_tests)
-
-pub old_end : (s old vt : Bytes) (place at : ℕ) → s ≡ little_bytes 4 (4294967296 - (place - at)) ++ old
-    → place ≡ length old + 4 → StandsEnd old at vt → divides 2 at ≡ true → 0 < at → VtableEnd s place vt
-old_end s old vt place at e is h even some =
-    let n = little_bytes 4 (4294967296 - (place - at)) in
-    let whole = ap length e in
-    let first : length s - place ≡ 0 = omega (arith, whole, is) in
-    let number : num s 0 4 ≡ 4294967296 - (place - at) =
-    ap (λ b. num b 0 4) e ∙ num_first 4 (4294967296 - (place - at)) old (omega (arith, is, h.within)) in
-    let before : nat_lt 0 (length s - at) ≡ true = lt-ltb _ _ (omega (arith, whole, h.within)) in
-    let far : (length s - at) - 0 ≡ place - at = omega (arith, whole, is) in
-    record {
-      at = at;
-      stands = record {
-        within = omega (arith, whole, h.within);
-        behind = h.behind;
-        before = n ++ h.before;
-        split = e ∙ ap (λ x. n ++ x) h.split ∙ sym (append_assoc n h.before (vt ++ h.behind));
-        at = h.at;
-      };
-      even = even;
-      way = rw (first, before, far) number;
-    }
 
 -- what the table's first number says then
 pub new_way : (s old vt : Bytes) (place : ℕ) → s ≡ vt ++ (little_bytes 4 (length vt) ++ old) → place ≡ length old + 4
@@ -144,20 +99,6 @@ shared_more known places s vt e some stands even told h = record {
     | is_last last same place ↦ rw (place, same) (some, stands, even, told)
   ];
 }
-
-pub different_more : (known : List Bytes) (places : List ℕ) (vt : Bytes) → length known ≡ length places
-    → (IsKnown known vt → ⊥) → AreDifferent known → AreDifferent (known ++ vt ∷ [])
-different_more known places vt long absent different i j other at there =
-    elim (old_or_last known vt places 0 i other long at) [
-      | was_there here p ↦ elim (old_or_last known vt places 0 j other long there) [
-        | was_there here2 q ↦ different i j other here here2
-        | is_last last same q ↦ absurd (absent (i, rw (← same) here))
-      ]
-      | is_last last same p ↦ elim (old_or_last known vt places 0 j other long there) [
-        | was_there here q ↦ absurd (absent (j, rw (← same) here))
-        | is_last last2 same2 q ↦ last ∙ sym last2
-      ]
-    ]
 
 pub new_stands : (s old vt : Bytes) (e : ℕ) → s ≡ vt ++ (little_bytes 4 (length vt) ++ old) → e ≡ length s
     → length old % 4 ≡ 0 → length vt % 2 ≡ 0 → StandsEnd s e vt × (divides 2 e ≡ true)

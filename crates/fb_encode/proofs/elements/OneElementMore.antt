@@ -18,7 +18,7 @@ use Rattle.fb_value.specs.Fits.{Fits}
 use Rattle.fb_value.specs.View.{view}
 use Rattle.fb_value.specs.declared.values.Value.{Value}
 use Rattle.fb_build.specs.Apart.{EachElementFits}
-use Rattle.fb_build.proofs.apart.EntriesComeInOrder.{elements_more}
+use Rattle.fb_build.proofs.apart.OneMoreFits.{elements_more}
 
 pub one_fits_more : (L : LaidSchema) (kind : StoredKind) (found : List Value) (item : Value) (now : List Value)
     → now ≡ found ++ (item ∷ []) → Fits L (one_of kind) (view item) → is_whole (view item) ≡ true

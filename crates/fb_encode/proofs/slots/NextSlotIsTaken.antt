@@ -19,7 +19,7 @@ use Rattle.fb_build.specs.Apart.{EachElementFits}
 use Rattle.fb_build.specs.BuiltSoFar.{AwaitsElements, BuiltSoFar, FitsNext, IsNext}
 use Rattle.fb_build.specs.Fields.{is_reference}
 use Rattle.fb_build.specs.Parts.{EntryWhole}
-use Rattle.fb_build.proofs.apart.EntriesComeInOrder.{elements_fit}
+use Rattle.fb_build.proofs.apart.OneMoreFits.{elements_fit}
 use Rattle.fb_encode.specs.OneMore.{IsNextField, one_more}
 
 pub next_slot : (b : BuiltSoFar) (f : DeclaredField) → IsNextField b f → IsNext b (slot_of b.layout.schema f)

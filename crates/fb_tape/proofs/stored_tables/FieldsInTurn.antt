@@ -1,7 +1,10 @@
 -- One field after the other is noted.
 use Rattle.std.proofs.Common.{◌≡◌, ◌≤◌, ◌+◌, ◌-◌, ◌++◌, ◌==◌, ◌∙◌, ℕ, zero, suc, true, false, List, [], ◌∷◌}
-use Rattle.std.proofs.Common.{Some, slice_get, slice_set, length, drop, max, refl, sym, ap, arith}
-use Rattle.std.proofs.lemmas.List.{append_assoc, append-nil, length-set}
+use Rattle.std.proofs.Common.{Some, slice_get, slice_set, length, length-append, drop, map, max, refl, sym, ap, arith}
+use Rattle.std.proofs.Common.{◌<◌}
+use Rattle.std.proofs.lemmas.Bool.{ne_eqb}
+use Rattle.std.proofs.lemmas.List.{append_assoc, append-nil, length-map, length-set}
+use Rattle.fb_schema.specs.Alignments.{greatest_in}
 use Rattle.std.proofs.lemmas.Grind.{flat_map-append}
 use Rattle.std.proofs.lemmas.List.Sums.{sum_by-cons}
 use Rattle.fb_value.specs.Num.{Bytes}
@@ -119,6 +122,34 @@ several_noted size some rest all notes new_notes notes_before bytes new_bytes by
       placed_are = rw (laid_are, slots_are) (sym (placed_both size laid some rest slots) ∙ h.placed_are);
       slots_long = long ∙ h.slots_long;
     }
+
+-- ---- alignments that no field has
+
+pub none_above : (a g : ℕ) (xs : List OpenField) → greatest_in (map (λ x. x.align) xs) ≤ g → g < a
+    → at_align a xs ≡ []
+none_above a g [] low over = refl
+none_above a g (x ∷ xs) low over =
+    at_align_other a x xs (ne_eqb x.align a (λ same. omega (arith, same, low, over)))
+    ∙ none_above a g xs (omega (arith, low)) over
+
+no_field : (xs : List OpenField) → length xs ≡ 0 → xs ≡ []
+no_field [] none = refl
+no_field (x ∷ xs) none = absurd (omega (arith, none))
+
+-- Once as many are noted as there are, none is left.
+pub none_left : (size : ℕ) (left all : List OpenField) (notes notes_before : List NotedField) (bytes bytes_before : Bytes)
+    (laid laid_before : ℕ) (slots slots_before : List ℕ) → length notes ≡ length notes_before + length all
+    → Noting size left all notes notes_before bytes bytes_before laid laid_before slots slots_before → left ≡ []
+none_left size left all notes notes_before bytes bytes_before laid laid_before slots slots_before many h =
+    no_field left (omega (
+      arith,
+      many,
+      ap length h.notes_are,
+      length-append notes (notes_of left),
+      length-append notes_before (notes_of all),
+      length-map left (λ x. x.note),
+      length-map all (λ x. x.note),
+    ))
 
 -- ---- sums over the fields in the order of slots
 

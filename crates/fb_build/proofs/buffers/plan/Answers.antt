@@ -1,6 +1,5 @@
-use Rattle.std.proofs.Common.{◌≡◌, ◌≤◌, ◌∙◌, ap, length, arith}
+use Rattle.std.proofs.Common.{◌≡◌, ◌∙◌, ap, arith}
 use Rattle.std.proofs.Common.{Result, Ok, Err, IfErr}
-use Rattle.fb_value.specs.Room.{room_of}
 use Rattle.fb_value.specs.UpTo.{at_most_usize}
 use Rattle.fb_value.specs.View.{view}
 use Rattle.fb_value.proofs.types.EachVariantHasItsView.{view-Fields}
@@ -8,7 +7,6 @@ use Rattle.fb_value.proofs.types.NestingIsBoundedByDepth.{root_fits}
 use Rattle.fb_build.specs.Fields.{entries_seen}
 use Rattle.fb_build.specs.declared.faults.BuildFault.{BuildFault}
 use Rattle.fb_build.specs.declared.faults.BuildFault.TheVariants.{Memory}
-use Rattle.fb_build.proofs.buffers.ReservedMemoryIsZero.{long_in, zeros_in}
 use Rattle.fb_build.proofs.buffers.RootIsNoted.{root_room, root_noted}
 use Rattle.fb_build.proofs.buffers.plan.Goals as goal
 
@@ -17,79 +15,67 @@ told : {A : Type 0} (r : Result A BuildFault) (P : Type 0) → P → IfErr r (λ
 told (Ok x) P p = tt
 told (Err e) P p = λ same. p
 
-pub table_needs-needs-requires-clause-fits : goal.table_needs-needs-requires-clause-fits
-table_needs-needs-requires-clause-fits c =
+pub table_with_parts_room-room-requires-clause-fits : goal.table_with_parts_room-room-requires-clause-fits
+table_with_parts_room-room-requires-clause-fits c =
     let L = c.args.layout.now in
     let fits = (root_fits L _ c.schema-schema.ensures.made).0 c.requires.fits in
     let own = rw (c.in-Fields.is, view-Fields c.in-Fields.table c.in-Fields.entries) at fits in
     rw (c.deref.ensures.value, own.0) own.1
 
-pub table_needs-needs-requires-clause-whole : goal.table_needs-needs-requires-clause-whole
-table_needs-needs-requires-clause-whole c =
+pub table_with_parts_room-room-requires-clause-whole : goal.table_with_parts_room-room-requires-clause-whole
+table_with_parts_room-room-requires-clause-whole c =
     let whole = rw (c.in-Fields.is, view-Fields c.in-Fields.table c.in-Fields.entries) at c.requires.whole in
     rw c.deref.ensures.value whole
 
 pub returns-in_default-buffer_room-clause-too_big : goal.returns-in_default-buffer_room-clause-too_big
 returns-in_default-buffer_room-clause-too_big c same =
-    let sized = rw c.deref.ensures.value at c.table_needs-needs.ensures.room in
+    let sized = rw c.deref.ensures.value at c.table_with_parts_room-room.ensures.room in
     let own = root_room c.args.layout.now c.args.value.now c.in-Fields.table c.in-Fields.entries c.in-Fields.is in
     let over = c.in_default-buffer_room.ensures _ (sized ∙ ap at_most_usize own) in omega (arith, over)
 
 pub returns-in_err-tape-clause-memory : goal.returns-in_err-tape-clause-memory
 returns-in_err-tape-clause-memory c =
-    let sized = rw c.deref.ensures.value at c.table_needs-needs.ensures.room in
+    let sized = rw c.deref.ensures.value at c.table_with_parts_room-room.ensures.room in
     let own = root_room c.args.layout.now c.args.value.now c.in-Fields.table c.in-Fields.entries c.in-Fields.is in
     told _ _ (c.in-Some.ensures _ (sized ∙ ap at_most_usize own)).0
 
-pub returns-in_err-block-clause-memory : goal.returns-in_err-block-clause-memory
-returns-in_err-block-clause-memory c =
-    let sized = rw c.deref.ensures.value at c.table_needs-needs.ensures.room in
-    let own = root_room c.args.layout.now c.args.value.now c.in-Fields.table c.in-Fields.entries c.in-Fields.is in
-    told _ _ (c.in-Some.ensures _ (sized ∙ ap at_most_usize own)).0
-
-pub returns-in_err-reserve-clause-memory : goal.returns-in_err-reserve-clause-memory
-returns-in_err-reserve-clause-memory c =
-    let sized = rw c.deref.ensures.value at c.table_needs-needs.ensures.room in
-    let own = root_room c.args.layout.now c.args.value.now c.in-Fields.table c.in-Fields.entries c.in-Fields.is in
-    told _ _ (c.in-Some.ensures _ (sized ∙ ap at_most_usize own)).0
-
-pub returns-in_err-reserve-2-clause-memory : goal.returns-in_err-reserve-2-clause-memory
-returns-in_err-reserve-2-clause-memory c =
-    let sized = rw c.deref.ensures.value at c.table_needs-needs.ensures.room in
+pub returns-in_err-plan-clause-memory : goal.returns-in_err-plan-clause-memory
+returns-in_err-plan-clause-memory c =
+    let sized = rw c.deref.ensures.value at c.table_with_parts_room-room.ensures.room in
     let own = root_room c.args.layout.now c.args.value.now c.in-Fields.table c.in-Fields.entries c.in-Fields.is in
     told _ _ (c.in-Some.ensures _ (sized ∙ ap at_most_usize own)).0
 
 pub returns-clause-small : goal.returns-clause-small
 returns-clause-small c =
-    let sized = rw c.deref.ensures.value at c.table_needs-needs.ensures.room in
+    let sized = rw c.deref.ensures.value at c.table_with_parts_room-room.ensures.room in
     let own = root_room c.args.layout.now c.args.value.now c.in-Fields.table c.in-Fields.entries c.in-Fields.is in
     (c.in-Some.ensures _ (sized ∙ ap at_most_usize own)).0
 
-pub buffer_end-requires-clause-short : goal.buffer_end-requires-clause-short
-buffer_end-requires-clause-short c =
+pub for_tape-requires-clause-means : goal.for_tape-requires-clause-means
+for_tape-requires-clause-means c =
     let L = c.args.layout.now in
     let value = c.args.value.now in
     let es = c.in-Fields.entries in
     let fits = (root_fits L (view value) c.schema-schema.ensures.made).0 c.requires.fits in
-    let low = (c.in-Some.ensures _ (rw c.deref.ensures.value at c.table_needs-needs.ensures.room
+    let low = (c.in-Some.ensures _ (rw c.deref.ensures.value at c.table_with_parts_room-room.ensures.room
     ∙ ap at_most_usize (root_room L value c.in-Fields.table es c.in-Fields.is))).0 in
     let noted = root_noted L value c.in-Fields.table es c.in_ok-tape.tape c.in-Fields.is fits
-    c.in_ok-tape.ensures.layout low
-    (rw c.deref-2.ensures.value at c.in_ok-tape.ensures.waits) (rw c.deref-2.ensures.value at c.in_ok-tape.ensures.room) in
-    noted.small
+    c.in_ok-tape.ensures.layout low (rw c.deref-2.ensures.value at c.in_ok-tape.ensures.waits)
+    (rw c.deref-2.ensures.value at c.in_ok-tape.ensures.room) in
+    record { entries = entries_seen es.items; means = noted.means }
 
-pub buffer_end-requires-clause-means : goal.buffer_end-requires-clause-means
-buffer_end-requires-clause-means c =
+pub for_tape-requires-clause-room : goal.for_tape-requires-clause-room
+for_tape-requires-clause-room c =
     let L = c.args.layout.now in
     let value = c.args.value.now in
     let es = c.in-Fields.entries in
     let fits = (root_fits L (view value) c.schema-schema.ensures.made).0 c.requires.fits in
-    let low = (c.in-Some.ensures _ (rw c.deref.ensures.value at c.table_needs-needs.ensures.room
+    let low = (c.in-Some.ensures _ (rw c.deref.ensures.value at c.table_with_parts_room-room.ensures.room
     ∙ ap at_most_usize (root_room L value c.in-Fields.table es c.in-Fields.is))).0 in
     let noted = root_noted L value c.in-Fields.table es c.in_ok-tape.tape c.in-Fields.is fits
-    c.in_ok-tape.ensures.layout low
-    (rw c.deref-2.ensures.value at c.in_ok-tape.ensures.waits) (rw c.deref-2.ensures.value at c.in_ok-tape.ensures.room) in
-    noted.lays
+    c.in_ok-tape.ensures.layout low (rw c.deref-2.ensures.value at c.in_ok-tape.ensures.waits)
+    (rw c.deref-2.ensures.value at c.in_ok-tape.ensures.room) in
+    omega (arith, noted.room, low)
 
 pub invariant_of-result : goal.invariant_of-result
 invariant_of-result c =
@@ -97,28 +83,15 @@ invariant_of-result c =
     let value = c.args.value.now in
     let es = c.in-Fields.entries in
     let fits = (root_fits L (view value) c.schema-schema.ensures.made).0 c.requires.fits in
-    let low = (c.in-Some.ensures _ (rw c.deref.ensures.value at c.table_needs-needs.ensures.room
+    let low = (c.in-Some.ensures _ (rw c.deref.ensures.value at c.table_with_parts_room-room.ensures.room
     ∙ ap at_most_usize (root_room L value c.in-Fields.table es c.in-Fields.is))).0 in
     let noted = root_noted L value c.in-Fields.table es c.in_ok-tape.tape c.in-Fields.is fits
-    c.in_ok-tape.ensures.layout low
-    (rw c.deref-2.ensures.value at c.in_ok-tape.ensures.waits) (rw c.deref-2.ensures.value at c.in_ok-tape.ensures.room) in
-    let block = c.in_ok-block.ensures.items_if_clones_equal (λ y h. h) in
-    let long = long_in _ _ block in
-    let within : length c.in_ok-block.block.items ≤ room_of L (view value) =
-    omega (arith, long, c.buffer_end.ensures.bound, noted.room) in
+    c.in_ok-tape.ensures.layout low (rw c.deref-2.ensures.value at c.in_ok-tape.ensures.waits)
+    (rw c.deref-2.ensures.value at c.in_ok-tape.ensures.room) in
+    let plan = c.in_ok-plan.ensures in
     record {
-      layout = c.in_ok-tape.ensures.layout;
       entries = entries_seen es.items;
-      value = noted.value_is;
-      means = noted.means;
-      different = c.vtable_count.ensures.one;
-      small = noted.small;
-      zeros = zeros_in _ _ block;
-      exact = long ∙ c.buffer_end.ensures.exact;
-      within = within;
-      short = omega (arith, within, low);
-      none_wait = c.in_ok-reserve.ensures.items ∙ c.new-waiting.ensures.items;
-      none_come = c.in_ok-reserve-2.ensures.items ∙ c.new-places.ensures.items;
-      reserved = omega (arith, c.in_ok-reserve.ensures.ok, c.new-waiting.ensures.len, ap length c.ops.ensures.exact);
-      places = omega (arith, c.in_ok-reserve-2.ensures.ok, c.new-places.ensures.len, c.vtable_count.ensures.exact);
+      value = rw plan.layout noted.value_is;
+      means = rw plan.tape noted.means;
+      room = rw (plan.tape, plan.layout) (omega (arith, noted.room));
     }

@@ -1,7 +1,10 @@
+mod EntryIsNoted
 mod TableIsNoted
 mod VectorIsNoted
+use Rattle.fb_build.proofs.noting.+noting.Answers.EntryIsNoted.{default_adds_nothing, inline_adds_itself}
+use Rattle.fb_build.proofs.noting.+noting.Answers.EntryIsNoted.{reference_adds_itself}
 use Rattle.fb_build.proofs.noting.+noting.Answers.TableIsNoted.{no_slot_yet, next_entry_fits, next_entry_noted}
-use Rattle.fb_build.proofs.noting.+noting.Answers.TableIsNoted.{all_slots_noted, code_opens, entries_known}
+use Rattle.fb_build.proofs.noting.+noting.Answers.TableIsNoted.{all_slots_noted, entries_known}
 use Rattle.fb_build.proofs.noting.+noting.Answers.TableIsNoted.{fields_are_stored, table_adds_itself}
 use Rattle.fb_build.proofs.noting.+noting.Answers.VectorIsNoted.{elements_add, references_add, member_fits}
 use Rattle.fb_build.proofs.noting.+noting.Answers.VectorIsNoted.{member_adds, table_fits, fields_add, item_fits}
@@ -19,9 +22,6 @@ note_entries-loop-k-preserved = next_entry_noted
 
 pub note_entries-returns-clause-slots : goal.note_entries-returns-clause-slots
 note_entries-returns-clause-slots = all_slots_noted
-
-pub note_entry-returns-in-One-Code-clause-slot : goal.note_entry-returns-in-One-Code-clause-slot
-note_entry-returns-in-One-Code-clause-slot = code_opens
 
 pub note_items-returns-then-not-is_reference-clause-adds : goal.note_items-returns-then-not-is_reference-clause-adds
 note_items-returns-then-not-is_reference-clause-adds = elements_add
@@ -55,3 +55,12 @@ note_targets-note_part-requires = item_fits
 
 pub note_targets-loop-item-preserved : goal.note_targets-loop-item-preserved
 note_targets-loop-item-preserved = item_adds
+
+pub note_entry-returns-then-is_reference-clause-fields : goal.note_entry-returns-then-is_reference-clause-fields
+note_entry-returns-then-is_reference-clause-fields = reference_adds_itself
+
+pub note_entry-returns-then-is_default-clause-fields : goal.note_entry-returns-then-is_default-clause-fields
+note_entry-returns-then-is_default-clause-fields = default_adds_nothing
+
+pub note_entry-returns-clause-fields : goal.note_entry-returns-clause-fields
+note_entry-returns-clause-fields = inline_adds_itself

@@ -2,14 +2,14 @@ use Rattle.std.proofs.Common.{◌≡◌, ◌+◌, ◌*◌, map, take}
 use Rattle.fb_value.specs.Room.{parts_room}
 use Rattle.fb_value.specs.View.{view, parts_in}
 use Rattle.fb_tape.specs.NamedParts.{elements_apart}
-use Rattle.fb_build.specs.Fields.{kind_seen, slots_seen, stored_seen, entries_seen}
+use Rattle.fb_build.specs.Fields.{kind_seen, slots_seen, entries_seen}
 use Rattle.fb_build.specs.Noted.{AddsParts}
 use Rattle.fb_build.proofs.noting.SlotsAreNoted.{AreNotedUpTo}
 use Rattle.fb_build.proofs.noting.+noting.Given as goal
 
 abbrev pub invariant-note_entries-loop-k : goal.invariant-note_entries-loop-k
-invariant-note_entries-loop-k l = AreNotedUpTo l.layout (slots_seen l.layout l.slots) (entries_seen l.entries)
-    (stored_seen l.layout l.slots l.entries) l.k l.fn.noting.tape l.noting.tape l.fn.noting.opened l.noting.opened
+invariant-note_entries-loop-k l = AreNotedUpTo l.layout (slots_seen l.layout l.slots) (entries_seen l.entries) l.k
+    l.fn.noting.tape l.noting.tape l.fn.noting.opened l.noting.opened
 
 abbrev pub invariant-note_targets-loop-item : goal.invariant-note_targets-loop-item
 invariant-note_targets-loop-item l = record {

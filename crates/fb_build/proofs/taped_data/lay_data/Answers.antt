@@ -14,7 +14,6 @@ laid c = record {
   laid = c.lay.ensures.bytes;
   free = c.lay.ensures.free;
   most = c.lay.ensures.most;
-  segments = c.lay.ensures.segments;
   short = omega (arith, c.requires.room, c.count-laid.ensures);
 }
 

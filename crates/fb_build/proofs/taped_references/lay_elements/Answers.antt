@@ -7,7 +7,7 @@ use Rattle.fb_value.specs.View.{parts_in}
 use Rattle.fb_build.specs.Fields.{target_for}
 use Rattle.fb_build.specs.Items.{ItemsEnd}
 use Rattle.fb_build.specs.Tails.{LaidInTail}
-use Rattle.fb_build.proofs.fields.EntriesStandIn.{leads_any, reference_there}
+use Rattle.fb_build.proofs.fields.ReferencesLeadInside.{leads_any, reference_there}
 use Rattle.fb_build.proofs.fields.FieldHasItsValue.{more_divides, target_grown}
 use Rattle.fb_build.proofs.references.ReferencesOfElements.{reference_size, element_at}
 use Rattle.fb_build.proofs.tail.WhatIsLaidStaysLaid.{same_grows, then_grows, grown_long}

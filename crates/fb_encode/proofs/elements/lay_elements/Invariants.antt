@@ -1,4 +1,4 @@
-use Rattle.std.proofs.Common.{◌≡◌, reverse, vec_len}
+use Rattle.std.proofs.Common.{◌≡◌, ◌+◌, length, reverse, vec_len}
 use Rattle.serde_json.specs.View.{items_view}
 use Rattle.fb_json.specs.Meant.{items_meant}
 use Rattle.fb_json.proofs.slots.OneSlotOrFieldMore.{after}
@@ -13,6 +13,7 @@ invariant-loop-element l = record {
       l.place l.levels l.left);
   entries : l.builder.entries ≡ l.fn.builder.entries;
   layout : l.builder.layout ≡ l.fn.builder.layout;
+  count : length l.builder.elements + vec_len l.elements ≡ vec_len l.fn.elements;
 }
 
 abbrev pub decreases-loop-element : goal.decreases-loop-element

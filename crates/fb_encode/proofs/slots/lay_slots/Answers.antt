@@ -8,7 +8,7 @@ use Rattle.fb_json.specs.Meant.{look, slot_place, entry_meant}
 use Rattle.fb_json.proofs.slots.OtherMembersStay.{code_same, entry_same, look_same}
 use Rattle.fb_json.proofs.slots.OneSlotOrFieldMore.{slot_at, fails_is, fails_by, slots_next, slots_untold, slots_ungiven}
 use Rattle.fb_json.proofs.slots.OneSlotOrFieldMore.{slots_end}
-use Rattle.fb_build.proofs.apart.EntriesComeInOrder.{long_more}
+use Rattle.fb_build.proofs.apart.OneMoreFits.{long_more}
 use Rattle.fb_encode.specs.OneMore.{one_more}
 use Rattle.fb_encode.proofs.slots.NextSlotIsTaken.{none_more, one_given}
 use Rattle.fb_encode.proofs.slots.lay_slots.Goals as goal

@@ -1,4 +1,4 @@
-use Rattle.std.proofs.Common.{◌∙◌, map}
+use Rattle.std.proofs.Common.{◌∙◌, map, arith}
 use Rattle.fb_schema.specs.Seen.{field_seen}
 use Rattle.fb_layout.specs.Laid.{stored_kind}
 use Rattle.fb_value.specs.View.{view}
@@ -19,13 +19,14 @@ close_vector-requires c =
     let f = field_seen c.args.slot.now in
     let n = c.lay_elements.new.builder in
     let now = c.lay_elements.ensures in
-    let next : IsNextField n f = rw (now.layout, now.entries) c.requires.next in
+    let next : IsNextField n f = rw (now.layout, c.in_ok-left.ensures.entries) c.requires.next in
     record {
       awaits = record {
         kind = stored_kind L.schema c.args.kind;
         awaits = elements_awaited n L f c.args.kind (now.layout ∙ c.requires.layout) next c.requires.vector
             c.requires.used (c.is_referred.ensures L.schema c.if-is_referred.true);
       };
+      counted = omega (arith, c.len-count.ensures, c.in_ok-left.ensures.count);
     }
 
 pub push_entry-requires-clause-fits : goal.push_entry-requires-clause-fits

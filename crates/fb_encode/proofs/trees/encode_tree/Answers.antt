@@ -35,12 +35,12 @@ returns-in-Ok-finish-clause-encoded c =
       fits = c.meant_fits.ensures.fits c.args.limits c.args.unknown (root_value b) means;
       small = subst (λ (M : LaidSchema). room_of M (root_value b) ≤ 2147483647) same done.small;
       holds = subst (λ (M : LaidSchema). (bounds : Bounds) (raw : Bool) → depth (root_value b) ≤ bounds.depth
-          → cells (root_value b) ≤ bounds.cells → Holds M bounds raw c.in-Ok-finish.bytes.bytes (root_value b)) same
+          → cells (root_value b) ≤ bounds.cells → Holds M bounds raw c.in-Ok-finish.bytes.items (root_value b)) same
           done.holds;
       old_slots = rw same at done.old_slots;
       covered = rw same at done.covered;
       aligned = rw same at done.aligned;
-      short = subst (λ (M : LaidSchema). length c.in-Ok-finish.bytes.bytes ≤ room_of M (root_value b)) same done.short;
+      short = subst (λ (M : LaidSchema). length c.in-Ok-finish.bytes.items ≤ room_of M (root_value b)) same done.short;
     }
 
 pub returns-in-Err-finish-clause-refused : goal.returns-in-Err-finish-clause-refused

@@ -40,7 +40,7 @@ returns-in-Ok-clause-value c t is =
     let ms = members_view c.args.members.entries in
     let root = c.root-root.ensures ∙ ap (λ (s : DeclaredSchema). s.root) c.schema.ensures.schema in
     let n = c.lay_slots.new.builder in
-    let same : n.layout ≡ L = c.in-Ok.ensures.layout ∙ c.in_ok-builder.ensures.layout in
+    let same : n.layout ≡ L = c.in-Ok.ensures.layout ∙ ap (λ b. b.layout) c.new-builder.ensures.nothing in
     let known : root_known L u ms ≡ Ok tt =
     sym (known_at L c.args.limits u ms c.root-root.result.0 root) ∙ c.in_ok-marks.ensures.known in
     let slots = slots_at L c.args.limits u ms c.root-root.result.0 root (map field_seen c.slots_of-slots.result.now)

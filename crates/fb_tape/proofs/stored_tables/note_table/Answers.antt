@@ -17,6 +17,11 @@ note_fields-requires-clause-room c =
     let all = all_taken opens (all_aligned some.0 0 some.1 some.2 opens some.3.aligned some.3.are) in
     omega (arith, c.begin.ensures.laid, c.begin.ensures.size some.0 some.1 some.2 some.3, taken, all)
 
+pub note_fields-requires-clause-aligned : goal.note_fields-requires-clause-aligned
+note_fields-requires-clause-aligned c =
+    let some = c.requires.some in
+    all_aligned some.0 0 some.1 some.2 (drop c.args.first c.args.opened.now) some.3.aligned some.3.are
+
 pub note_fields-requires-clause-slots : goal.note_fields-requires-clause-slots
 note_fields-requires-clause-slots c =
     let some = c.requires.some in

@@ -1,65 +1,77 @@
 -- A table is noted slot by slot.
-use Rattle.std.proofs.Common.{◌≡◌, ◌∙◌, ◌+◌, ◌-◌, ◌<◌, ℕ, List, [], ◌∷◌, Option, Some, true, length}
-use Rattle.std.proofs.Common.{take, drop, sym}
-use Rattle.std.proofs.Common.{ap, arith, rules}
+use Rattle.std.proofs.Common.{◌≡◌, ◌∙◌, ◌<◌, ◌≤◌, ℕ, suc, List, Option, Some, true, length, get_or}
+use Rattle.std.proofs.Common.{drop, option_map, slice_get}
+use Rattle.std.proofs.Common.{arith, rules}
 use Rattle.std.proofs.Math.Seq.{drop-append_seam}
-use Rattle.std.proofs.lemmas.List.{take_all, length-drop}
-use Rattle.fb_schema.specs.declared.kinds.Shape.TheVariants.{One}
-use Rattle.fb_layout.specs.Laid.{LaidSchema, slots_of, stored_shape}
+use Rattle.fb_schema.specs.Seen.{field_seen}
+use Rattle.fb_schema.specs.declared.types.FieldInfo.{FieldInfo}
+use Rattle.fb_layout.specs.Laid.{LaidSchema, Slot, slot_of, slots_of}
 use Rattle.fb_layout.specs.WellMade.{IsWellMade}
 use Rattle.fb_value.specs.Counts.{entries_whole}
+use Rattle.fb_value.specs.Datum.{Datum}
 use Rattle.fb_value.specs.Fits.{EntriesFit}
-use Rattle.fb_value.specs.View.{entries_view}
+use Rattle.fb_value.specs.View.{view, entries_view}
 use Rattle.fb_value.specs.declared.values.Value.{Value, the_lemmas}
 use Rattle.fb_tape.specs.OpenFields.{OpenField, IsOpenTable}
-use Rattle.fb_build.specs.Fields.{slot_seen, entry_stored, is_stored, coded, slots_seen, stored_in, stored_seen}
-use Rattle.fb_build.specs.Fields.{next_code, entries_seen}
+use Rattle.fb_build.specs.Fields.{slots_seen, stored_here, stored_in, next_code, entries_seen}
 use Rattle.fb_build.specs.Noted.{AddsSlots}
-use Rattle.fb_build.proofs.fields.SlotStoresItsEntry.{slots_at, entries_at, stored_at, slots_long, entries_long}
-use Rattle.fb_build.proofs.noting.SlotsAreNoted.{none_noted, next_noted, all_noted, code_open}
+use Rattle.fb_build.specs.Parts.{TableKnown}
+use Rattle.fb_build.proofs.fields.SlotStoresItsEntry.{slots_at, entries_at, slots_long, entries_long}
+use Rattle.fb_build.proofs.noting.SlotsAreNoted.{none_noted, next_noted, all_noted}
+use Rattle.fb_build.proofs.tables.CodeSlotHasNoEntry.{stored_get}
 use Rattle.fb_build.proofs.tables.PartsFitTheirSlots.{known_of, slots_are}
 use Rattle.fb_build.proofs.noting.+noting.Goals as goal
 
--- the code of the entry behind slot k, among the entries that are behind it
-abbrev code_behind : List (Option Value) → ℕ → Option ℕ
-code_behind es k = next_code (entries_seen (take (length es - (k + 1)) (drop (k + 1) es)))
-
-is_behind : (es : List (Option Value)) (k : ℕ) → code_behind es k ≡ next_code (entries_seen (drop (k + 1) es))
-is_behind es k = ap (λ r. next_code (entries_seen r))
-    (take_all (length es - (k + 1)) (drop (k + 1) es) (omega (arith, length-drop (k + 1) es)))
+-- what a slot stores
+stored_there : (fs : List Slot) (xs : List (Option Datum)) (k : ℕ) (f : Slot) (x : Option Datum)
+    → slice_get fs k ≡ Some f → slice_get xs k ≡ Some x
+    → (y : Option Datum) × (slice_get (stored_in fs xs) k ≡ Some y)
+stored_there fs xs k f x fk xk = (stored_here f.shape (next_code (drop (suc k) xs)) x, stored_get fs xs k f x fk xk)
 
 pub no_slot_yet : goal.note_entries-loop-k-init
-no_slot_yet t c = none_noted _ _ _ _ _ _ c.requires.whole
+no_slot_yet t c = none_noted _ _ _ _ _ c.requires.whole
+
+-- the slot and the entry at the index of a loop
+at_slot : (L : LaidSchema) (slots : List FieldInfo) (es : List (Option Value)) (k : ℕ) (r : FieldInfo) (v : Option Value)
+    → TableKnown L (slots_seen L slots) (entries_seen es) → k < length slots → r ≡ get_or slots k r → v ≡ get_or es k v
+    → (slice_get (slots_seen L slots) k ≡ Some (slot_of L.schema (field_seen r)))
+    × (slice_get (entries_seen es) k ≡ Some (option_map view v))
+at_slot L slots es k r v known low is1 is2 =
+    let within : k < length es = omega (arith, low, slots_long L slots, entries_long es, known.long) in
+    (slots_at L slots k r low is1, entries_at es k v within is2)
 
 pub next_entry_fits : goal.note_entries-note_entry-requires
 next_entry_fits t c =
     let L = c.args.layout.now in
     let k = c.loop-k.k in
-    let es = c.args.entries.now in
+    let known = c.requires.known in
     let inv = c.loop-k.invariant in
-    let r = c.index-slots-k.result in
-    let v = c.index-entries-k.result in
-    let low : k < length es = omega (
+    let low : k < length c.args.entries.now = omega (
       arith,
       c.loop-k-test.true,
       slots_long L c.args.slots.now,
-      entries_long es,
-      c.requires.known.long,
+      entries_long c.args.entries.now,
+      known.long,
     ) in
-    let fk = slots_at L c.args.slots.now k r c.loop-k-test.true c.index-slots-k.is in
-    let xk = entries_at es k v low c.index-entries-k.is in
-    let yk = stored_at L c.args.slots.now es k r v (code_behind es k) c.loop-k-test.true low c.index-slots-k.is
-    c.index-entries-k.is (is_behind es k) in (
+    let there = at_slot L c.args.slots.now c.args.entries.now k c.index-slots-k.result c.index-entries-k.result known
+    c.loop-k-test.true c.index-slots-k.is c.index-entries-k.is in
+    let yk = stored_there (slots_seen L c.args.slots.now) (entries_seen c.args.entries.now) k _ _ there.0 there.1 in (
       search (rules, the_lemmas),
       (
         inv.adds.layout ∙ c.requires.layout,
         (
           inv.adds.whole,
           (
-            (c.requires.known.known.each k _ _ fk yk).0,
+            (known.known.each k _ _ there.0 yk.1).0,
             (
-              c.requires.known.known.low k _ fk,
-              (c.requires.known.fits k _ _ fk xk, c.requires.known.whole k _ xk),
+              known.known.low k _ there.0,
+              (
+                known.fits k _ _ there.0 there.1,
+                (
+                  known.whole k _ there.1,
+                  λ u shape. (let led = known.paired.led k _ u there.0 shape in omega (arith, led.2)),
+                ),
+              ),
             ),
           ),
         ),
@@ -70,45 +82,23 @@ pub next_entry_noted : goal.note_entries-loop-k-preserved
 next_entry_noted t c =
     let L = c.args.layout.now in
     let k = c.loop-k.k in
-    let es = c.args.entries.now in
-    let r = c.index-slots-k.result in
-    let v = c.index-entries-k.result in
-    let low : k < length es = omega (
-      arith,
-      c.loop-k-test.true,
-      slots_long L c.args.slots.now,
-      entries_long es,
-      c.requires.known.long,
-    ) in
-    let fk = slots_at L c.args.slots.now k r c.loop-k-test.true c.index-slots-k.is in
-    let xk = entries_at es k v low c.index-entries-k.is in
-    let yk = stored_at L c.args.slots.now es k r v (code_behind es k) c.loop-k-test.true low c.index-slots-k.is
-    c.index-entries-k.is (is_behind es k) in
-    next_noted L (slots_seen L c.args.slots.now) (entries_seen es) (stored_seen L c.args.slots.now es) k _ _ _ _ _ _ _ _
-    _ fk xk yk c.loop-k.invariant c.in_ok-note_entry.ensures.adds c.in_ok-note_entry.ensures.slot
+    let known = c.requires.known in
+    let there = at_slot L c.args.slots.now c.args.entries.now k c.index-slots-k.result c.index-entries-k.result known
+    c.loop-k-test.true c.index-slots-k.is c.index-entries-k.is in
+    next_noted L (slots_seen L c.args.slots.now) (entries_seen c.args.entries.now) k _ _ _ _ _ _ _ _ there.0 there.1
+    known.paired known.fits c.loop-k.invariant c.in_ok-note_entry.ensures.adds c.in_ok-note_entry.ensures.fields
 
 pub all_slots_noted : goal.note_entries-returns-clause-slots
 all_slots_noted t c =
     let L = c.args.layout.now in
-    (all_noted L (slots_seen L c.args.slots.now) (entries_seen c.args.entries.now)
-    (stored_seen L c.args.slots.now c.args.entries.now) c.loop-k.k _ _ _ _
-    (omega (arith, c.loop-k-test.false, slots_long L c.args.slots.now)) c.loop-k.invariant).1
-
-pub code_opens : goal.note_entry-returns-in-One-Code-clause-slot
-code_opens t c =
-    let L = c.args.layout.now in
-    let f = slot_seen L c.args.slot.now in
-    let y = entry_stored L c.args.slot.now (next_code (entries_seen c.args.behind.now)) c.args.entry.now in
-    let added = c.in_ok-push_code.ensures.adds L in
-    let stored : is_stored f y ≡ true = sym (c.is_stored.ensures L) ∙ c.if-not-is_stored.false in
-    let is = ap (λ s. stored_shape L.schema s) (c.in-One-Code.is
-    ∙ ap One (rw c.in-One-Code.is at c.in-One-Code.field-0-is)) in
-    let stores : y ≡ coded (Some c.in-Some.code) =
-    rw is (ap coded (sym c.code_at.ensures ∙ c.in-Some.is)) in (
-      added.0 ∷ [],
-      added.1,
-      code_open L c.args.k c.in-One-Code.field-0-0.0 c.in-Some.code f y added.0 stored is stores added.2,
-    )
+    let low : length (entries_seen c.args.entries.now) ≤ c.loop-k.k = omega (
+      arith,
+      c.loop-k-test.false,
+      slots_long L c.args.slots.now,
+      c.requires.known.long,
+    ) in
+    (all_noted L (slots_seen L c.args.slots.now) (entries_seen c.args.entries.now) c.loop-k.k _ _ _ _ low
+    c.loop-k.invariant).1
 
 pub entries_known : goal.note_table-note_entries-requires
 entries_known t c =

@@ -10,8 +10,8 @@ use Rattle.fb_tape.specs.NamedParts.{elements_apart}
 use Rattle.fb_value.specs.declared.values.Value.{the_lemmas}
 use Rattle.fb_value.proofs.types.EachVariantHasItsView.{view-Fields, count-parts_view}
 use Rattle.fb_build.specs.Fields.{kind_seen, shape_seen}
-use Rattle.fb_build.proofs.apart.EntriesComeInOrder.{parts_room_more}
-use Rattle.fb_build.proofs.needs.NeedsAddUp.{table_entries}
+use Rattle.fb_build.proofs.apart.OneMoreFits.{parts_room_more}
+use Rattle.fb_build.proofs.rooms.RoomsAddUp.{table_entries}
 use Rattle.fb_build.proofs.noting.ElementsAreNoted.{each_fits, seen_more}
 use Rattle.fb_build.proofs.noting.PartsFollow.{nothing_apart, table_named, element_simple, each_whole, named_more}
 use Rattle.fb_build.proofs.noting.PartsAreAdded.{adds_then, adds_same}

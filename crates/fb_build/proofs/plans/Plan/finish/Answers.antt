@@ -10,15 +10,15 @@ use Rattle.fb_build.proofs.plans.Plan.finish.Goals as goal
 pub returns-clause-holds : goal.returns-clause-holds
 returns-clause-holds c most raw deep small =
     let inv = c.self.invariant in
-    let value : a_table c.self.inside.layout.now.schema.root (entries_in inv.entries) ≡ view c.args.self.value =
+    let value : a_table c.self.inside.plan.layout.schema.root (entries_in inv.entries) ≡ view c.args.self.value =
     sym inv.value ∙ ap (λ p. view p.value) c.self.view_is in
     let deep2 = subst (λ (d : Datum). depth d ≤ most.depth) (sym value) deep in
     let small2 = subst (λ (d : Datum). cells d ≤ most.cells) (sym value) small in
-    let holds = subst (λ (d : Datum). Holds c.self.inside.layout.now most raw c.fill_from_tape.result.items d) value
-    (c.fill_from_tape.ensures.holds inv.entries most raw inv.means deep2 small2) in
-    subst (λ (L : LaidSchema). Holds L most raw c.fill_from_tape.result.items (view c.args.self.value))
+    let holds = subst (λ (d : Datum). Holds c.self.inside.plan.layout most raw c.finish.result.items d) value
+    (c.finish.ensures.holds inv.entries most raw inv.means deep2 small2) in
+    subst (λ (L : LaidSchema). Holds L most raw c.finish.result.items (view c.args.self.value))
     (ap (λ p. p.layout) c.self.view_is) holds
 
 pub returns-clause-aligned : goal.returns-clause-aligned
-returns-clause-aligned c = subst (λ (L : LaidSchema). EndsAligned L c.fill_from_tape.result.items)
-    (ap (λ p. p.layout) c.self.view_is) c.fill_from_tape.ensures.aligned
+returns-clause-aligned c = subst (λ (L : LaidSchema). EndsAligned L c.finish.result.items)
+    (ap (λ p. p.layout) c.self.view_is) c.finish.ensures.aligned

@@ -16,4 +16,3 @@ pub returns-clause-grows : goal.returns-clause-grows
 returns-clause-grows c = pads_by c.args.self.now c.widen.new.self c.skip.new.self _ c.args.align (c.widen.ensures.bytes
     ∙ c.skip.ensures.bytes) (omega (arith, c.widen.ensures.free, c.skip.ensures.free)) c.skip.ensures.most
     c.widen.ensures.power c.requires.power c.widen.ensures.most
-    (c.widen.ensures.segments ∙ c.skip.ensures.segments)

@@ -1,4 +1,4 @@
-use Rattle.std.proofs.Common.{◌≡◌, ◌∙◌, ap, refl, length, arith, rules}
+use Rattle.std.proofs.Common.{◌≡◌, ◌∙◌, refl, length, arith, rules}
 use Rattle.std.proofs.lemmas.List.{take_all}
 use Rattle.fb_build.proofs.tail.Tail.new.Goals as goal
 
@@ -6,7 +6,7 @@ pub invariant_of-result : goal.invariant_of-result
 invariant_of-result c =
     let n : c.len-free.result ≡ length c.args.block.items = search rules in (
       omega (arith, n),
-      (let none : length c.new.result.bytes ≡ 0 = ap length c.new.ensures in omega (arith, c.requires.short, none)),
+      c.requires.short,
       rw n (take_all (length c.args.block.items) c.args.block.items (omega arith) ∙ c.requires.zeros),
       record { exponent = 2; few = omega arith; is = refl },
     )

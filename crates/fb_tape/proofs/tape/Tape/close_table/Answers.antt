@@ -78,7 +78,7 @@ returns-clause-waits c others xs h waits =
     omega (arith, rw layout at c.table_room.ensures, c.table_room.type_inv) in
     table_laid before after t c.in_ok-vtable.vtable others xs opens (record {
       layout = ap (λ (t : Taped). t.layout) seen;
-      ops = rw (← count, ← c.start_align.ensures, ← ap (λ (t : Taped). t.ops) seen) c.in_ok-push.ensures.items;
+      ops = rw (← count, ← c.start_align-align.ensures, ← ap (λ (t : Taped). t.ops) seen) c.in_ok-push.ensures.items;
       notes = adds.notes_are
           ∙ ap (λ (ns : List NotedField). ns ++ notes_of (in_order opens)) (ap (λ (t : Taped). t.notes) seen);
       bytes = all_taken c.len-self-inside.result c.note_table.new.bytes.items

@@ -1,2 +1,0 @@
-pub mod MemoryMayGrow
-pub mod DraftsContinue

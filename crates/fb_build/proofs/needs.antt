@@ -1,2 +1,0 @@
-pub mod NeedsAddUp
-pub mod NeedsFitTheRoom

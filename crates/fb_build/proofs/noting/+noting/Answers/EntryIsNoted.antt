@@ -1,0 +1,65 @@
+-- An entry adds its fields.
+use Rattle.std.proofs.Common.{◌≡◌, ◌∙◌, ◌++◌, [], ◌∷◌, false, not, Option, None, Some, Ok, Err, Result, refl, sym, ap}
+use Rattle.std.specs.Prelude.{OnOk}
+use Rattle.std.proofs.lemmas.List.{append-nil}
+use Rattle.fb_layout.specs.Laid.{stored_shape}
+use Rattle.fb_value.specs.View.{view}
+use Rattle.fb_tape.specs.OpenFields.{reference_field}
+use Rattle.fb_build.specs.Fields.{is_stored, kind_seen, slot_seen}
+use Rattle.fb_build.proofs.noting.EntryHasItsFields.{inline_fields, member_fields, member_of, no_code, no_fields, reference_fields}
+use Rattle.fb_build.proofs.noting.+noting.Goals as goal
+use Rattle.fb_build.proofs.noting.+noting.Goals.{note_entry-in-Some-code_of+in_ok-push_code, note_entry-in_default-code_of}
+
+on_ok : {A E : Type 0} (r : Result A E) (P Q : Type 0) → (P → Q) → OnOk r P → OnOk r Q
+on_ok (Ok x) P Q more h = more h
+on_ok (Err e) P Q more h = tt
+
+pub default_adds_nothing : goal.note_entry-returns-then-is_default-clause-fields
+default_adds_nothing t c =
+    let L = c.args.layout.now in
+    let v = c.in-Some.value in
+    let fits = (rw c.in-Some.is at c.requires.fits).1 in
+    let none = c.is_default.ensures.stored L (no_code L c.args.slot.now.shape (view v) fits) in
+    let same : is_stored (slot_seen L c.args.slot.now) (Some (view v)) ≡ false = none ∙ ap not c.if-is_default.true in
+    rw c.in-Some.is ([], sym (append-nil c.args.noting.now.opened), no_fields L c.args.k _ (view v) same)
+
+pub inline_adds_itself : goal.note_entry-returns-clause-fields
+inline_adds_itself t c =
+    let L = c.args.layout.now in
+    let v = c.in-Some.value in
+    let f = slot_seen L c.args.slot.now in
+    let fits = (rw c.in-Some.is at c.requires.fits).1 in
+    let stored = c.is_default.ensures.stored L (no_code L c.args.slot.now.shape (view v) fits)
+    ∙ ap not c.if-is_default.false in
+    let inline = sym (c.is_reference.ensures L) ∙ c.if-is_reference.false in
+    let shape = ap (λ s. stored_shape L.schema s) c.in-One.is in
+    rw c.in-Some.is (on_ok c.push_inline.result _ _ (λ added. (
+      added.0 ∷ [],
+      added.1,
+      inline_fields L c.args.k f (kind_seen L c.in-One.kind) (view v) added.0 shape inline fits stored added.2,
+    )) c.push_inline.ensures.adds)
+
+none_unless : {A : Type 0} (r : Option A) → ((x : A) → r ≡ Some x → ⊥) → r ≡ None
+none_unless None not = refl
+none_unless (Some x) not = absurd (not x refl)
+
+pub reference_adds_itself : goal.note_entry-returns-then-is_reference-clause-fields
+reference_adds_itself t c =
+    let L = c.args.layout.now in
+    let v = c.in-Some.value in
+    let f = slot_seen L c.args.slot.now in
+    let fits = (rw c.in-Some.is at c.requires.fits).1 in
+    let refers = sym (c.is_reference.ensures L) ∙ c.if-is_reference.true in
+    elim c.match-code_of.branch [
+      | note_entry-in-Some-code_of+in_ok-push_code w ↦ (let member = member_of (view v) w.in-Some-code_of.code
+          (sym c.code_of.ensures ∙ w.in-Some-code_of.is) in
+          let after = c.in_ok-push_reference.ensures.adds ∙ ap (λ os. os ++ (reference_field c.args.k ∷ []))
+          (c.in_ok-note_part.ensures.opened ∙ ap (λ n. n.opened) w.noting-is) in
+          rw (c.in-Some.is, member.1) (member_fields L c.args.k f w.in-Some-code_of.code member.0 _ _ _
+          (w.in_ok-push_code.ensures.adds L) after))
+      | note_entry-in_default-code_of w ↦ (let after = c.in_ok-push_reference.ensures.adds
+          ∙ ap (λ os. os ++ (reference_field c.args.k ∷ []))
+          (c.in_ok-note_part.ensures.opened ∙ ap (λ n. n.opened) w.noting-is) in
+          let none = sym c.code_of.ensures ∙ none_unless c.code_of.result w.in_default-code_of.not-Some in
+          rw c.in-Some.is (reference_field c.args.k ∷ [], after, reference_fields L c.args.k f (view v) refers fits none))
+    ]

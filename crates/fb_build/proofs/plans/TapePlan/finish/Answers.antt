@@ -1,0 +1,90 @@
+use Rattle.std.proofs.Common.{◌≡◌, ◌∙◌, ap, sym, ℕ, List, [], ◌∷◌, Option, length, slice_index, slice_index_or, refl}
+use Rattle.std.proofs.Common.{append-nil, arith, subst}
+use Rattle.std.proofs.lemmas.Grind.{get_or_default_zero}
+use Rattle.fb_layout.specs.Laid.{LaidSchema}
+use Rattle.fb_value.specs.Datum.{Datum, a_table}
+use Rattle.fb_value.specs.Holds.{Holds}
+use Rattle.fb_value.specs.Num.{Bytes}
+use Rattle.fb_value.specs.Places.{table_part}
+use Rattle.fb_value.specs.View.{entries_in}
+use Rattle.fb_tape.specs.Tapes.{MeansRoot, Taped}
+use Rattle.fb_value.specs.OldSlots.{OnlyOld}
+use Rattle.fb_build.specs.Covered.{Covered, EndsAligned}
+use Rattle.fb_build.specs.CoveredTails.{parts_in_tail}
+use Rattle.fb_build.specs.Roots.{IsRoot}
+use Rattle.fb_build.specs.Tails.{TailSeen}
+use Rattle.fb_build.specs.Waiting.{AreWaiting}
+use Rattle.fb_build.proofs.taped.StepsOfALaying.{ends_inside}
+use Rattle.fb_build.proofs.taped.VtablesComeInTurn.{come_different}
+use Rattle.fb_build.proofs.plans.TapePlan.finish.Goals as goal
+
+root_waits : (L : LaidSchema) (vtables : List Bytes) (ends places : List ℕ) (o : TailSeen) (d : Datum)
+    → AreWaiting L vtables (record { target = table_part L.schema.root; value = d } ∷ []) ends places o
+    → IsRoot L o places (slice_index ends 0) d
+root_waits L vtables ends places o d h = record {
+  lies = h.lie 0 _ refl;
+  made = rw (append-nil (parts_in_tail L o.bytes (table_part L.schema.root) (slice_index ends 0) d)) at h.made;
+}
+
+place_is : (L : LaidSchema) (vtables : List Bytes) (ends places : List ℕ) (o : TailSeen) (d : Datum) (place : ℕ)
+    → AreWaiting L vtables (record { target = table_part L.schema.root; value = d } ∷ []) ends places o
+    → place ≡ slice_index_or ends 0 place → place ≡ slice_index ends 0
+place_is L vtables ends places o d place h is =
+    is ∙ get_or_default_zero ends 0 place (omega (arith, h.each))
+
+root_in : (L M : LaidSchema) (vtables : List Bytes) (ends places : List ℕ) (o : TailSeen) (xs : List (Option Datum))
+    (place : ℕ) → L ≡ M → AreWaiting L vtables (record {
+      target = table_part L.schema.root;
+      value = a_table L.schema.root (entries_in xs);
+    } ∷ []) ends places o → place ≡ slice_index_or ends 0 place
+    → IsRoot M o places place (a_table M.schema.root (entries_in xs))
+root_in L M vtables ends places o xs place same h is =
+    let at = place_is L vtables ends places o _ place h is in
+    subst (λ (N : LaidSchema). IsRoot N o places place (a_table N.schema.root (entries_in xs))) same
+    (rw at (root_waits L vtables ends places o _ h))
+
+pub close_tail-requires-clause-inside : goal.close_tail-requires-clause-inside
+close_tail-requires-clause-inside c =
+    let inv = c.self.invariant in
+    let w = c.lay_tape.ensures.waits _ (inv.means.means (omega (arith, inv.small))) in
+    let at = place_is _ _ _ _ _ _ _ w c.index-place.ensures in
+    rw at (ends_inside _ _ _ _ _ _ w 0)
+
+pub returns-clause-holds : goal.returns-clause-holds
+returns-clause-holds c xs most raw means deep small =
+    let inv = c.self.invariant in
+    let given : MeansRoot c.self.inside.tape xs =
+    subst (λ (t : Taped). MeansRoot t xs) (sym (ap (λ p. p.tape) c.self.view_is)) means in
+    let w = c.lay_tape.ensures.waits _ (given (omega (arith, inv.small))) in
+    let root = root_in _ _ _ _ _ _ xs _ inv.layout w c.index-place.ensures in
+    subst (λ (L : LaidSchema). Holds L most raw c.into_bytes.result.items (a_table L.schema.root (entries_in xs)))
+    (ap (λ p. p.layout) c.self.view_is)
+    (rw c.into_bytes.ensures (c.close_tail.ensures.holds _ _ most raw root deep small))
+
+pub returns-clause-old_slots : goal.returns-clause-old_slots
+returns-clause-old_slots c =
+    let inv = c.self.invariant in
+    let w = c.lay_tape.ensures.waits _ (inv.means.means (omega (arith, inv.small))) in
+    let root = root_in _ _ _ _ _ _ inv.means.entries _ inv.layout w c.index-place.ensures in
+    subst (λ (L : LaidSchema). OnlyOld L c.into_bytes.result.items) (ap (λ p. p.layout) c.self.view_is)
+    (rw c.into_bytes.ensures (c.close_tail.ensures.old_slots _ _ root))
+
+pub returns-clause-covered : goal.returns-clause-covered
+returns-clause-covered c =
+    let inv = c.self.invariant in
+    let w = c.lay_tape.ensures.waits _ (inv.means.means (omega (arith, inv.small))) in
+    let root = root_in _ _ _ _ _ _ inv.means.entries _ inv.layout w c.index-place.ensures in
+    let both = c.close_tail.ensures.covered _ _ _ w.shared
+    (come_different c.self.inside.tape.vtables (length c.lay_tape.new.laying.places.items) inv.different) root in
+    subst (λ (L : LaidSchema). Covered L c.into_bytes.result.items) (ap (λ p. p.layout) c.self.view_is)
+    (rw c.into_bytes.ensures both.0)
+
+pub returns-clause-aligned : goal.returns-clause-aligned
+returns-clause-aligned c =
+    let inv = c.self.invariant in
+    let w = c.lay_tape.ensures.waits _ (inv.means.means (omega (arith, inv.small))) in
+    let root = root_in _ _ _ _ _ _ inv.means.entries _ inv.layout w c.index-place.ensures in
+    let both = c.close_tail.ensures.covered _ _ _ w.shared
+    (come_different c.self.inside.tape.vtables (length c.lay_tape.new.laying.places.items) inv.different) root in
+    subst (λ (L : LaidSchema). EndsAligned L c.into_bytes.result.items) (ap (λ p. p.layout) c.self.view_is)
+    (rw c.into_bytes.ensures both.1)

@@ -1,4 +1,0 @@
-pub mod Ends
-pub mod Joined
-pub mod AreSegments
-pub mod LaidBytes

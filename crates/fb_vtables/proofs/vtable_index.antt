@@ -1,2 +1,0 @@
-mod OneVtableStandsAtAPlace
-mod FoundVtableIsKnown

@@ -1,2 +1,0 @@
-pub mod Vtables
-pub mod IsIndex
