@@ -1,5 +1,5 @@
 //! What is noted of a table that is whole: its fields in the order of laying, and its vtable.
-ghost use Rattle.std.specs.Prelude.{ℕ, ◌≡◌, ◌≤◌, ◌<◌, ◌+◌, ◌*◌, ◌++◌, List, length, drop, map, max, flat_map};
+ghost use Rattle.std.specs.Prelude.{ℕ, ◌≡◌, ◌≤◌, ◌<◌, ◌+◌, ◌*◌, ◌++◌, List, length, take, drop, map, max, flat_map};
 ghost use Rattle.std.specs.Prelude.{replicate, Option, OnOk};
 ghost use Rattle.std.specs.List.{All};
 ghost use Rattle.byteorder.specs.Endian.{little_bytes};
@@ -184,12 +184,28 @@ pub(crate) fn note_fields(
     Ok(())
 }
 
-fn push_u16(bytes: &mut Vec<u8>, number: u16) -> Result<(), AllocError>
-    ensures adds { OnOk result (bytes.new.items ≡ bytes.old.items ++ little_bytes 2 number) }
+/// Writes a number of two bytes at a place.
+fn put_u16(bytes: &mut [u8], at: usize, number: u16)
+    requires room { at + 2 ≤ length bytes.old }
+    ensures front { take (at + 2) bytes.new ≡ take at bytes.old ++ little_bytes 2 number }
+    ensures long { length bytes.new ≡ length bytes.old }
 {
     let mut all = [0u8; 2];
     LittleEndian::write_u16(&mut all, number);
-    bytes.extend_from_slice(&all)
+    bytes[at..at + 2].copy_from_slice(&all);
+}
+
+/// Fills bytes with the vtable of a table of a size whose slots have these offsets.
+fn fill_vtable(bytes: &mut [u8], size: u16, slots: &[u16])
+    requires few { length slots.now ≤ 32765 }
+    requires long { length bytes.old ≡ 4 + 2 * length slots.now }
+    ensures filled { bytes.new ≡ vtable_with size slots.now }
+{
+    put_u16(bytes, 0, (4 + 2 * slots.len()) as u16);
+    put_u16(bytes, 2, size);
+    for k in 0..slots.len() {
+        put_u16(bytes, 4 + 2 * k, slots[k]);
+    }
 }
 
 /// Writes a table's vtable.
@@ -197,12 +213,8 @@ pub(crate) fn vtable_into(vtable: &mut Vec<u8>, offsets: &Offsets) -> Result<(),
     requires few { length offsets.now.slots.items ≤ 32765 }
     ensures written { OnOk result (vtable.new.items ≡ vtable_with offsets.now.size offsets.now.slots.items) }
 {
-    vtable.truncate(0);
-    push_u16(vtable, (4 + 2 * offsets.slots.len()) as u16)?;
-    push_u16(vtable, offsets.size)?;
-    for offset in offsets.slots.iter() {
-        push_u16(vtable, *offset)?;
-    }
+    vtable.resize(4 + 2 * offsets.slots.len(), 0)?;
+    fill_vtable(vtable, offsets.size, offsets.slots.as_slice());
     Ok(())
 }
 
