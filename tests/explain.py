@@ -17,7 +17,7 @@ from explain_rows import (
     SEVERAL, SEVERAL_SENTENCES, TEXTS, VALUES,
 )
 from harness import ROOT, Tests, content, program_of, write
-from hostile import ASKED_AHEAD, ASKED_FOR_A_BUFFER, refusing, shim
+from hostile import ASKED_AHEAD, refusing, shim
 
 
 class Explained(Tests):
@@ -477,7 +477,7 @@ def memory(tests):
         met.add(number)
         tests.tell(f"growth {n} refused", number or not alone, f"{alone!r}")
         tests.tell(f"growths from {n} on refused", later == b"114 Memory\n", f"{later!r}")
-    tests.tell("growths that are only asked for ahead", ahead == ASKED_AHEAD + ASKED_FOR_A_BUFFER, f"{ahead}")
+    tests.tell("growths that are only asked for ahead", ahead == ASKED_AHEAD, f"{ahead}")
     tests.tell("each want of memory was met", met - {None} == {str(it) for it in MEMORY}, f"{met}")
     write("v.json", b'{"name":"Orc","weapons":[{"damage":70000}]}')
     words = ["binary", "--explain", "s.fbs", "v.json", "out.bin"]

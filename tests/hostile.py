@@ -21,9 +21,8 @@ from harness import ONE, ROOT, SEVEN, SEVEN_TEXT, SMALL_STACK, Tests, content, p
 # Each layer's line where memory runs out.
 MEMORY = re.compile(rb"(?:(?:old: |new: )?(?:7|23|32) Memory|(?:41|64|80|84|114) Memory)\n")
 # Growths that are only asked for ahead, so that a run goes on where they are refused: by the standard library when the
-# words are collected; and where a buffer is made, for as many bytes as its JSON has.
+# words are collected.
 ASKED_AHEAD = 1
-ASKED_FOR_A_BUFFER = 1
 GROWTHS = 20_000
 DAMAGES = 250
 SEED = 35
@@ -55,11 +54,10 @@ def is_short_of_memory(done, front):
     return told and front.startswith(done.stdout) and (not front or done.stdout != front)
 
 
-def refused_growths(tests, library, name, words, out, made, ahead):
+def refused_growths(tests, library, name, words, out, made):
     """Each growth of a job refused, one alone and all from it on; returns how many there are.
 
-    `made` is what the last word's file holds afterwards, where there is one; `ahead` is how many growths the job goes
-    on without. Each job has a folder of its own.
+    `made` is what the last word's file holds afterwards, where there is one. Each job has a folder of its own.
     """
     os.mkdir(name)
     makes = os.path.join(name, words[-1]) if made is not None else ""
@@ -93,7 +91,7 @@ def refused_growths(tests, library, name, words, out, made, ahead):
             near = abs(n - 1 - total) <= (1 if makes else 0)
             tests.tell(f"the growths of {name}", near, f"{n - 1} refused, {total} counted")
             break
-    tests.tell(f"{name} goes on where memory is only asked for ahead", absorbed <= ahead, f"{absorbed}")
+    tests.tell(f"{name} goes on where memory is only asked for ahead", absorbed <= ASKED_AHEAD, f"{absorbed}")
     return total
 
 
@@ -108,17 +106,16 @@ def growths(tests):
     text_wanted = content(os.path.join(ROOT, "tests", "monster.printed.json"))
     write("monster.bin", bytes_wanted)
     usage = tests.run(["--help"]).stdout
-    both = ASKED_AHEAD + ASKED_FOR_A_BUFFER
     jobs = (
-        ("example", [], SEVEN_TEXT, None, both),
-        ("help", ["--help"], usage, None, ASKED_AHEAD),
-        ("binary", ["binary", "../one.fbs", "../seven.json", "out.bin"], b"", SEVEN, both),
-        ("json", ["json", "../one.fbs", "../seven.bin"], SEVEN_TEXT, None, ASKED_AHEAD),
-        ("check", ["check", "../one.fbs", "../seven.bin"], b"ok\n", None, ASKED_AHEAD),
-        ("conform", ["conform", "../one.fbs", "../one.fbs"], b"conforms\n", None, ASKED_AHEAD),
-        ("monster-binary", ["binary", monster[0], text, "monster.out"], b"", bytes_wanted, both),
-        ("monster-json", ["json", monster[0], "../monster.bin"], text_wanted, None, ASKED_AHEAD),
-        ("monster-conform", ["conform", *monster], b"conforms\n", None, ASKED_AHEAD),
+        ("example", [], SEVEN_TEXT, None),
+        ("help", ["--help"], usage, None),
+        ("binary", ["binary", "../one.fbs", "../seven.json", "out.bin"], b"", SEVEN),
+        ("json", ["json", "../one.fbs", "../seven.bin"], SEVEN_TEXT, None),
+        ("check", ["check", "../one.fbs", "../seven.bin"], b"ok\n", None),
+        ("conform", ["conform", "../one.fbs", "../one.fbs"], b"conforms\n", None),
+        ("monster-binary", ["binary", monster[0], text, "monster.out"], b"", bytes_wanted),
+        ("monster-json", ["json", monster[0], "../monster.bin"], text_wanted, None),
+        ("monster-conform", ["conform", *monster], b"conforms\n", None),
     )
     with ThreadPoolExecutor(os.cpu_count()) as pool:
         rows = [pool.submit(refused_growths, tests, library, *job) for job in jobs]
