@@ -1,4 +1,4 @@
-//! Vectors of the root's table. Each element is read, laid where it is a text or a table, and dropped before the next,
+//! Vectors of the root's table. Each element is read, noted where it is a text or a table, and dropped before the next,
 //! so that no long vector is whole in memory beside its tree.
 ghost use Rattle.std.specs.Prelude.{◌≡◌, [], IfOk, length, map, string_bytes, true, vec_len};
 ghost use Rattle.serde_json.specs.Data.{string};
@@ -98,8 +98,8 @@ fn element_from(
     }
 }
 
-/// Lays the texts or tables that an array's elements mean, and returns the cells that are left.
-pub(crate) fn lay_elements(
+/// Notes the texts or tables that an array's elements mean, and returns the cells that are left.
+pub(crate) fn note_elements(
     source: Source,
     builder: &mut BufferBuilder,
     elements: Vec<Json>,

@@ -13,7 +13,7 @@ ghost use Rattle.fb_json.specs.Steps.{vector_entry};
 ghost use Rattle.fb_build.specs.Fields.{is_reference};
 ghost use Rattle.fb_encode.specs.OneMore.{IsNextField, one_more};
 
-use crate::elements::{items_from, lay_elements};
+use crate::elements::{items_from, note_elements};
 use fb_build::{BufferBuilder, drop_entry};
 use fb_json::{JsonFault, Place, Source, TakenSlot, code_after, is_marked, take_slot};
 use fb_schema::{FieldInfo, Kind, TypeId};
@@ -27,8 +27,8 @@ fn is_referred(kind: Kind) -> bool
     matches!(kind, Kind::Text | Kind::Table(_))
 }
 
-/// Lays the vector in the next slot, and returns the cells that are left.
-fn lay_vector(
+/// Notes the vector in the next slot, and returns the cells that are left.
+fn note_vector(
     source: Source,
     builder: &mut BufferBuilder,
     slot: &FieldInfo,
@@ -51,7 +51,7 @@ fn lay_vector(
 {
     if is_referred(kind) {
         let count = elements.len();
-        let left = lay_elements(source, builder, elements, kind, place, levels, left)?;
+        let left = note_elements(source, builder, elements, kind, place, levels, left)?;
         builder.close_vector(count)?;
         return Ok(left);
     }
@@ -62,8 +62,8 @@ fn lay_vector(
     Ok(left)
 }
 
-/// Lays what is in the next slot, and returns the cells that are left.
-fn lay_slot(
+/// Notes what is in the next slot, and returns the cells that are left.
+fn note_slot(
     source: Source,
     builder: &mut BufferBuilder,
     members: &mut Map<String, Json>,
@@ -97,13 +97,13 @@ fn lay_slot(
             Ok(left)
         }
         TakenSlot::Elements(kind, elements) => {
-            lay_vector(source, builder, slot, elements, kind, place, levels, left)
+            note_vector(source, builder, slot, elements, kind, place, levels, left)
         }
     }
 }
 
-/// Lays what is in the slots of the root's table, and returns the cells that are left.
-pub(crate) fn lay_slots(
+/// Notes what is in the slots of the root's table, and returns the cells that are left.
+pub(crate) fn note_slots(
     source: Source,
     builder: &mut BufferBuilder,
     members: Map<String, Json>,
@@ -138,7 +138,7 @@ pub(crate) fn lay_slots(
         let marked = is_marked(marks, k);
         code = code_after(source, &members, slot, place, code, marked)?;
         let members = &mut members;
-        left = lay_slot(
+        left = note_slot(
             source, builder, members, slot, place, code, marked, levels, left,
         )?;
     }

@@ -9,7 +9,7 @@ ghost use Rattle.fb_build.specs.BuiltSoFar.{root_slots, root_value};
 ghost use Rattle.fb_encode.specs.Encoded.{EncodeRefused, IsEncoded};
 
 use crate::faults::EncodeFault;
-use crate::slots::lay_slots;
+use crate::slots::note_slots;
 use fb_build::BufferBuilder;
 use fb_json::{
     JsonFault, Source, first_fault_refuses, marks_of, meant_fits, root_members,
@@ -20,8 +20,8 @@ use fb_value::Limits;
 use serde_json::{Map, Value as Json};
 use std::alloc::Global;
 
-/// Lays what the root's members give, but for the root's table itself.
-fn lay_root<'l>(
+/// Notes what the root's members give, but for the root's table itself.
+fn note_root<'l>(
     source: Source<'l>,
     members: Map<String, Json>,
     limits: Limits,
@@ -42,7 +42,7 @@ fn lay_root<'l>(
     let mut builder = BufferBuilder::new(source.alloc, source.layout);
     let levels = limits.most_depth().saturating_sub(1);
     let left = limits.most_cells().saturating_sub(1);
-    match lay_slots(
+    match note_slots(
         source,
         &mut builder,
         members,
@@ -84,7 +84,7 @@ pub fn encode_tree(
         Ok(members) => members,
         Err(fault) => return Err(EncodeFault::Json(fault)),
     };
-    let builder = match lay_root(source, members, limits) {
+    let builder = match note_root(source, members, limits) {
         Ok(builder) => builder,
         Err(fault) => return Err(EncodeFault::Json(fault)),
     };

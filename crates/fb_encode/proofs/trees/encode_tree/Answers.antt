@@ -15,19 +15,19 @@ returns-in-Err-clause-refused c =
     first_refused c.args.layout.now c.args.limits c.args.unknown (tree_view c.args.tree) c.first_fault_refuses.ensures
     c.in-Err.fault c.in-Err.ensures.memory (c.in-Err.ensures.first c.args.unknown)
 
-pub returns-in-Err-lay_root-clause-refused : goal.returns-in-Err-lay_root-clause-refused
-returns-in-Err-lay_root-clause-refused c =
+pub returns-in-Err-note_root-clause-refused : goal.returns-in-Err-note_root-clause-refused
+returns-in-Err-note_root-clause-refused c =
     memory_refused c.args.layout.now c.args.limits c.args.unknown (tree_view c.args.tree) c.first_fault_refuses.ensures
-    (members_view c.in-Ok.members.entries) c.in-Ok.ensures.root c.in-Err-lay_root.fault
-    (c.in-Err-lay_root.ensures.first (tree_view c.args.tree) c.in-Ok.ensures.root)
+    (members_view c.in-Ok.members.entries) c.in-Ok.ensures.root c.in-Err-note_root.fault
+    (c.in-Err-note_root.ensures.first (tree_view c.args.tree) c.in-Ok.ensures.root)
 
 pub returns-in-Ok-finish-clause-encoded : goal.returns-in-Ok-finish-clause-encoded
 returns-in-Ok-finish-clause-encoded c =
     let L = c.args.layout.now in
-    let b = c.in-Ok-lay_root.builder in
-    let same : b.layout ≡ L = c.in-Ok-lay_root.ensures.layout in
+    let b = c.in-Ok-note_root.builder in
+    let same : b.layout ≡ L = c.in-Ok-note_root.ensures.layout in
     let means : Means L c.args.limits c.args.unknown (tree_view c.args.tree) (root_value b) =
-    c.in-Ok-lay_root.ensures.value (tree_view c.args.tree) c.in-Ok.ensures.root in
+    c.in-Ok-note_root.ensures.value (tree_view c.args.tree) c.in-Ok.ensures.root in
     let done = c.in-Ok-finish.ensures in
     record {
       value = root_value b;
@@ -46,10 +46,10 @@ returns-in-Ok-finish-clause-encoded c =
 pub returns-in-Err-finish-clause-refused : goal.returns-in-Err-finish-clause-refused
 returns-in-Err-finish-clause-refused c =
     let L = c.args.layout.now in
-    let b = c.in-Ok-lay_root.builder in
-    let same : b.layout ≡ L = c.in-Ok-lay_root.ensures.layout in
+    let b = c.in-Ok-note_root.builder in
+    let same : b.layout ≡ L = c.in-Ok-note_root.ensures.layout in
     let means : Means L c.args.limits c.args.unknown (tree_view c.args.tree) (root_value b) =
-    c.in-Ok-lay_root.ensures.value (tree_view c.args.tree) c.in-Ok.ensures.root in
+    c.in-Ok-note_root.ensures.value (tree_view c.args.tree) c.in-Ok.ensures.root in
     let failed = c.in-Err-finish.ensures in
     build_refused L c.args.limits c.args.unknown (tree_view c.args.tree) (root_value b) means c.in-Err-finish.fault
     (λ is. subst (λ (M : LaidSchema). 2147483647 < room_of M (root_value b)) same (failed.too_big is))

@@ -13,10 +13,10 @@ use Rattle.fb_json.specs.Outcome.{Fails}
 use Rattle.fb_json.proofs.slots.SlotsAreNamedApart.{named_apart}
 use Rattle.fb_json.proofs.slots.RootIsReadBySlots.{known_at, slots_at}
 use Rattle.fb_json.proofs.slots.OneSlotOrFieldMore.{failed}
-use Rattle.fb_encode.proofs.trees.lay_root.Goals as goal
+use Rattle.fb_encode.proofs.trees.note_root.Goals as goal
 
-pub lay_slots-requires-clause-names : goal.lay_slots-requires-clause-names
-lay_slots-requires-clause-names c =
+pub note_slots-requires-clause-names : goal.note_slots-requires-clause-names
+note_slots-requires-clause-names c =
     subst AreNamedApart (sym c.slots_of-slots.ensures.slots)
     (named_apart c.args.source.layout.now.schema c.root-root.result.0 c.schema.ensures.made.declared)
 
@@ -39,7 +39,7 @@ returns-in-Ok-clause-value c t is =
     let u = c.args.source.unknown in
     let ms = members_view c.args.members.entries in
     let root = c.root-root.ensures ∙ ap (λ (s : DeclaredSchema). s.root) c.schema.ensures.schema in
-    let n = c.lay_slots.new.builder in
+    let n = c.note_slots.new.builder in
     let same : n.layout ≡ L = c.in-Ok.ensures.layout ∙ ap (λ b. b.layout) c.new-builder.ensures.nothing in
     let known : root_known L u ms ≡ Ok tt =
     sym (known_at L c.args.limits u ms c.root-root.result.0 root) ∙ c.in_ok-marks.ensures.known in

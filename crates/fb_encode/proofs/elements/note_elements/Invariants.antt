@@ -2,7 +2,7 @@ use Rattle.std.proofs.Common.{◌≡◌, ◌+◌, length, reverse, vec_len}
 use Rattle.serde_json.specs.View.{items_view}
 use Rattle.fb_json.specs.Meant.{items_meant}
 use Rattle.fb_json.proofs.slots.OneSlotOrFieldMore.{after}
-use Rattle.fb_encode.proofs.elements.lay_elements.Given as goal
+use Rattle.fb_encode.proofs.elements.note_elements.Given as goal
 
 abbrev pub invariant-loop-element : goal.invariant-loop-element
 invariant-loop-element l = record {

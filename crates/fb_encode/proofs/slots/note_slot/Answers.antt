@@ -2,7 +2,7 @@ use Rattle.fb_schema.specs.Seen.{field_seen}
 use Rattle.fb_json.specs.Steps.{TakenSlotFits, TakenSlotIsWhole}
 use Rattle.fb_json.specs.declared.steps.TakenSlot.TheVariants.{Entry}
 use Rattle.fb_encode.proofs.slots.NextSlotIsTaken.{entry_fits}
-use Rattle.fb_encode.proofs.slots.lay_slot.Goals as goal
+use Rattle.fb_encode.proofs.slots.note_slot.Goals as goal
 
 pub push_entry-requires-clause-fits : goal.push_entry-requires-clause-fits
 push_entry-requires-clause-fits c =

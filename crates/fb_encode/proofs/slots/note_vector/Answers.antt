@@ -5,10 +5,10 @@ use Rattle.fb_value.specs.View.{view}
 use Rattle.fb_value.proofs.types.EachVariantHasItsView.{view-Items}
 use Rattle.fb_encode.specs.OneMore.{IsNextField}
 use Rattle.fb_encode.proofs.slots.NextSlotIsTaken.{elements_awaited, vector_fits}
-use Rattle.fb_encode.proofs.slots.lay_vector.Goals as goal
+use Rattle.fb_encode.proofs.slots.note_vector.Goals as goal
 
-pub lay_elements-requires-clause-next : goal.lay_elements-requires-clause-next
-lay_elements-requires-clause-next c =
+pub note_elements-requires-clause-next : goal.note_elements-requires-clause-next
+note_elements-requires-clause-next c =
     let L = c.args.source.layout.now in
     elements_awaited c.args.builder.now L (field_seen c.args.slot.now) c.args.kind c.requires.layout c.requires.next
     c.requires.vector c.requires.used (c.is_referred.ensures L.schema c.if-is_referred.true)
@@ -17,8 +17,8 @@ pub close_vector-requires : goal.close_vector-requires
 close_vector-requires c =
     let L = c.args.source.layout.now in
     let f = field_seen c.args.slot.now in
-    let n = c.lay_elements.new.builder in
-    let now = c.lay_elements.ensures in
+    let n = c.note_elements.new.builder in
+    let now = c.note_elements.ensures in
     let next : IsNextField n f = rw (now.layout, c.in_ok-left.ensures.entries) c.requires.next in
     record {
       awaits = record {

@@ -11,7 +11,7 @@ use Rattle.fb_json.proofs.slots.OneSlotOrFieldMore.{slots_end}
 use Rattle.fb_build.proofs.apart.OneMoreFits.{long_more}
 use Rattle.fb_encode.specs.OneMore.{one_more}
 use Rattle.fb_encode.proofs.slots.NextSlotIsTaken.{none_more, one_given}
-use Rattle.fb_encode.proofs.slots.lay_slots.Goals as goal
+use Rattle.fb_encode.proofs.slots.note_slots.Goals as goal
 
 pub code_after-requires : goal.code_after-requires
 code_after-requires c unmarked =
@@ -19,14 +19,14 @@ code_after-requires c unmarked =
     c.loop-k.invariant.later c.loop-k.k (field_seen c.index-slots-k.result) (omega arith) at
     ∙ c.requires.marks c.loop-k.k (field_seen c.index-slots-k.result) at (sym c.is_marked-marked.ensures ∙ unmarked)
 
-pub lay_slot-requires-clause-marked : goal.lay_slot-requires-clause-marked
-lay_slot-requires-clause-marked c unmarked =
+pub note_slot-requires-clause-marked : goal.note_slot-requires-clause-marked
+note_slot-requires-clause-marked c unmarked =
     let at = slot_at c.args.slots.now c.loop-k.k c.index-slots-k.result c.loop-k-test.true c.index-slots-k.is in
     c.loop-k.invariant.later c.loop-k.k (field_seen c.index-slots-k.result) (omega arith) at
     ∙ c.requires.marks c.loop-k.k (field_seen c.index-slots-k.result) at (sym c.is_marked-marked.ensures ∙ unmarked)
 
-pub lay_slot-requires-clause-next : goal.lay_slot-requires-clause-next
-lay_slot-requires-clause-next c =
+pub note_slot-requires-clause-next : goal.note_slot-requires-clause-next
+note_slot-requires-clause-next c =
     let S = c.args.source.layout.now.schema in
     let at = slot_at c.args.slots.now c.loop-k.k c.index-slots-k.result c.loop-k-test.true c.index-slots-k.is in
     let there : slice_get (slots_in (body_at S S.root)) c.loop-k.k ≡ Some (field_seen c.index-slots-k.result) =
@@ -87,7 +87,7 @@ loop-k-preserved c =
     (sym (c.loop-k.invariant.later c.loop-k.k f (omega arith) at)) in
     let told = code_same L.schema seen now place c.loop-k.code f.deprecated f.name f.shape same in
     let given = entry_same L seen now f place c.in_ok-code.code c.args.levels c.loop-k.left same in
-    let one = one_given c.loop-k.builder.entries c.lay_slot.new.builder.entries
+    let one = one_given c.loop-k.builder.entries c.note_slot.new.builder.entries
     (entry_meant L now f place c.in_ok-code.code c.args.levels c.loop-k.left) c.in_ok-left.left
     c.in_ok-left.ensures.gives in
     record {

@@ -5,7 +5,7 @@ use Rattle.fb_schema.specs.Schema.{DeclaredField}
 use Rattle.fb_schema.specs.Seen.{field_seen}
 use Rattle.fb_json.specs.Meant.{slots_meant, look}
 use Rattle.fb_json.proofs.slots.OneSlotOrFieldMore.{after}
-use Rattle.fb_encode.proofs.slots.lay_slots.Given as goal
+use Rattle.fb_encode.proofs.slots.note_slots.Given as goal
 
 abbrev pub invariant-loop-k : goal.invariant-loop-k
 invariant-loop-k l = record {
