@@ -1,4 +1,5 @@
 -- Slots, fields and elements that are read one after the other.
+pub mod MemberAtItsSlot
 pub mod OneSlotOrFieldMore
 pub mod OtherMembersStay
 pub mod RootIsReadBySlots

@@ -3,6 +3,7 @@ pub mod EnumTexts
 pub mod Leaves
 pub mod Meant
 pub mod MarkedSlots
+pub mod SlotMembers
 pub mod Means
 pub mod Steps
 pub mod Laws

@@ -7,7 +7,8 @@ ghost use Rattle.fb_layout.specs.Laid.{LaidSchema, slot_of};
 ghost use Rattle.fb_value.specs.Datum.{a_number};
 ghost use Rattle.fb_value.specs.View.{view};
 ghost use Rattle.fb_json.specs.Outcome.{Gives};
-ghost use Rattle.fb_json.specs.Meant.{Look, as_absent, code_after, is_null, used_meant};
+ghost use Rattle.fb_json.specs.Meant.{Look, as_absent, code_after, entry_meant, is_null, used_meant};
+ghost use Rattle.fb_json.specs.SlotMembers.{is_of_union};
 
 use crate::faults::{JsonFault, Place};
 use fb_schema::{FieldInfo, Kind, Shape};
@@ -61,9 +62,33 @@ pub(crate) fn default_of(slot: &FieldInfo) -> Value
     Value::Number(slot.default)
 }
 
+/// Whether a slot is that of a union's code or of its value.
+fn is_of_union(slot: &FieldInfo) -> bool
+    ensures { result ≡ is_of_union slot.now.shape }
+{
+    matches!(slot.shape, Shape::One(Kind::Union(_) | Kind::Code(_)))
+}
+
+/// Whether a slot has no member and needs none. Such a slot hands on the code that it was handed, and what it is given
+/// is its default, if it has one. In a table of many fields most slots are so.
+#[inline(always)]
+pub fn is_absent(slot: &FieldInfo, tree: Option<&Json>) -> bool
+    ensures none { result ≡ true → tree.entry ≡ None }
+    ensures code { (S : DeclaredSchema) (seen : Look) (place : Place) (code : ℕ) → result ≡ true →
+        let f = field_seen slot.now in code_after S seen place code f.deprecated f.name f.shape ≡ Ok code }
+    ensures entry { (L : LaidSchema) (seen : Look) (place : Place) (code levels left : ℕ) → result ≡ true →
+        let f = field_seen slot.now in seen f.name ≡ None → entry_meant L seen f place code levels left
+        ≡ Ok (option_map a_number (slot_of L.schema f).if_absent, left) }
+{
+    match tree {
+        None => !slot.required && !is_of_union(slot),
+        Some(_) => false,
+    }
+}
+
 /// The entry of a slot in use that has no member.
 #[tactic(auto, unfolding(crate::specs::Meant::union_meant, crate::specs::Meant::plain_meant))]
-pub(crate) fn without(
+pub fn without(
     slot: &FieldInfo,
     place: Place,
     code: u8,
@@ -86,7 +111,8 @@ pub(crate) fn without(
     }
 }
 
-pub(crate) fn is_null(tree: &Json) -> bool
+/// Whether a tree is `null`.
+pub fn is_null(tree: &Json) -> bool
     ensures { result ≡ is_null (tree_view tree.now) }
 {
     match tree {

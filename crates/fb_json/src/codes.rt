@@ -3,9 +3,10 @@ ghost use Rattle.std.specs.Prelude.{◌≡◌, false, None};
 ghost use Rattle.serde_json.specs.Find.{get_member};
 ghost use Rattle.serde_json.specs.View.{members_view};
 ghost use Rattle.fb_schema.specs.Seen.{field_seen};
-ghost use Rattle.fb_json.specs.Meant.{code_after, code_in, look};
+ghost use Rattle.fb_json.specs.Meant.{Look, code_after, code_in, look};
 ghost use Rattle.serde_json.specs.View.{view as tree_view};
 ghost use Rattle.fb_json.specs.Leaves.{code_numbered, code_told};
+ghost use Rattle.fb_json.specs.SlotMembers.{looked_up};
 
 use crate::faults::{JsonFault, Place};
 use crate::source::Source;
@@ -100,6 +101,48 @@ pub fn code_after(
     };
     match kind {
         Kind::Code(union) => member_code(source, members, union, slot, place, marked),
+        _ => Ok(code),
+    }
+}
+
+/// The code that the member of a union's code has, and 0 where there is none.
+fn code_in(
+    source: Source,
+    union: TypeId,
+    tree: Option<&Json>,
+    place: Place,
+) -> Result<u8, JsonFault>
+    ensures { let L = source.entry.layout.now in
+        result ≡ code_in L.schema union.0 place (looked_up L source.entry.unknown tree.entry) }
+{
+    match tree {
+        Some(tree) => code_told(source.layout, union, tree, place),
+        None => Ok(0),
+    }
+}
+
+/// The code that a slot has whose member is this tree, or which has none; another slot returns what it was passed.
+#[inline(always)]
+#[tactic(auto, unfolding(crate::specs::Meant::code_after))]
+pub fn code_of_slot(
+    source: Source,
+    slot: &FieldInfo,
+    tree: Option<&Json>,
+    place: Place,
+    code: u8,
+) -> Result<u8, JsonFault>
+    ensures { (seen : Look) → let L = source.entry.layout.now in let f = field_seen slot.now in
+        seen f.name ≡ looked_up L source.entry.unknown tree.entry →
+        result ≡ code_after L.schema seen place code f.deprecated f.name f.shape }
+{
+    if slot.deprecated {
+        return Ok(code);
+    }
+    let Shape::One(kind) = slot.shape else {
+        return Ok(code);
+    };
+    match kind {
+        Kind::Code(union) => code_in(source, union, tree, place),
         _ => Ok(code),
     }
 }

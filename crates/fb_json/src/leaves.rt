@@ -1,6 +1,7 @@
 //! Trees without members and elements.
-ghost use Rattle.std.specs.Prelude.{◌≡◌};
+ghost use Rattle.std.specs.Prelude.{◌≡◌, ◌≢◌, IfErr};
 ghost use Rattle.serde_json.specs.View.{view as tree_view};
+ghost use Rattle.fb_value.specs.Datum.{a_text};
 ghost use Rattle.fb_value.specs.View.{view};
 ghost use Rattle.fb_json.specs.Outcome.{Gives};
 ghost use Rattle.fb_json.specs.Leaves.{text_meant, leaf_meant};
@@ -13,10 +14,11 @@ use fb_value::Value;
 use serde_json::Value as Json;
 use std::alloc::Global;
 
-/// A text, and the cells that are left.
+/// The text that a tree is, which isn't copied, and the cells that are left.
 #[tactic(auto, unfolding(crate::specs::Leaves::text_meant))]
-fn text(alloc: Global, tree: &Json, place: Place, left: u32) -> Result<(Value, u32), JsonFault>
-    ensures { Gives (λ x. (view x.0, x.1)) result (text_meant (tree_view tree.now) place left) }
+pub fn text_of(tree: &Json, place: Place, left: u32) -> Result<(&str, u32), JsonFault>
+    ensures gives { Gives (λ x. (a_text x.0.now, x.1)) result (text_meant (tree_view tree.now) place left) }
+    ensures memory { IfErr result (λ f. f ≢ JsonFault.Memory) }
 {
     let Json::String(text) = tree else {
         return Err(JsonFault::WrongShape(place));
@@ -25,7 +27,15 @@ fn text(alloc: Global, tree: &Json, place: Place, left: u32) -> Result<(Value, u
         return Err(JsonFault::TooManyCells(place));
     }
     let rest = left - 1 - text.len() as u32;
-    Ok((Value::Text(String::from_str(alloc, text.as_str())?), rest))
+    Ok((text.as_str(), rest))
+}
+
+/// A text, and the cells that are left.
+fn text(alloc: Global, tree: &Json, place: Place, left: u32) -> Result<(Value, u32), JsonFault>
+    ensures { Gives (λ x. (view x.0, x.1)) result (text_meant (tree_view tree.now) place left) }
+{
+    let (text, left) = text_of(tree, place, left)?;
+    Ok((Value::Text(String::from_str(alloc, text)?), left))
 }
 
 /// What a tree without members and elements gives.

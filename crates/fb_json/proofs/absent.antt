@@ -1,0 +1,2 @@
+-- What the proofs of src/absent.rt use.
+pub mod SlotNeedsNothing

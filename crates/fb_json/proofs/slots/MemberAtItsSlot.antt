@@ -1,0 +1,38 @@
+-- What is at a slot is what a look-up of the slot's name finds.
+use Rattle.std.proofs.Common.{◌≡◌, ◌∙◌, ℕ, ◌<◌, List, Bool, Option, None, Some, Bor, length, option_map, slice_get}
+use Rattle.std.proofs.Common.{get_or, ap, sym, refl}
+use Rattle.std.proofs.lemmas.Option.{slice_get-map, slice_get-get_or}
+use Rattle.serde_json.specs.declared.value.Value.{Value}
+use Rattle.serde_json.specs.Data.{Members}
+use Rattle.serde_json.specs.Find.{get_member}
+use Rattle.fb_schema.specs.Schema.{DeclaredField}
+use Rattle.fb_layout.specs.Laid.{LaidSchema}
+use Rattle.fb_json.specs.Meant.{look}
+use Rattle.fb_json.specs.SlotMembers.{AreMembersOf, looked_up, tree_seen}
+use Rattle.fb_json.proofs.members.MapFindsTheMembers.{looked, with_meaning}
+
+meaning_of : (L : LaidSchema) (unknown : Bool) (r : Option (Bor Value))
+    → option_map (with_meaning L unknown) (tree_seen r) ≡ looked_up L unknown r
+meaning_of L unknown None = refl
+meaning_of L unknown (Some t) = refl
+
+module _ (trees : List (Option (Bor Value))) (fs : List DeclaredField) (ms : Members)
+    (are : AreMembersOf trees fs ms) (k : ℕ) (f : DeclaredField) (slot : slice_get fs k ≡ Some f)
+    (r : Option (Bor Value)) where
+  pub member_at : slice_get trees k ≡ Some r → get_member f.name ms ≡ tree_seen r
+  member_at there =
+      let seen : Some (tree_seen r) ≡ Some (get_member f.name ms) =
+      sym (slice_get-map tree_seen trees k ∙ ap (option_map tree_seen) there) ∙ are.each k f slot in
+      let same : tree_seen r ≡ get_member f.name ms = cc in
+      sym same
+
+  pub looked_up_at : (L : LaidSchema) (unknown : Bool) → slice_get trees k ≡ Some r
+      → look L unknown ms f.name ≡ looked_up L unknown r
+  looked_up_at L unknown there =
+      looked L unknown ms f.name
+      ∙ (ap (option_map (with_meaning L unknown)) (member_at there) ∙ meaning_of L unknown r)
+
+-- the same where the place is read as `trees[k]`
+pub read_at : (trees : List (Option (Bor Value))) (k : ℕ) (r : Option (Bor Value)) → k < length trees
+    → r ≡ get_or trees k r → slice_get trees k ≡ Some r
+read_at trees k r within is = slice_get-get_or trees k r within ∙ ap Some (sym is)
