@@ -1,6 +1,7 @@
 pub mod apart
 pub mod covered
 pub mod fields
+pub mod noted
 pub mod numbers
 pub mod order
 pub mod structs

@@ -1,4 +1,3 @@
-pub mod DatumCode
 pub mod Ends
 pub mod Tails
 pub mod Fields
@@ -20,12 +19,11 @@ pub mod CoveredSteps
 pub mod FaultTable
 pub mod Made
 pub mod Apart
-pub mod BuiltSoFar
-pub mod OpenBuffer
 pub mod Roots
 pub mod Vtables
 pub mod Lengths
 pub mod Noted
+pub mod NotedRoots
 pub mod Referred
 pub mod NotesLaid
 pub mod NumberedVtables
@@ -34,6 +32,5 @@ pub mod Waiting
 pub mod Steps
 pub mod TapeLaid
 pub mod FieldsLaid
-pub mod StandIns
 pub mod ExampleBuffersAreCovered
 pub mod ExampleBuffersHaveSlack

@@ -7,7 +7,9 @@ ghost use Rattle.fb_value.specs.Holds.{Holds};
 ghost use Rattle.fb_value.specs.OldSlots.{OnlyOld};
 ghost use Rattle.fb_value.specs.Room.{room_of};
 ghost use Rattle.fb_value.specs.View.{view};
+ghost use Rattle.fb_value.specs.Datum.{Datum};
 ghost use Rattle.fb_build.specs.Covered.{Covered, EndsAligned};
+ghost use Rattle.fb_build.specs.NotedRoots.{NotesRoot};
 ghost use Rattle.fb_build.specs.declared.faults.BuildFault.TheVariants.{TooBig, Memory};
 
 use crate::faults::BuildFault;
@@ -15,6 +17,7 @@ use crate::noting::note_root;
 use crate::plans::{Plan, TapePlan};
 use crate::rooms::table_with_parts_room;
 use fb_layout::Layout;
+use fb_tape::Tape;
 use fb_value::{Value, buffer_room};
 use std::alloc::Global;
 
@@ -59,4 +62,33 @@ pub fn build(alloc: Global, layout: &Layout, value: &Value) -> Result<Vec<u8>, B
     ensures memory { IfErr result (λ e. e ≡ Memory → room_of layout.now (view value.now) ≤ 2147483647) }
 {
     Ok(plan(alloc, layout, value)?.finish())
+}
+
+/// The bytes that encode a value of the root table, which is noted on a tape. All memory that laying them takes is
+/// taken before the first of them is laid.
+pub fn lay_root<'l>(
+    alloc: Global,
+    layout: &'l Layout,
+    tape: Tape<'l>,
+) -> Result<Vec<u8>, BuildFault>
+    requires { (d : Datum) × NotesRoot layout.now tape d }
+    ensures holds { IfOk result (λ b. (d : Datum) (most : Bounds) (raw : Bool) → NotesRoot layout.now tape.entry d
+        → depth d ≤ most.depth → cells d ≤ most.cells → Holds layout.now most raw b.items d) }
+    ensures old_slots { IfOk result (λ b. OnlyOld layout.now b.items) }
+    ensures covered { IfOk result (λ b. Covered layout.now b.items) }
+    ensures aligned { IfOk result (λ b. EndsAligned layout.now b.items) }
+    ensures short { IfOk result (λ b. (d : Datum) → NotesRoot layout.now tape.entry d
+        → length b.items ≤ room_of layout.now d) }
+    ensures small { IfOk result (λ b. (d : Datum) → NotesRoot layout.now tape.entry d
+        → room_of layout.now d ≤ 2147483647) }
+    ensures too_big { IfErr result (λ e. (d : Datum) → NotesRoot layout.now tape.entry d → e ≡ TooBig
+        → 2147483647 < room_of layout.now d) }
+    ensures memory { IfErr result (λ e. (d : Datum) → NotesRoot layout.now tape.entry d → e ≡ Memory
+        → room_of layout.now d ≤ 2147483647) }
+{
+    // What is too big is so whatever memory there is.
+    let Some(_) = buffer_room(layout, tape.room()) else {
+        return Err(BuildFault::TooBig);
+    };
+    Ok(TapePlan::for_tape(alloc, layout, tape)?.finish())
 }

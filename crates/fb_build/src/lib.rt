@@ -2,10 +2,7 @@
 #![tactic(auto)]
 
 mod blocks;
-mod buffer_builder;
 mod buffers;
-mod data;
-mod drops;
 mod faults;
 mod laws;
 mod laying;
@@ -22,9 +19,7 @@ mod taped_ops;
 mod taped_references;
 mod taped_vtables;
 
-pub use buffer_builder::BufferBuilder;
-pub use buffers::{build, plan};
-pub use drops::{drop_entry, drop_value};
+pub use buffers::{build, lay_root, plan};
 pub use faults::BuildFault;
 pub use laws::{
     chunks_join, covered_by_its_value, covered_whole, examples_are_covered, examples_have_slack,
@@ -32,4 +27,5 @@ pub use laws::{
     reached_is_listed, reached_kept_in_front, runs_kept_by_more, tight_kept_in_front,
     zero_is_computed, zero_outside,
 };
+pub use noting::{Noting, is_default, is_reference};
 pub use plans::Plan;

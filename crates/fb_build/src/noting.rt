@@ -27,14 +27,16 @@ use std::alloc::{AllocError, Global};
 
 /// A tape, and the stored fields of the tables that aren't whole yet.
 #[derive(Drop)]
-pub(crate) struct Noting<'l> {
-    pub(crate) tape: Tape<'l>,
-    pub(crate) opened: OpenFields,
+pub struct Noting<'l> {
+    /// What is noted of texts, vectors and whole tables.
+    pub tape: Tape<'l>,
+    /// The stored fields of tables that stand in one another, the innermost table's last.
+    pub opened: OpenFields,
 }
 
 impl<'l> Noting<'l> {
     /// A tape of nothing.
-    pub(crate) fn new(alloc: Global, layout: &'l Layout) -> Noting<'l>
+    pub fn new(alloc: Global, layout: &'l Layout) -> Noting<'l>
         ensures layout { result.tape.layout ≡ layout.now }
         ensures waits { Waits result.tape [] }
         ensures whole { result.tape.unfinished ≡ [] }
@@ -49,7 +51,7 @@ impl<'l> Noting<'l> {
 }
 
 /// Whether a shape is stored as a reference.
-pub(crate) fn is_reference(shape: Shape) -> bool
+pub fn is_reference(shape: Shape) -> bool
     ensures { (L : LaidSchema) → result ≡ is_reference (shape_seen L shape) }
 {
     match shape {
@@ -110,7 +112,7 @@ fn note_entries(
 }
 
 /// Whether a number is the default of a scalar or enum in use that is neither optional nor required.
-fn is_default(slot: &FieldInfo, value: &Value) -> bool
+pub fn is_default(slot: &FieldInfo, value: &Value) -> bool
     ensures stored { (L : LaidSchema) → is_coded slot.now.shape ≡ false
         → is_stored (slot_seen L slot.now) (Some (view value.now)) ≡ not result }
 {

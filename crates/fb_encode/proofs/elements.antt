@@ -1,1 +1,1 @@
-pub mod OneElementMore
+pub mod ElementsAreNoted

@@ -1,1 +1,2 @@
 pub mod RefusalsComeInOrder
+pub mod RootIsNoted

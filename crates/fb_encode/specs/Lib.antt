@@ -1,2 +1,3 @@
 pub mod Encoded
-pub mod OneMore
+pub mod TreesNoted
+pub mod StoredAs

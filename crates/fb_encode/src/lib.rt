@@ -2,8 +2,10 @@
 #![tactic(auto)]
 
 mod elements;
+mod entries;
 mod faults;
-mod slots;
+mod parts;
+mod tables;
 mod trees;
 
 pub use faults::EncodeFault;

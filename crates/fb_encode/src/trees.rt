@@ -1,68 +1,49 @@
 //! Buffers of trees.
-ghost use Rattle.std.specs.Prelude.{◌≡◌, ◌⊎◌, [], IfErr, IfOk, length};
-ghost use Rattle.serde_json.specs.Data.{Data};
-ghost use Rattle.serde_json.specs.View.{view as tree_view, members_view};
+ghost use Rattle.std.specs.Prelude.{◌≡◌, ◌⊎◌, IfErr, IfOk};
+ghost use Rattle.serde_json.specs.View.{view as tree_view};
+ghost use Rattle.fb_value.specs.Datum.{Datum};
 ghost use Rattle.fb_json.specs.Means.{Means};
-ghost use Rattle.fb_json.specs.Refuses.{IsFirst};
-ghost use Rattle.fb_json.specs.Steps.{IsRoot};
-ghost use Rattle.fb_build.specs.BuiltSoFar.{root_slots, root_value};
+ghost use Rattle.fb_json.specs.Refuses.{IsFirst, MayLackMemory};
+ghost use Rattle.fb_build.specs.NotedRoots.{NotesRoot};
 ghost use Rattle.fb_encode.specs.Encoded.{EncodeRefused, IsEncoded};
 
 use crate::faults::EncodeFault;
-use crate::slots::note_slots;
-use fb_build::BufferBuilder;
-use fb_json::{
-    JsonFault, Source, first_fault_refuses, marks_of, meant_fits, root_members,
-    slots_decide_the_root,
-};
+use crate::parts::note_object;
+use fb_build::{Noting, lay_root};
+use fb_json::{JsonFault, Place, Source, first_fault_refuses, meant_fits, only_what_is_meant};
 use fb_layout::Layout;
+use fb_tape::Tape;
 use fb_value::Limits;
-use serde_json::{Map, Value as Json};
+use serde_json::Value as Json;
 use std::alloc::Global;
 
-/// Notes what the root's members give, but for the root's table itself.
-fn note_root<'l>(
-    source: Source<'l>,
-    members: Map<String, Json>,
-    limits: Limits,
-) -> Result<BufferBuilder<'l>, JsonFault>
-    ensures layout { IfOk result (λ b. b.layout ≡ source.entry.layout.now) }
-    ensures all { IfOk result (λ b. length b.entries ≡ length (root_slots b.layout)) }
-    ensures none { IfOk result (λ b. b.elements ≡ []) }
-    ensures value { (t : Data) → IsRoot limits t (members_view members.entries) →
-        IfOk result (λ b. Means source.entry.layout.now limits source.entry.unknown t (root_value b)) }
-    ensures first { (t : Data) → IsRoot limits t (members_view members.entries) →
-        IfErr result (λ f. (f ≡ JsonFault.Memory) ⊎ IsFirst source.entry.layout.now limits source.entry.unknown t f) }
+/// A tape on which the value is noted that a tree means under the root table.
+fn note_root<'l>(source: Source<'l>, tree: &Json, limits: Limits) -> Result<Tape<'l>, JsonFault>
+    ensures noted { let L = source.entry.layout.now in IfOk result (λ t. (d : Datum)
+        × NotesRoot L t d × Means L limits source.entry.unknown (tree_view tree.now) d) }
+    ensures first { IfErr result (λ f. (f ≡ JsonFault.Memory)
+        ⊎ IsFirst source.entry.layout.now limits source.entry.unknown (tree_view tree.now) f) }
+    ensures memory { IfErr result (MayLackMemory limits (tree_view tree.now)) }
 {
-    slots_decide_the_root();
+    only_what_is_meant();
     let root = source.layout.schema().root();
-    let slots = source.layout.slots_of(root);
-    let marks = marks_of(source, root, slots, &members)?;
-    let marks = marks.as_slice();
-    let mut builder = BufferBuilder::new(source.alloc, source.layout);
-    let levels = limits.most_depth().saturating_sub(1);
-    let left = limits.most_cells().saturating_sub(1);
-    match note_slots(
-        source,
-        &mut builder,
-        members,
-        root,
-        slots,
-        marks,
-        levels,
-        left,
-    ) {
-        Ok(_left) => Ok(builder),
-        Err(fault) => Err(fault),
-    }
+    let place = Place {
+        owner: root,
+        slot: None,
+    };
+    let levels = limits.most_depth();
+    let cells = limits.most_cells();
+    let mut noting = Noting::new(source.alloc, source.layout);
+    let _left = note_object(source, &mut noting, tree, root, place, levels, cells)?;
+    let Noting { tape, .. } = noting;
+    Ok(tape)
 }
 
 /// The bytes that encode the value that a tree means under a layout, as the root table's.
 ///
-/// The tree is given away. What a slot of the root's table has is noted once it is read, and an element of its vectors
-/// of texts and tables too, and then dropped: only one of them is in memory at a time. Memory for the bytes is taken
-/// once the tree is dropped, and before the first of them is laid. The error is that of the tree's first fault, and
-/// then that of the value's size.
+/// The tree is given away: its value is noted on a tape, and then the tree is dropped. Memory for the bytes is taken
+/// behind that, and before the first of them is laid. The error is that of the tree's first fault, and then that of
+/// the value's size.
 pub fn encode_tree(
     alloc: Global,
     layout: &Layout,
@@ -80,15 +61,12 @@ pub fn encode_tree(
         layout,
         unknown,
     };
-    let members = match root_members(layout, tree, limits) {
-        Ok(members) => members,
+    let tape = match note_root(source, &tree, limits) {
+        Ok(tape) => tape,
         Err(fault) => return Err(EncodeFault::Json(fault)),
     };
-    let builder = match note_root(source, members, limits) {
-        Ok(builder) => builder,
-        Err(fault) => return Err(EncodeFault::Json(fault)),
-    };
-    match builder.finish() {
+    drop(tree);
+    match lay_root(alloc, layout, tape) {
         Ok(bytes) => Ok(bytes),
         Err(fault) => Err(EncodeFault::Build(fault)),
     }

@@ -15,7 +15,7 @@ use Rattle.fb_build.specs.Fields.{HasDefault}
 use Rattle.fb_build.proofs.fields.CodeIsBeforeItsUnion.{unmapped}
 
 -- the marks of a table's field fit its shape
-marks_at : (S : DeclaredSchema) → IsDeclared S → (t k : ℕ) (f : DeclaredField)
+pub marks_at : (S : DeclaredSchema) → IsDeclared S → (t k : ℕ) (f : DeclaredField)
     → slice_get (slots_in (body_at S t)) k ≡ Some f → MarksFit S f f.shape
 marks_at S declared t k f at = by_type (slice_get S.types t) refl at
   where

@@ -1,17 +1,15 @@
 -- What is refused of a tree.
-use Rattle.std.proofs.Common.{◌≡◌, ◌<◌, ◌≤◌, ◌⊎◌, ◌≢◌, inl, inr, refl, Bool}
-use Rattle.serde_json.specs.Data.{Data, Members}
+use Rattle.std.proofs.Common.{◌≡◌, ◌<◌, ◌≤◌, ◌⊎◌, inl, inr, refl, Bool}
+use Rattle.serde_json.specs.Data.{Data}
 use Rattle.fb_layout.specs.Laid.{LaidSchema}
 use Rattle.fb_value.specs.Bounds.{Bounds}
 use Rattle.fb_value.specs.Datum.{Datum}
 use Rattle.fb_value.specs.Room.{room_of}
 use Rattle.fb_json.specs.Laws.{FirstFaultRefuses}
 use Rattle.fb_json.specs.Means.{Means}
-use Rattle.fb_json.specs.Refuses.{IsFirst}
-use Rattle.fb_json.specs.Steps.{IsRoot}
+use Rattle.fb_json.specs.Refuses.{IsFirst, MayLackMemory}
 use Rattle.fb_json.specs.declared.faults.JsonFault.{JsonFault}
 use Rattle.fb_json.specs.declared.faults.JsonFault.TheVariants as the_json
-use Rattle.fb_json.proofs.slots.RootIsReadBySlots.{root_may_lack}
 use Rattle.fb_build.specs.declared.faults.BuildFault.{BuildFault}
 use Rattle.fb_build.specs.declared.faults.BuildFault.TheVariants as the_build
 use Rattle.fb_encode.specs.Encoded.{BreaksARule, EncodeRefused, TreeRefused}
@@ -22,47 +20,30 @@ module _ (L : LaidSchema) (most : Bounds) (unknown : Bool) (t : Data) where
   breaks law f first =
       let both = law L most unknown t f first in record { refuses = both.0; first = first; none = both.1 }
 
-  by_fault : (f : JsonFault) → f ≢ the_json.Memory → BreaksARule L most unknown t f → TreeRefused L most unknown t f
-  by_fault the_json.Memory other h = absurd (other refl)
-  by_fault (the_json.WrongShape at) other h = h
-  by_fault (the_json.NotWhole at) other h = h
-  by_fault (the_json.OutOfRange at) other h = h
-  by_fault (the_json.UnknownName at) other h = h
-  by_fault (the_json.UnknownMember at) other h = h
-  by_fault (the_json.MissingMember at) other h = h
-  by_fault (the_json.MissingRequired at) other h = h
-  by_fault (the_json.UnionMismatch at) other h = h
-  by_fault (the_json.TooDeep at) other h = h
-  by_fault (the_json.TooManyCells at) other h = h
-
-  pub first_refused : FirstFaultRefuses → (f : JsonFault) → f ≢ the_json.Memory → IsFirst L most unknown t f
-      → TreeRefused L most unknown t f
-  first_refused law f other first = by_fault f other (breaks law f first)
-
-  -- or memory ran out, once the root has members
-  pub memory_refused : FirstFaultRefuses → (ms : Members) → IsRoot most t ms → (f : JsonFault)
+  -- the tree's first fault, or memory ran out where it may
+  pub tree_refused : FirstFaultRefuses → (f : JsonFault) → MayLackMemory most t f
       → (f ≡ the_json.Memory) ⊎ IsFirst L most unknown t f → TreeRefused L most unknown t f
-  memory_refused law ms root the_json.Memory h = root_may_lack most t ms root the_json.Memory
-  memory_refused law ms root (the_json.WrongShape at) (inl m) = cc
-  memory_refused law ms root (the_json.WrongShape at) (inr h) = breaks law _ h
-  memory_refused law ms root (the_json.NotWhole at) (inl m) = cc
-  memory_refused law ms root (the_json.NotWhole at) (inr h) = breaks law _ h
-  memory_refused law ms root (the_json.OutOfRange at) (inl m) = cc
-  memory_refused law ms root (the_json.OutOfRange at) (inr h) = breaks law _ h
-  memory_refused law ms root (the_json.UnknownName at) (inl m) = cc
-  memory_refused law ms root (the_json.UnknownName at) (inr h) = breaks law _ h
-  memory_refused law ms root (the_json.UnknownMember at) (inl m) = cc
-  memory_refused law ms root (the_json.UnknownMember at) (inr h) = breaks law _ h
-  memory_refused law ms root (the_json.MissingMember at) (inl m) = cc
-  memory_refused law ms root (the_json.MissingMember at) (inr h) = breaks law _ h
-  memory_refused law ms root (the_json.MissingRequired at) (inl m) = cc
-  memory_refused law ms root (the_json.MissingRequired at) (inr h) = breaks law _ h
-  memory_refused law ms root (the_json.UnionMismatch at) (inl m) = cc
-  memory_refused law ms root (the_json.UnionMismatch at) (inr h) = breaks law _ h
-  memory_refused law ms root (the_json.TooDeep at) (inl m) = cc
-  memory_refused law ms root (the_json.TooDeep at) (inr h) = breaks law _ h
-  memory_refused law ms root (the_json.TooManyCells at) (inl m) = cc
-  memory_refused law ms root (the_json.TooManyCells at) (inr h) = breaks law _ h
+  tree_refused law the_json.Memory may h = may
+  tree_refused law (the_json.WrongShape at) may (inl m) = cc
+  tree_refused law (the_json.WrongShape at) may (inr h) = breaks law _ h
+  tree_refused law (the_json.NotWhole at) may (inl m) = cc
+  tree_refused law (the_json.NotWhole at) may (inr h) = breaks law _ h
+  tree_refused law (the_json.OutOfRange at) may (inl m) = cc
+  tree_refused law (the_json.OutOfRange at) may (inr h) = breaks law _ h
+  tree_refused law (the_json.UnknownName at) may (inl m) = cc
+  tree_refused law (the_json.UnknownName at) may (inr h) = breaks law _ h
+  tree_refused law (the_json.UnknownMember at) may (inl m) = cc
+  tree_refused law (the_json.UnknownMember at) may (inr h) = breaks law _ h
+  tree_refused law (the_json.MissingMember at) may (inl m) = cc
+  tree_refused law (the_json.MissingMember at) may (inr h) = breaks law _ h
+  tree_refused law (the_json.MissingRequired at) may (inl m) = cc
+  tree_refused law (the_json.MissingRequired at) may (inr h) = breaks law _ h
+  tree_refused law (the_json.UnionMismatch at) may (inl m) = cc
+  tree_refused law (the_json.UnionMismatch at) may (inr h) = breaks law _ h
+  tree_refused law (the_json.TooDeep at) may (inl m) = cc
+  tree_refused law (the_json.TooDeep at) may (inr h) = breaks law _ h
+  tree_refused law (the_json.TooManyCells at) may (inl m) = cc
+  tree_refused law (the_json.TooManyCells at) may (inr h) = breaks law _ h
 
   pub build_refused : (d : Datum) → Means L most unknown t d → (f : BuildFault)
       → (f ≡ the_build.TooBig → 2147483647 < room_of L d) → (f ≡ the_build.Memory → room_of L d ≤ 2147483647)

@@ -4,7 +4,7 @@ use Rattle.fb_value.specs.View.{view, parts_in}
 use Rattle.fb_tape.specs.NamedParts.{elements_apart}
 use Rattle.fb_build.specs.Fields.{kind_seen, slots_seen, entries_seen}
 use Rattle.fb_build.specs.Noted.{AddsParts}
-use Rattle.fb_build.proofs.noting.SlotsAreNoted.{AreNotedUpTo}
+use Rattle.fb_build.proofs.noted.SlotsAreNoted.{AreNotedUpTo}
 use Rattle.fb_build.proofs.noting.+noting.Given as goal
 
 abbrev pub invariant-note_entries-loop-k : goal.invariant-note_entries-loop-k

@@ -7,7 +7,7 @@ use Rattle.fb_value.proofs.types.EachVariantHasItsView.{count-parts_view}
 use Rattle.fb_build.proofs.tables.PartsFitTheirSlots.{items_known}
 use Rattle.fb_value.specs.View.{view}
 use Rattle.fb_build.specs.Fields.{kind_seen}
-use Rattle.fb_build.proofs.noting.ElementsAreNoted.{element_inline, each_fits, seen_more, all_seen}
+use Rattle.fb_build.proofs.noted.ElementsAreNoted.{element_inline, each_fits, seen_more, all_seen}
 use Rattle.fb_build.proofs.noting.note_elements.Goals as goal
 
 pub loop-item-init : goal.loop-item-init

@@ -1,20 +1,30 @@
-use Rattle.std.proofs.Common.{◌≡◌, ◌+◌, length, reverse, vec_len}
+use Rattle.std.proofs.Common.{◌≡◌, ◌≤◌, ◌+◌, List, length, drop}
 use Rattle.serde_json.specs.View.{items_view}
+use Rattle.fb_layout.specs.Laid.{stored_kind}
+use Rattle.fb_value.specs.Datum.{Datum}
+use Rattle.fb_value.specs.Room.{vector_room}
+use Rattle.fb_tape.specs.NamedParts.{NamedPart}
+use Rattle.fb_tape.specs.Tapes.{IsUnfinished, Waits}
 use Rattle.fb_json.specs.Meant.{items_meant}
 use Rattle.fb_json.proofs.slots.OneSlotOrFieldMore.{after}
+use Rattle.fb_build.specs.Apart.{EachElementFits}
 use Rattle.fb_encode.proofs.elements.note_elements.Given as goal
 
 abbrev pub invariant-loop-element : goal.invariant-loop-element
 invariant-loop-element l = record {
-  gives : items_meant l.source.layout.now l.source.unknown (items_view l.fn.elements.items) l.kind l.place l.levels
-      l.fn.left
-      ≡ after l.builder.elements
-      (items_meant l.source.layout.now l.source.unknown (items_view (reverse l.elements.items)) l.kind
+  elements : List Datum;
+  gives : items_meant l.source.layout.now l.source.unknown (items_view l.elements) l.kind l.place l.levels l.fn.left
+      ≡ after elements
+      (items_meant l.source.layout.now l.source.unknown (items_view (drop l.element-index l.elements)) l.kind
       l.place l.levels l.left);
-  entries : l.builder.entries ≡ l.fn.builder.entries;
-  layout : l.builder.layout ≡ l.fn.builder.layout;
-  count : length l.builder.elements + vec_len l.elements ≡ vec_len l.fn.elements;
+  count : length elements ≡ l.element-index;
+  fits : EachElementFits l.source.layout.now (stored_kind l.source.layout.now.schema l.kind) elements;
+  waits : (others : List NamedPart) → Waits l.fn.tape others → Waits l.tape others;
+  unfinished : l.fn.tape.room
+      + vector_room l.source.layout.now (stored_kind l.source.layout.now.schema l.kind) (length l.elements)
+      ≤ 2147483647
+      → IsUnfinished l.source.layout.now (stored_kind l.source.layout.now.schema l.kind) (length l.elements) elements
+      l.tape.unfinished;
+  room : l.tape.room ≡ l.fn.tape.room;
+  layout : l.tape.layout ≡ l.source.layout.now;
 }
-
-abbrev pub decreases-loop-element : goal.decreases-loop-element
-decreases-loop-element l = vec_len l.elements

@@ -6,7 +6,7 @@ use Rattle.fb_layout.specs.Laid.{stored_shape}
 use Rattle.fb_value.specs.View.{view}
 use Rattle.fb_tape.specs.OpenFields.{reference_field}
 use Rattle.fb_build.specs.Fields.{is_stored, kind_seen, slot_seen}
-use Rattle.fb_build.proofs.noting.EntryHasItsFields.{inline_fields, member_fields, member_of, no_code, no_fields, reference_fields}
+use Rattle.fb_build.proofs.noted.EntryHasItsFields.{inline_fields, member_fields, member_of, no_code, no_fields, reference_fields}
 use Rattle.fb_build.proofs.noting.+noting.Goals as goal
 use Rattle.fb_build.proofs.noting.+noting.Goals.{note_entry-in-Some-code_of+in_ok-push_code, note_entry-in_default-code_of}
 

@@ -17,7 +17,7 @@ use Rattle.fb_build.specs.Fields.{slots_seen, stored_here, stored_in, next_code,
 use Rattle.fb_build.specs.Noted.{AddsSlots}
 use Rattle.fb_build.specs.Parts.{TableKnown}
 use Rattle.fb_build.proofs.fields.SlotStoresItsEntry.{slots_at, entries_at, slots_long, entries_long}
-use Rattle.fb_build.proofs.noting.SlotsAreNoted.{none_noted, next_noted, all_noted}
+use Rattle.fb_build.proofs.noted.SlotsAreNoted.{none_noted, next_noted, all_noted}
 use Rattle.fb_build.proofs.tables.CodeSlotHasNoEntry.{stored_get}
 use Rattle.fb_build.proofs.tables.PartsFitTheirSlots.{known_of, slots_are}
 use Rattle.fb_build.proofs.noting.+noting.Goals as goal

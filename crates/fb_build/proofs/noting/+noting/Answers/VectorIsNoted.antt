@@ -12,9 +12,9 @@ use Rattle.fb_value.proofs.types.EachVariantHasItsView.{view-Fields, count-parts
 use Rattle.fb_build.specs.Fields.{kind_seen, shape_seen}
 use Rattle.fb_build.proofs.apart.OneMoreFits.{parts_room_more}
 use Rattle.fb_build.proofs.rooms.RoomsAddUp.{table_entries}
-use Rattle.fb_build.proofs.noting.ElementsAreNoted.{each_fits, seen_more}
-use Rattle.fb_build.proofs.noting.PartsFollow.{nothing_apart, table_named, element_simple, each_whole, named_more}
-use Rattle.fb_build.proofs.noting.PartsAreAdded.{adds_then, adds_same}
+use Rattle.fb_build.proofs.noted.ElementsAreNoted.{each_fits, seen_more}
+use Rattle.fb_build.proofs.noted.PartsFollow.{nothing_apart, table_named, element_simple, each_whole, named_more}
+use Rattle.fb_build.proofs.noted.PartsAreAdded.{adds_then, adds_same}
 use Rattle.fb_build.proofs.tables.PartsFitTheirSlots.{items_known}
 use Rattle.fb_build.proofs.noting.+noting.Goals as goal
 

@@ -1,0 +1,2 @@
+pub mod SlotStoresNothing
+pub mod PresentEntryIsNoted

@@ -1,0 +1,3 @@
+pub mod TreesByTheirKind
+pub mod TextIsNoted
+pub mod ArrayIsNoted

@@ -1,0 +1,89 @@
+-- The root's value is noted, and is what the tree means.
+use Rattle.std.proofs.Common.{◌≡◌, ◌∙◌, ◌+◌, ◌∷◌, [], ℕ, Bool, List, Option, None, Some, Ok, refl, sym, ap, subst, arith}
+use Rattle.serde_json.specs.Data.{Data}
+use Rattle.fb_schema.specs.declared.kinds.Kind.TheVariants.{Table}
+use Rattle.fb_schema.specs.declared.kinds.Shape.TheVariants.{One}
+use Rattle.fb_layout.specs.Laid.{LaidSchema, one_of, table_kind}
+use Rattle.fb_value.specs.Bounds.{Bounds}
+use Rattle.fb_value.specs.Datum.{Datum, a_number, a_text, a_vector, a_struct, a_table, a_member, an_unknown, SlotEntries}
+use Rattle.fb_value.specs.Datum.{no_entries, absent_entry, present_entry}
+use Rattle.fb_value.specs.Fits.{Fits}
+use Rattle.fb_value.specs.Places.{table_part}
+use Rattle.fb_value.specs.Room.{room}
+use Rattle.fb_value.specs.View.{entries_in}
+use Rattle.fb_tape.specs.Tapes.{MeansRoot, Taped, Waits}
+use Rattle.fb_json.specs.Laws.{OnlyWhatIsMeant}
+use Rattle.fb_json.specs.Means.{Means, MeansAs}
+use Rattle.fb_json.specs.Meant.{meant, type_place}
+use Rattle.fb_json.specs.Outcome.{Counted}
+use Rattle.fb_json.specs.Refuses.{root_meant}
+use Rattle.fb_build.specs.NotedRoots.{NotesRoot}
+use Rattle.fb_encode.specs.TreesNoted.{IsNoted}
+
+-- the entries of a table as a list
+entries_listed : SlotEntries → List (Option Datum)
+entries_listed no_entries = []
+entries_listed (absent_entry es) = None ∷ entries_listed es
+entries_listed (present_entry d es) = Some d ∷ entries_listed es
+
+are_listed : (es : SlotEntries) → entries_in (entries_listed es) ≡ es
+unfolding entries_listed
+are_listed no_entries = refl
+are_listed (absent_entry es) = ap absent_entry (are_listed es)
+are_listed (present_entry d es) = ap (present_entry d) (are_listed es)
+
+is_table : (L : LaidSchema) (t : ℕ) (d : Datum) → Fits L (one_of (table_kind t)) d
+    → (xs : List (Option Datum)) × (d ≡ a_table t (entries_in xs))
+is_table L t (a_table type es) fits =
+    (entries_listed es, ap (λ (n : ℕ). a_table n es) fits.0 ∙ ap (a_table t) (sym (are_listed es)))
+is_table L t (a_number n) fits = absurd fits
+is_table L t (a_text n) fits = absurd fits
+is_table L t (a_vector n) fits = absurd fits
+is_table L t (a_struct n) fits = absurd fits
+is_table L t (a_member n d) fits = absurd fits
+is_table L t (an_unknown n) fits = absurd fits
+
+module _ (L : LaidSchema) (most : Bounds) (unknown : Bool) (t : Data) (root levels left : ℕ)
+    (is : root ≡ L.schema.root) (deep : levels ≡ most.depth) (many : left ≡ most.cells) where
+  pub at_root : meant L unknown t (One (Table (record { 0 = root }))) (type_place root) levels left
+      ≡ root_meant L most unknown t
+  at_root = rw (is, deep, many) refl
+
+  module _ (a b : Taped) (rest : ℕ) (layout : a.layout ≡ L) (none : Waits a []) (empty : a.room ≡ 0)
+      (h : IsNoted L (one_of (table_kind root))
+      (meant L unknown t (One (Table (record { 0 = root }))) (type_place root) levels left) a b rest) where
+    pub root_notes : NotesRoot L b h.value
+    root_notes =
+        let table = is_table L root h.value h.fits in
+        let same = h.adds.layout ∙ layout in
+        let value : h.value ≡ a_table L.schema.root (entries_in table.0) =
+        table.1 ∙ ap (λ (n : ℕ). a_table n (entries_in table.0)) is in
+        let waits = h.adds.waits [] none in
+        let root_is : root ≡ b.layout.schema.root = is ∙ sym (ap (λ (M : LaidSchema). M.schema.root) same) in
+        let named : Waits b (record { target = table_part root; value = a_table root (entries_in table.0) } ∷ []) =
+        subst (λ (d : Datum). Waits b (record { target = table_part root; value = d } ∷ [])) table.1 waits in
+        record {
+          entries = table.0;
+          layout = same;
+          value_is = value;
+          means = subst (λ (n : ℕ). Waits b (record {
+            target = table_part n;
+            value = a_table n (entries_in table.0);
+          } ∷ [])) root_is named;
+          sum = omega (
+            arith,
+            h.adds.sum,
+            empty,
+            ap (λ (n : ℕ). room L (one_of (table_kind n)) h.value) is,
+          );
+        }
+
+    pub root_means : OnlyWhatIsMeant → Means L most unknown t h.value
+    root_means law =
+        let good = law L unknown t (One (Table (record { 0 = root }))) (type_place root) levels left (h.value, rest)
+        h.given_is in
+        (
+          subst (λ (n : ℕ). MeansAs L unknown t (One (Table (record { 0 = n }))) h.value) is good.0,
+          omega (arith, good.2, deep),
+          omega (arith, good.1, many),
+        )

@@ -1,0 +1,82 @@
+-- What a tree adds to a tape while it is read: the value that it gives waits there, and its cells are spent.
+use Rattle.std.specs.Prelude.{ℕ, ◌≡◌, ◌≤◌, true, Bool, List, Option, None, Some, Result, Ok, Err, length, slice_get}
+use Rattle.std.specs.Prelude.{if◌then◌else◌}
+use Rattle.serde_json.specs.Data.{Data}
+use Rattle.fb_schema.specs.Schema.{DeclaredField}
+use Rattle.fb_layout.specs.Laid.{LaidSchema, Slot, StoredKind, StoredShape, align_of, one_of, slots_of, vector_of}
+use Rattle.fb_layout.specs.Widths.{greatest}
+use Rattle.fb_value.specs.Counts.{is_whole}
+use Rattle.fb_value.specs.Datum.{Datum, a_vector}
+use Rattle.fb_value.specs.Entries.{EntryFits, entry_room}
+use Rattle.fb_value.specs.Fits.{Fits}
+use Rattle.fb_value.specs.Room.{room, parts_room}
+use Rattle.fb_value.specs.View.{parts_in}
+use Rattle.fb_value.specs.declared.values.Value.{Value}
+use Rattle.fb_tape.specs.NamedParts.{apart_of, as_list, elements_apart, entry_apart}
+use Rattle.fb_tape.specs.OpenFields.{OpenField}
+use Rattle.fb_tape.specs.Tapes.{Taped}
+use Rattle.fb_json.specs.declared.faults.JsonFault.{JsonFault}
+use Rattle.fb_json.specs.declared.faults.Place.{Place}
+use Rattle.fb_json.specs.Meant.{Meaner, meant, unless_null, used_meant}
+use Rattle.fb_json.specs.Outcome.{Counted}
+use Rattle.fb_build.specs.Apart.{EachElementFits}
+use Rattle.fb_build.specs.Fields.{IsElement, is_reference}
+use Rattle.fb_build.specs.Noted.{AddsFields, AddsParts}
+use Rattle.fb_build.specs.Parts.{EntryWhole}
+
+-- The value that is given waits behind what waited, and so many cells are left.
+pub record IsNoted (L : LaidSchema) (shape : StoredShape) (given : Counted Datum) (a b : Taped) (rest : ℕ) : Type 0
+  where
+    pub value : Datum
+    pub given_is : given ≡ Ok (value, rest)
+    pub fits : Fits L shape value
+    pub whole : is_whole value ≡ true
+    pub adds : AddsParts a b (as_list (apart_of shape value)) (room L shape value)
+
+-- The entry that slot k is given: what its reference names waits, and its fields are open.
+pub record IsEntryNoted (L : LaidSchema) (k : ℕ) (f : Slot) (given : Counted (Option Datum)) (a b : Taped)
+    (before now : List OpenField) (rest : ℕ) : Type 0 where
+  pub entry : Option Datum
+  pub given_is : given ≡ Ok (entry, rest)
+  pub fits : EntryFits L f entry
+  pub whole : EntryWhole entry
+  pub adds : AddsParts a b (as_list (entry_apart f entry)) (entry_room L f entry)
+  pub fields : AddsFields L k f entry before now
+
+-- The values that a vector's elements are given wait, one behind the other.
+pub record AreElementsNoted (L : LaidSchema) (kind : StoredKind) (given : Counted (List Datum)) (count : ℕ)
+    (a b : Taped) (rest : ℕ) : Type 0 where
+  pub elements : List Datum
+  pub given_is : given ≡ Ok (elements, rest)
+  pub count_is : length elements ≡ count
+  pub fits : EachElementFits L kind elements
+  pub adds : AddsParts a b (elements_apart kind elements) (parts_room L kind (parts_in elements))
+
+-- what the member of a slot gives, if it has one that isn't null
+abbrev pub member_meant : LaidSchema → Bool → Option Data → Option Meaner
+member_meant L unknown None = None
+member_meant L unknown (Some t) = unless_null t (meant L unknown t)
+
+-- the entry of a slot by its member
+abbrev pub entry_given : LaidSchema → Bool → DeclaredField → Option Data → Place → ℕ → ℕ → ℕ → Counted (Option Datum)
+entry_given L unknown f o at code levels left = if f.deprecated then Ok (None, left)
+    else used_meant L f code (member_meant L unknown o) at levels left f.shape
+
+-- The shapes of what a reference names, but for a union's value.
+abbrev pub IsPart : LaidSchema → StoredShape → Type 0
+IsPart L (one_of kind) = IsElement L kind × (is_reference (one_of kind) ≡ true)
+IsPart L (vector_of kind) = IsElement L kind × (align_of L kind ≤ greatest L)
+
+-- slot k of a table
+abbrev pub IsSlot : LaidSchema → ℕ → ℕ → Slot → Type 0
+IsSlot L t k f = slice_get (slots_of L t) k ≡ Some f
+
+-- the vector of what its elements give
+abbrev pub vector_given : Counted (List Datum) → Counted Datum
+vector_given (Ok xs) = Ok (a_vector (parts_in xs.0), xs.1)
+vector_given (Err e) = Err e
+
+-- the cells that are left behind an entry
+abbrev pub left_of : Result (Option Value × ℕ) JsonFault → Result ℕ JsonFault
+left_of (Ok x) = Ok x.1
+left_of (Err e) = Err e
