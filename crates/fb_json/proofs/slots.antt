@@ -2,6 +2,7 @@
 pub mod MemberAtItsSlot
 pub mod OneSlotOrFieldMore
 pub mod OtherMembersStay
+pub mod PartsNestLess
 pub mod RootIsReadBySlots
 pub mod SlotsAreNamedApart
 pub mod SlotsDecideTheTable

@@ -5,7 +5,7 @@ use Rattle.std.proofs.lemmas.Option.{slice_get-map, slice_get-get_or}
 use Rattle.serde_json.specs.declared.value.Value.{Value}
 use Rattle.serde_json.specs.Data.{Members}
 use Rattle.serde_json.specs.Find.{get_member}
-use Rattle.fb_schema.specs.Schema.{DeclaredField}
+use Rattle.fb_schema.specs.Schema.{Name, DeclaredField}
 use Rattle.fb_layout.specs.Laid.{LaidSchema}
 use Rattle.fb_json.specs.Meant.{look}
 use Rattle.fb_json.specs.SlotMembers.{AreMembersOf, looked_up, tree_seen}
@@ -15,6 +15,11 @@ meaning_of : (L : LaidSchema) (unknown : Bool) (r : Option (Bor Value))
     → option_map (with_meaning L unknown) (tree_seen r) ≡ looked_up L unknown r
 meaning_of L unknown None = refl
 meaning_of L unknown (Some t) = refl
+
+pub looked_up_by : (L : LaidSchema) (unknown : Bool) (ms : Members) (name : Name) (r : Option (Bor Value))
+    → get_member name ms ≡ tree_seen r → look L unknown ms name ≡ looked_up L unknown r
+looked_up_by L unknown ms name r found =
+    looked L unknown ms name ∙ (ap (option_map (with_meaning L unknown)) found ∙ meaning_of L unknown r)
 
 module _ (trees : List (Option (Bor Value))) (fs : List DeclaredField) (ms : Members)
     (are : AreMembersOf trees fs ms) (k : ℕ) (f : DeclaredField) (slot : slice_get fs k ≡ Some f)
@@ -28,9 +33,7 @@ module _ (trees : List (Option (Bor Value))) (fs : List DeclaredField) (ms : Mem
 
   pub looked_up_at : (L : LaidSchema) (unknown : Bool) → slice_get trees k ≡ Some r
       → look L unknown ms f.name ≡ looked_up L unknown r
-  looked_up_at L unknown there =
-      looked L unknown ms f.name
-      ∙ (ap (option_map (with_meaning L unknown)) (member_at there) ∙ meaning_of L unknown r)
+  looked_up_at L unknown there = looked_up_by L unknown ms f.name r (member_at there)
 
 -- the same where the place is read as `trees[k]`
 pub read_at : (trees : List (Option (Bor Value))) (k : ℕ) (r : Option (Bor Value)) → k < length trees
