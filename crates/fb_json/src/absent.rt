@@ -61,6 +61,8 @@ pub fn is_absent(slot: &FieldInfo, tree: Option<&Json>) -> bool
     ensures entry { (L : LaidSchema) (seen : Look) (place : Place) (code levels left : ℕ) → result ≡ true →
         let f = field_seen slot.now in seen f.name ≡ None → entry_meant L seen f place code levels left
         ≡ Ok (option_map a_number (slot_of L.schema f).if_absent, left) }
+    ensures others { result ≡ false → tree.entry ≡ None → slot.now.required ≡ false
+        → is_of_union slot.now.shape ≡ true }
 {
     match tree {
         None => !slot.required && !is_of_union(slot),
