@@ -11,13 +11,13 @@ use Rattle.fb_value.specs.View.{view}
 use Rattle.fb_json.specs.Meant.{look, slot_place, entry_meant, part_meant}
 use Rattle.fb_json.specs.SlotMembers.{looked_up}
 use Rattle.fb_json.proofs.members.MapFindsTheMembers.{found_by_map, found_some, found_none}
-use Rattle.fb_json.proofs.slots.MemberAtItsSlot.{looked_up_at, read_at}
+use Rattle.fb_json.proofs.slots.MemberAtItsSlot.{looked_up_in}
 use Rattle.fb_json.proofs.slots.PartsNestLess.{item_nested, member_nested, most_nested, slots_nested}
 use Rattle.fb_json.proofs.slots.PartsNestLess.{tree_within}
-use Rattle.fb_json.proofs.slots.OneSlotOrFieldMore.{slot_at, fails_is, fails_by, slots_next, slots_untold}
+use Rattle.fb_json.proofs.slots.OneSlotOrFieldMore.{fails_is, fails_by, slots_next, slots_untold}
 use Rattle.fb_json.proofs.slots.OneSlotOrFieldMore.{slots_ungiven, slots_end, parts_next, parts_ungiven, parts_end}
 use Rattle.fb_json.proofs.slots.OneSlotOrFieldMore.{counted}
-use Rattle.fb_json.proofs.tree.EntryIsWhatTheLookUpFinds.{entry_none, entry_some}
+use Rattle.fb_json.proofs.slots.EntryIsWhatTheLookUpFinds.{entry_none, entry_some}
 use Rattle.fb_json.proofs.tree.+tree.Goals as goal
 
 pub items-value-requires : goal.items-value-requires
@@ -52,11 +52,9 @@ pub entries-returns-in_err-code : goal.entries-returns-in_err-code
 entries-returns-in_err-code t c ms are =
     let L = c.args.source.layout.now in
     let seen = look L c.args.source.unknown ms in
-    let f = field_seen c.index-slots-k.result in
-    let told = c.in_err-code.ensures seen (looked_up_at c.args.trees.now (map field_seen c.args.slots.now) ms are
-    c.loop-k.k f (slot_at c.args.slots.now c.loop-k.k c.index-slots-k.result c.loop-k-test.true c.index-slots-k.is)
-    c.index-trees-k.result L c.args.source.unknown
-    (read_at c.args.trees.now c.loop-k.k c.index-trees-k.result (omega arith) c.index-trees-k.is)) in
+    let told = c.in_err-code.ensures seen (looked_up_in c.args.trees.now c.args.slots.now ms are c.loop-k.k
+    c.index-slots-k.result c.loop-k-test.true c.index-slots-k.is c.index-trees-k.result (omega arith)
+    c.index-trees-k.is L c.args.source.unknown) in
     let p = err_from_is_err_and c.from_residual-in_err-code.result c.from_residual-in_err-code.ensures.1 in
     rw (p.1, p.2) (fails_is c.in_err-code.field-0.0 _
     (c.loop-k.invariant.gives ms are ∙ slots_untold L seen c.args.owner.0 c.args.slots.now c.loop-k.k
@@ -68,10 +66,9 @@ entries-returns-in_err-entry t c ms are =
     let L = c.args.source.layout.now in
     let seen = look L c.args.source.unknown ms in
     let f = field_seen c.index-slots-k.result in
-    let found = looked_up_at c.args.trees.now (map field_seen c.args.slots.now) ms are c.loop-k.k f
-    (slot_at c.args.slots.now c.loop-k.k c.index-slots-k.result c.loop-k-test.true c.index-slots-k.is)
-    c.index-trees-k.result L c.args.source.unknown
-    (read_at c.args.trees.now c.loop-k.k c.index-trees-k.result (omega arith) c.index-trees-k.is) in
+    let found = looked_up_in c.args.trees.now c.args.slots.now ms are c.loop-k.k c.index-slots-k.result
+    c.loop-k-test.true c.index-slots-k.is c.index-trees-k.result (omega arith) c.index-trees-k.is L
+    c.args.source.unknown in
     let p = err_from_is_err_and c.from_residual-in_err-entry.result c.from_residual-in_err-entry.ensures.1 in
     rw (p.1, p.2) (fails_by c.in_err-entry.field-0.0
     (entry_meant L seen f (slot_place c.args.owner.0 c.loop-k.k) c.in_ok-code.code c.args.levels c.loop-k.left) _
@@ -93,10 +90,9 @@ entries-loop-k-preserved-then-is_absent t c =
     record {
       gives = λ ms are.
           let seen = look L c.args.source.unknown ms in
-          let found = looked_up_at c.args.trees.now (map field_seen c.args.slots.now) ms are c.loop-k.k f
-          (slot_at c.args.slots.now c.loop-k.k c.index-slots-k.result c.loop-k-test.true c.index-slots-k.is)
-          c.index-trees-k.result L c.args.source.unknown
-          (read_at c.args.trees.now c.loop-k.k c.index-trees-k.result (omega arith) c.index-trees-k.is) in
+          let found = looked_up_in c.args.trees.now c.args.slots.now ms are c.loop-k.k c.index-slots-k.result
+          c.loop-k-test.true c.index-slots-k.is c.index-trees-k.result (omega arith) c.index-trees-k.is L
+          c.args.source.unknown in
           let none = found ∙ ap (looked_up L c.args.source.unknown) (c.is_absent.ensures.none c.if-is_absent.true) in
           rw e (c.loop-k.invariant.gives ms are ∙ slots_next L seen c.args.owner.0 c.args.slots.now c.loop-k.k
           c.index-slots-k.result c.loop-k-test.true c.index-slots-k.is (map (option_map view) c.loop-k.found.items)
@@ -110,17 +106,15 @@ entries-loop-k-preserved-then-is_absent t c =
 pub entries-loop-k-preserved : goal.entries-loop-k-preserved
 entries-loop-k-preserved t c =
     let L = c.args.source.layout.now in
-    let f = field_seen c.index-slots-k.result in
     let e : map (option_map view) c.push_reserved-in-loop-k.new.self.items
     ≡ map (option_map view) c.loop-k.found.items ++ option_map view c.in_ok-entry.entry ∷ [] =
     rw c.push_reserved-in-loop-k.ensures.items (map_push _ c.loop-k.found.items c.in_ok-entry.entry) in
     record {
       gives = λ ms are.
           let seen = look L c.args.source.unknown ms in
-          let found = looked_up_at c.args.trees.now (map field_seen c.args.slots.now) ms are c.loop-k.k f
-          (slot_at c.args.slots.now c.loop-k.k c.index-slots-k.result c.loop-k-test.true c.index-slots-k.is)
-          c.index-trees-k.result L c.args.source.unknown
-          (read_at c.args.trees.now c.loop-k.k c.index-trees-k.result (omega arith) c.index-trees-k.is) in
+          let found = looked_up_in c.args.trees.now c.args.slots.now ms are c.loop-k.k c.index-slots-k.result
+          c.loop-k-test.true c.index-slots-k.is c.index-trees-k.result (omega arith) c.index-trees-k.is L
+          c.args.source.unknown in
           rw e (c.loop-k.invariant.gives ms are ∙ slots_next L seen c.args.owner.0 c.args.slots.now c.loop-k.k
           c.index-slots-k.result c.loop-k-test.true c.index-slots-k.is (map (option_map view) c.loop-k.found.items)
           c.loop-k.code c.args.levels c.loop-k.left c.in_ok-code.code c.in_ok-entry.rest
