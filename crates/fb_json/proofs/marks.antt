@@ -1,3 +1,2 @@
 -- What the proofs of src/marks.rt use.
-pub mod MemberIsAllowed
 pub mod NamedSlotIsMarked

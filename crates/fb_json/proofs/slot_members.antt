@@ -1,2 +1,4 @@
 -- What the proofs of src/slot_members.rt use.
+pub mod MemberIsAllowed
 pub mod MemberIsPutAtItsSlot
+pub mod NamedSlotIsFound

@@ -15,6 +15,21 @@ use fb_schema::{FieldInfo, Kind, Shape};
 use fb_value::Value;
 use serde_json::Value as Json;
 
+/// What a slot is given that has no member and needs none: its default, if it has one.
+#[inline(always)]
+pub(crate) fn default_of(slot: &FieldInfo) -> Option<Value>
+    ensures { (S : DeclaredSchema) → option_map view result
+        ≡ option_map a_number (slot_of S (field_seen slot.now)).if_absent }
+{
+    if slot.deprecated || slot.optional {
+        return None;
+    }
+    match slot.shape {
+        Shape::One(Kind::Scalar(_) | Kind::Enum(_)) => Some(Value::Number(slot.default)),
+        _ => None,
+    }
+}
+
 /// The entry of a slot that has no member.
 fn absent(slot: &FieldInfo, place: Place, left: u32) -> Result<(Option<Value>, u32), JsonFault>
     requires { slot.now.deprecated ≡ false }
@@ -22,44 +37,11 @@ fn absent(slot: &FieldInfo, place: Place, left: u32) -> Result<(Option<Value>, u
         Gives (λ x. (option_map view x.0, x.1)) result
         (as_absent s.if_absent s.required place left) }
 {
-    let number = match slot.shape {
-        Shape::One(Kind::Scalar(_) | Kind::Enum(_)) => !slot.optional,
-        _ => false,
-    };
-    if number {
-        return Ok((Some(Value::Number(slot.default)), left));
+    match default_of(slot) {
+        Some(number) => Ok((Some(number), left)),
+        None if slot.required => Err(JsonFault::MissingRequired(place)),
+        None => Ok((None, left)),
     }
-    if slot.required {
-        return Err(JsonFault::MissingRequired(place));
-    }
-    Ok((None, left))
-}
-
-/// Whether a slot without a mark is that of a scalar or enum in use that isn't optional: its default is its value.
-/// In a table of many fields most slots are so.
-#[tactic(auto, unfolding(crate::specs::Meant::code_after, crate::specs::Meant::plain_meant))]
-pub(crate) fn has_default(slot: &FieldInfo, marked: bool) -> bool
-    ensures unmarked { result ≡ true → marked ≡ false }
-    ensures used { result ≡ true → slot.now.deprecated ≡ false }
-    ensures code { (S : DeclaredSchema) (look : Look) (place : Place) (code : ℕ) → result ≡ true →
-        let f = field_seen slot.now in
-        code_after S look place code f.deprecated f.name f.shape ≡ Ok code }
-    ensures entry { (L : LaidSchema) (place : Place) (code levels left : ℕ) → result ≡ true →
-        let f = field_seen slot.now in
-        used_meant L f code None place levels left f.shape ≡ Ok (Some (a_number slot.now.default), left) }
-{
-    !marked
-        && !slot.deprecated
-        && !slot.optional
-        && matches!(slot.shape, Shape::One(Kind::Scalar(_) | Kind::Enum(_)))
-}
-
-/// The value that a slot's default is.
-#[inline(always)]
-pub(crate) fn default_of(slot: &FieldInfo) -> Value
-    ensures { view result ≡ a_number slot.now.default }
-{
-    Value::Number(slot.default)
 }
 
 /// Whether a slot is that of a union's code or of its value.
@@ -79,6 +61,8 @@ pub fn is_absent(slot: &FieldInfo, tree: Option<&Json>) -> bool
     ensures entry { (L : LaidSchema) (seen : Look) (place : Place) (code levels left : ℕ) → result ≡ true →
         let f = field_seen slot.now in seen f.name ≡ None → entry_meant L seen f place code levels left
         ≡ Ok (option_map a_number (slot_of L.schema f).if_absent, left) }
+    ensures others { result ≡ false → tree.entry ≡ None → slot.now.required ≡ false
+        → is_of_union slot.now.shape ≡ true }
 {
     match tree {
         None => !slot.required && !is_of_union(slot),

@@ -6,9 +6,10 @@ ghost use Rattle.fb_json.specs.Meant.{look, meant};
 ghost use Rattle.fb_json.specs.FaultPaths.{table_front, vector_front, slot_read, read_shape, rest_of, IsRefused};
 ghost use Rattle.fb_json.specs.FaultPaths.{slot_reader, field_reader, element_reader, AllRead, FirstRefused};
 
-use crate::codes::code_after;
+use crate::codes::code_of_slot;
 use crate::faults::{JsonFault, Place};
 use crate::members::known;
+use crate::slot_members::member_of;
 use crate::source::Source;
 use crate::tree::{entry, part, value};
 use fb_schema::{FieldInfo, Kind, Shape, TypeId};
@@ -74,11 +75,12 @@ fn slot_read(
         (field_seen slot.now) place code levels left in
         IfOk result (λ read. MatchOption read (IsRefused given) (λ x. given ≡ Ok (x.0, x.1))) }
 {
-    let told = match code_after(source, members, slot, place, code, true) {
+    let tree = member_of(members, slot);
+    let told = match code_of_slot(source, slot, tree, place, code) {
         Ok(told) => told,
         Err(_) => return Ok(None),
     };
-    match entry(source, members, slot, place, told, true, levels, left) {
+    match entry(source, slot, tree, place, told, levels, left) {
         Ok((_entry, rest)) => Ok(Some((told, rest))),
         Err(JsonFault::Memory) => Err(AllocError),
         Err(_) => Ok(None),

@@ -1,11 +1,12 @@
 //! The members of a table by its slots.
-ghost use Rattle.std.specs.Prelude.{◌≡◌, ◌||◌, None, Some, map, replicate, set, IfOk};
+ghost use Rattle.std.specs.Prelude.{◌≡◌, ◌||◌, Bool, None, Some, map, replicate, set, IfOk};
 ghost use Rattle.serde_json.specs.View.{members_view};
 ghost use Rattle.fb_schema.specs.Schema.{body_at, slots_in};
 ghost use Rattle.fb_schema.specs.Seen.{field_seen};
-ghost use Rattle.fb_json.specs.Meant.{if_known, names_known, type_place};
+ghost use Rattle.fb_layout.specs.Laid.{LaidSchema};
+ghost use Rattle.fb_json.specs.Meant.{if_known, look, names_known, type_place};
 ghost use Rattle.fb_json.specs.Outcome.{Gives};
-ghost use Rattle.fb_json.specs.SlotMembers.{AreMembersOf};
+ghost use Rattle.fb_json.specs.SlotMembers.{AreMembersOf, looked_up};
 
 use crate::faults::{JsonFault, Place};
 use crate::members::is_allowed;
@@ -58,4 +59,13 @@ pub fn members_by_slot<'t>(
         }
     }
     Ok(found)
+}
+
+/// The member of one slot.
+pub(crate) fn member_of<'t>(members: &'t Map<String, Json>, slot: &FieldInfo) -> Option<&'t Json>
+    ensures { (L : LaidSchema) (unknown : Bool) →
+        look L unknown (members_view members.now.entries) (field_seen slot.now).name
+        ≡ looked_up L unknown result }
+{
+    members.get(slot.name.as_str())
 }

@@ -12,11 +12,13 @@ ghost use Rattle.fb_value.specs.View.{view};
 ghost use Rattle.fb_json.specs.Meant.{entry_meant, look, meant, unless_null, used_meant};
 ghost use Rattle.fb_json.specs.Outcome.{Gives};
 ghost use Rattle.fb_json.specs.Refuses.{IsFirst};
+ghost use Rattle.fb_json.specs.SlotMembers.{looked_up};
 ghost use Rattle.fb_json.specs.Steps.{IsRoot, IsUnread, IsVectorInUse, SlotGives, TakenSlotFits};
 ghost use Rattle.fb_json.specs.Steps.{TakenSlotIsWhole, at_once};
 
 use crate::absent::{is_null, without};
 use crate::faults::{JsonFault, Place};
+use crate::slot_members::member_of;
 use crate::source::Source;
 use crate::tree::{entry, value};
 use fb_layout::Layout;
@@ -187,6 +189,25 @@ fn vector_taken(
     }
 }
 
+/// The member of a slot, which is looked for only where the slot is marked.
+fn marked_member<'t>(
+    members: &'t Map<String, Json>,
+    slot: &FieldInfo,
+    marked: bool,
+) -> Option<&'t Json>
+    requires { marked ≡ false
+        → get_member (field_seen slot.now).name (members_view members.now.entries) ≡ None }
+    ensures { (L : LaidSchema) (unknown : Bool) →
+        look L unknown (members_view members.now.entries) (field_seen slot.now).name
+        ≡ looked_up L unknown result }
+{
+    if marked {
+        member_of(members, slot)
+    } else {
+        None
+    }
+}
+
 /// What a slot's member gives. An array under a vector's slot in use is taken out of the object.
 fn slot_taken(
     source: Source,
@@ -214,7 +235,10 @@ fn slot_taken(
 {
     match kind_of_elements(slot) {
         Some(kind) => vector_taken(source, members, slot, kind, place, code, marked, left),
-        None => at_once(entry(source, members, slot, place, code, marked, levels, left)),
+        None => {
+            let tree = marked_member(members, slot, marked);
+            at_once(entry(source, slot, tree, place, code, levels, left))
+        }
     }
 }
 

@@ -1,23 +1,23 @@
 //! Values of trees under their types.
-ghost use Rattle.std.specs.Prelude.{◌≡◌, ◌≤◌, Some, None, false, IfErr, map, length, option_map};
-ghost use Rattle.serde_json.specs.Find.{get_member};
+ghost use Rattle.std.specs.Prelude.{◌≡◌, ◌≤◌, Some, false, IfErr, map, length, option_map};
+ghost use Rattle.serde_json.specs.Data.{Members};
 ghost use Rattle.serde_json.specs.View.{view as tree_view, items_view, members_view};
 ghost use Rattle.fb_schema.specs.Seen.{field_seen};
 ghost use Rattle.fb_layout.specs.Laid.{member_by_code};
 ghost use Rattle.fb_value.specs.View.{view};
-ghost use Rattle.fb_json.specs.MarkedSlots.{MarkNames};
 ghost use Rattle.fb_json.specs.Outcome.{Gives};
 ghost use Rattle.fb_json.specs.Refuses.{LeavesRoom};
 ghost use Rattle.fb_json.specs.Meant.{meant, items_meant, vector_meant, object_meant, table_meant, struct_meant};
-ghost use Rattle.fb_json.specs.Meant.{look, slots_meant, entry_meant, used_meant, unless_null, as_member};
+ghost use Rattle.fb_json.specs.Meant.{Look, look, slots_meant, entry_meant, used_meant, unless_null, as_member};
 ghost use Rattle.fb_json.specs.Meant.{parts_meant, part_meant};
+ghost use Rattle.fb_json.specs.SlotMembers.{AreMembersOf, looked_up};
 
-use crate::absent::{default_of, has_default, is_null, without};
-use crate::codes::code_after;
+use crate::absent::{default_of, is_absent, is_null, without};
+use crate::codes::code_of_slot;
 use crate::faults::{JsonFault, Place};
 use crate::leaves::leaf;
-use crate::marks::{is_marked, marks_of};
 use crate::members::known;
+use crate::slot_members::members_by_slot;
 use crate::source::Source;
 use fb_schema::{FieldInfo, Kind, Shape, TypeId};
 use fb_value::Value;
@@ -142,29 +142,28 @@ pub(crate) fn table(
         return Err(JsonFault::TooManyCells(place));
     }
     let slots = source.layout.slots_of(owner);
-    let marks = marks_of(source, owner, slots, members)?;
-    let marks = marks.as_slice();
-    let (entries, left) = entries(source, members, owner, slots, marks, levels - 1, left - 1)?;
+    let trees = members_by_slot(source, owner, slots, members)?;
+    let trees = trees.as_slice();
+    let (entries, left) = entries(source, owner, slots, trees, levels - 1, left - 1)?;
     Ok((Value::Fields(owner, entries), left))
 }
 
-/// Only of marked slots a member is looked for.
+/// What the slots of a table are given that have these members.
 #[cycle(tree)]
 fn entries(
     source: Source,
-    members: &Map<String, Json>,
     owner: TypeId,
     slots: &[FieldInfo],
-    marks: &[bool],
+    trees: &[Option<&Json>],
     levels: u8,
     left: u32,
 ) -> Result<(Vec<Option<Value>>, u32), JsonFault>
     requires few { length slots.now ≤ 32765 }
-    requires marks { MarkNames (map field_seen slots.now) marks.now (members_view members.now.entries) }
-    ensures { let L = source.entry.layout.now in
+    requires all { length trees.now ≡ length slots.now }
+    ensures { (ms : Members) → AreMembersOf trees.now (map field_seen slots.now) ms →
+        let L = source.entry.layout.now in
         Gives (λ x. (map (option_map view) x.0.items, x.1)) result
-        (slots_meant L (look L source.entry.unknown (members_view members.now.entries)) owner.0
-        (map field_seen slots.now) 0 0 levels left) }
+        (slots_meant L (look L source.entry.unknown ms) owner.0 (map field_seen slots.now) 0 0 levels left) }
 {
     let mut found = Vec::with_capacity(source.alloc, slots.len())?;
     let mut left = left;
@@ -174,46 +173,40 @@ fn entries(
             owner,
             slot: Some(k as u16),
         };
-        let marked = is_marked(marks, k);
-        if has_default(slot, marked) {
-            found.push_reserved(Some(default_of(slot)));
+        let tree = trees[k];
+        if is_absent(slot, tree) {
+            found.push_reserved(default_of(slot));
             continue;
         }
-        code = code_after(source, members, slot, place, code, marked)?;
-        let (entry, rest) = entry(source, members, slot, place, code, marked, levels, left)?;
+        code = code_of_slot(source, slot, tree, place, code)?;
+        let (entry, rest) = entry(source, slot, tree, place, code, levels, left)?;
         found.push_reserved(entry);
         left = rest;
     }
     Ok((found, left))
 }
 
+/// The entry of a slot whose member is this tree, or which has none.
 #[inline(always)]
 #[cycle(tree)]
 #[tactic(auto, unfolding(crate::specs::Meant::entry_meant))]
 pub(crate) fn entry(
     source: Source,
-    members: &Map<String, Json>,
     slot: &FieldInfo,
+    tree: Option<&Json>,
     place: Place,
     code: u8,
-    marked: bool,
     levels: u8,
     left: u32,
 ) -> Result<(Option<Value>, u32), JsonFault>
-    requires { marked ≡ false
-        → get_member (field_seen slot.now).name (members_view members.now.entries) ≡ None }
-    ensures { let L = source.entry.layout.now in
-        Gives (λ x. (option_map view x.0, x.1)) result
-        (entry_meant L (look L source.entry.unknown (members_view members.now.entries))
-        (field_seen slot.now) place code levels left) }
+    ensures { (seen : Look) → let L = source.entry.layout.now in let f = field_seen slot.now in
+        seen f.name ≡ looked_up L source.entry.unknown tree.entry →
+        Gives (λ x. (option_map view x.0, x.1)) result (entry_meant L seen f place code levels left) }
 {
     if slot.deprecated {
         return Ok((None, left));
     }
-    if !marked {
-        return without(slot, place, code, left);
-    }
-    match members.get(slot.name.as_str()) {
+    match tree {
         Some(tree) => found(source, slot, tree, place, code, levels, left),
         None => without(slot, place, code, left),
     }

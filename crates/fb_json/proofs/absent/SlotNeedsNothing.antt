@@ -9,7 +9,7 @@ use Rattle.fb_value.specs.Datum.{a_number}
 use Rattle.fb_json.specs.declared.faults.Place.{Place}
 use Rattle.fb_json.specs.Meant.{Look, as_absent, code_after, entry_meant, plain_meant, used_meant}
 use Rattle.fb_json.specs.SlotMembers.{is_of_union}
-use Rattle.fb_json.proofs.tree.EntryIsWhatTheLookUpFinds.{entry_none}
+use Rattle.fb_json.proofs.slots.EntryIsWhatTheLookUpFinds.{entry_none}
 
 pub code_handed_on : (S : DeclaredSchema) (look : Look) (at : Place) (code : ℕ) (deprecated : Bool) (name : Name)
     (shape : Shape) → is_of_union shape ≡ false → code_after S look at code deprecated name shape ≡ Ok code

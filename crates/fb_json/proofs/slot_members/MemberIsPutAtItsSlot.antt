@@ -18,7 +18,7 @@ use Rattle.fb_schema.specs.Schema.{DeclaredType, DeclaredSchema, body_in, body_a
 use Rattle.fb_schema.specs.Found.{field_named}
 use Rattle.fb_schema.specs.WellDeclared.{IsBody, IsDeclared}
 use Rattle.fb_json.specs.SlotMembers.{AreMembersOf, tree_seen}
-use Rattle.fb_json.proofs.marks.NamedSlotIsMarked.{found_as, number_is, passed_over}
+use Rattle.fb_json.proofs.slot_members.NamedSlotIsFound.{found_as, number_is, passed_over}
 
 -- ---- the slot that a name's look-up finds has that name
 

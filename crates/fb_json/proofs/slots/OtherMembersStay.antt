@@ -18,7 +18,7 @@ use Rattle.fb_schema.specs.Schema.{Name, DeclaredField, DeclaredSchema}
 use Rattle.fb_layout.specs.Laid.{LaidSchema}
 use Rattle.fb_json.specs.declared.faults.Place.{Place}
 use Rattle.fb_json.specs.Meant.{Look, code_after, entry_meant, look}
-use Rattle.fb_json.proofs.marks.NamedSlotIsMarked.{passed_over, same_bytes}
+use Rattle.fb_json.proofs.slot_members.NamedSlotIsFound.{passed_over, same_bytes}
 use Rattle.fb_json.proofs.members.MapFindsTheMembers.{looked, with_meaning}
 
 abbrev pub Entry : Type 0

@@ -4,7 +4,7 @@ use Rattle.fb_schema.specs.Schema.{DeclaredField, DeclaredSchema, body_at, slots
 use Rattle.fb_schema.specs.Found.{field_named}
 use Rattle.fb_schema.specs.WellDeclared.{IsDeclared}
 use Rattle.fb_json.specs.MarkedSlots.{AreNamedApart}
-use Rattle.fb_json.proofs.marks.NamedSlotIsMarked.{found_as}
+use Rattle.fb_json.proofs.slot_members.NamedSlotIsFound.{found_as}
 
 pub named_apart : (S : DeclaredSchema) (t : ℕ) → IsDeclared S → AreNamedApart (slots_in (body_at S t))
 named_apart S t declared i j f g at there same =

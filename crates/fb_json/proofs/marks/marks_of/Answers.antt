@@ -5,8 +5,9 @@ use Rattle.serde_json.specs.View.{members_view, view as tree_view}
 use Rattle.fb_schema.specs.Schema.{DeclaredField, body_at, slots_in}
 use Rattle.fb_schema.specs.Seen.{field_seen}
 use Rattle.fb_json.specs.Meant.{names_known}
-use Rattle.fb_json.proofs.marks.MemberIsAllowed.{allowed_next, none_left, not_allowed}
-use Rattle.fb_json.proofs.marks.NamedSlotIsMarked.{found_as, found_is, number_is, passed_over, unmarked_before}
+use Rattle.fb_json.proofs.slot_members.MemberIsAllowed.{allowed_next, none_left, not_allowed}
+use Rattle.fb_json.proofs.marks.NamedSlotIsMarked.{found_is, unmarked_before}
+use Rattle.fb_json.proofs.slot_members.NamedSlotIsFound.{found_as, number_is, passed_over}
 use Rattle.fb_json.proofs.marks.marks_of.Goals as goal
 
 pub loop-name-preserved-in-Some-field : goal.loop-name-preserved-in-Some-field

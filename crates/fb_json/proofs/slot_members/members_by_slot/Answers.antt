@@ -7,7 +7,7 @@ use Rattle.fb_schema.specs.Schema.{DeclaredField, body_at, slots_in}
 use Rattle.fb_schema.specs.Seen.{field_seen}
 use Rattle.fb_json.specs.Meant.{names_known}
 use Rattle.fb_json.specs.SlotMembers.{AreMembersOf, tree_seen}
-use Rattle.fb_json.proofs.marks.MemberIsAllowed.{allowed_next, none_left, not_allowed}
+use Rattle.fb_json.proofs.slot_members.MemberIsAllowed.{allowed_next, none_left, not_allowed}
 use Rattle.fb_json.proofs.slot_members.MemberIsPutAtItsSlot.{ArePutSoFar, all_put, found_next, next_put}
 use Rattle.fb_json.proofs.slot_members.MemberIsPutAtItsSlot.{none_put, none_seen}
 use Rattle.fb_json.proofs.slot_members.members_by_slot.Goals as goal

@@ -10,7 +10,8 @@ returns-in-None-clause-unread c =
     let L = c.args.source.layout.now in
     let seen = look L c.args.source.unknown (members_view c.args.members.now.entries) in
     rw c.at_once.ensures (unread_others L seen (field_seen c.args.slot.now) c.args.place c.args.code c.args.levels
-    c.args.left c.entry.result (λ kind vector. c.in-None.ensures.none kind refl vector) c.entry.ensures)
+    c.args.left c.entry.result (λ kind vector. c.in-None.ensures.none kind refl vector)
+    (c.entry.ensures seen (c.marked_member-tree.ensures L c.args.source.unknown)))
 
 pub returns-in-Some-clause-kept : goal.returns-in-Some-clause-kept
 returns-in-Some-clause-kept c apart =

@@ -4,7 +4,7 @@ use Rattle.serde_json.specs.View.{members_view}
 use Rattle.fb_schema.specs.Seen.{field_seen}
 use Rattle.fb_json.proofs.members.MapFindsTheMembers.{looked_none}
 use Rattle.fb_json.proofs.slots.OtherMembersStay.{none_left, others_stay, taken_none, taken_some}
-use Rattle.fb_json.proofs.tree.EntryIsWhatTheLookUpFinds.{entry_none, entry_some}
+use Rattle.fb_json.proofs.slots.EntryIsWhatTheLookUpFinds.{entry_none, entry_some}
 use Rattle.fb_json.proofs.steps.VectorIsUnread.{gives_at_once, unread_vector}
 use Rattle.fb_json.proofs.steps.vector_taken.Goals as goal
 

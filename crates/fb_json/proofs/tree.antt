@@ -1,2 +1,0 @@
--- What the proofs of src/tree.rt use.
-pub mod EntryIsWhatTheLookUpFinds
