@@ -1,4 +1,5 @@
--- The members of a table by its slots. Each member's name is looked up once, and what it is put at is read from then on.
+-- The members of a table by its slots. Each member's name is looked up once, and its tree is found at the slot from
+-- then on.
 use Rattle.std.specs.Prelude.{ℕ, ◌≡◌, List, Option, Some, Bool, true, false, length, map, option_map, slice_get}
 use Rattle.std.specs.Borrow.{Bor}
 use Rattle.serde_json.specs.declared.value.Value.{Value}

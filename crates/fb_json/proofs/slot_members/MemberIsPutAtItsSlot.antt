@@ -1,10 +1,11 @@
 -- Each member that a name's look-up finds a slot for is put there, and belongs to no other slot.
-use Rattle.std.proofs.Common.{◌≡◌, ◌≢◌, ◌∙◌, ℕ, zero, suc, ◌<◌, Bool, true, false, List, [], ◌∷◌, length, map, find, get_or, set}
-use Rattle.std.proofs.Common.{slice_get, replicate, Option, Some, None, option_map, cond, bytes_eq, String, BTreeMap, Global}
-use Rattle.std.proofs.Common.{Bor, All, string_bytes, string_cmp, refl, ap, sym, subst, arith}
+use Rattle.std.proofs.Common.{◌≡◌, ◌≢◌, ◌∙◌, ℕ, zero, suc, ◌<◌, Bool, true, false, List, [], ◌∷◌, length, map, find}
+use Rattle.std.proofs.Common.{get_or, set, slice_get, replicate, Option, Some, None, option_map, cond, bytes_eq, String}
+use Rattle.std.proofs.Common.{BTreeMap, Global, Bor, All, string_bytes, string_cmp, refl, ap, sym, subst, arith}
 use Rattle.std.specs.BTreeMap.{get}
 use Rattle.std.specs.Option.{option_or}
-use Rattle.std.proofs.lemmas.List.{get_or-set_other, get_or-set_same, get_or-replicate, length-map, length-replicate, length-set}
+use Rattle.std.proofs.lemmas.List.{get_or-set_other, get_or-set_same, get_or-replicate}
+use Rattle.std.proofs.lemmas.List.{length-map, length-replicate, length-set}
 use Rattle.std.proofs.lemmas.List.Elements.{All-head, All-tail}
 use Rattle.std.proofs.lemmas.Option.{slice_get-get_or, slice_get_within}
 use Rattle.std.proofs.lemmas.Slice.Eq.{bytes_eq-Decides}

@@ -32,15 +32,16 @@ table-entries-requires t c =
     let less = slots_nested c.in_ok-trees.trees.items (map field_seen c.slots_of-slots.result.now)
     (members_view c.args.members.now.entries) are in
     let same = ap most_nested c.as_slice-trees.ensures.value in
-    let all = ap length c.as_slice-trees.ensures.value ∙ (are.all ∙ length-map c.slots_of-slots.result.now field_seen) in
+    let all = ap length c.as_slice-trees.ensures.value
+    ∙ (are.all ∙ length-map c.slots_of-slots.result.now field_seen) in
     (omega (arith, less, same), (c.slots_of-slots.ensures.few, all))
 
 pub part-value-requires : goal.part-value-requires
 part-value-requires t c =
     let found = found_by_map c.as_str.result.now c.args.members.now c.get.result c.get.ensures.value in
     let there = ap (option_map (λ v. tree_view v.now)) c.in-Some.is in
-    let less = member_nested c.as_str.result.now (members_view c.args.members.now.entries) (tree_view c.in-Some.tree.now)
-    (sym found ∙ there) in
+    let less = member_nested c.as_str.result.now (members_view c.args.members.now.entries)
+    (tree_view c.in-Some.tree.now) (sym found ∙ there) in
     (omega (arith, less), tt)
 
 pub entries-entry-requires : goal.entries-entry-requires
