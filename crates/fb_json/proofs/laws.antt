@@ -4,6 +4,7 @@ pub mod ComputedValueIsMeant
 pub mod EachStepOfABindSucceeds
 pub mod EntriesSpendTheirCells
 pub mod FaultIsABrokenRule
+pub mod FirstFaultRefusesTheTree
 pub mod FaultOfALeafIsABrokenRule
 pub mod FaultOfAnEntryIsABrokenRule
 pub mod HeldNumberIsInRange
@@ -12,5 +13,4 @@ pub mod LimitFaultIsOverTheLimit
 pub mod MeantLeafIsComputed
 pub mod MeantValueIsComputed
 pub mod MeantValueIsWhole
-pub mod SlotsDecideTheTree
 pub mod SlotsSpendTheirCells

@@ -2,10 +2,8 @@ pub mod Outcome
 pub mod EnumTexts
 pub mod Leaves
 pub mod Meant
-pub mod MarkedSlots
 pub mod SlotMembers
 pub mod Means
-pub mod Steps
 pub mod Laws
 pub mod Breaks
 pub mod TreeCounts

@@ -1,9 +1,7 @@
 //! Codes of unions.
-ghost use Rattle.std.specs.Prelude.{◌≡◌, false, None};
-ghost use Rattle.serde_json.specs.Find.{get_member};
-ghost use Rattle.serde_json.specs.View.{members_view};
+ghost use Rattle.std.specs.Prelude.{◌≡◌};
 ghost use Rattle.fb_schema.specs.Seen.{field_seen};
-ghost use Rattle.fb_json.specs.Meant.{Look, code_after, code_in, look};
+ghost use Rattle.fb_json.specs.Meant.{Look, code_after, code_in};
 ghost use Rattle.serde_json.specs.View.{view as tree_view};
 ghost use Rattle.fb_json.specs.Leaves.{code_numbered, code_told};
 ghost use Rattle.fb_json.specs.SlotMembers.{looked_up};
@@ -12,7 +10,7 @@ use crate::faults::{JsonFault, Place};
 use crate::source::Source;
 use fb_layout::Layout;
 use fb_schema::{FieldInfo, Kind, Shape, TypeId};
-use serde_json::{Map, Value as Json};
+use serde_json::Value as Json;
 
 /// The code of a number.
 fn code_numbered(
@@ -47,61 +45,6 @@ fn code_told(layout: &Layout, union: TypeId, tree: &Json, place: Place) -> Resul
             .code_by_path(union, name.as_str())
             .ok_or(JsonFault::UnknownName(place)),
         _ => Err(JsonFault::WrongShape(place)),
-    }
-}
-
-/// The code that a union's `_type` member has, and 0 where there is none.
-fn member_code(
-    source: Source,
-    members: &Map<String, Json>,
-    union: TypeId,
-    slot: &FieldInfo,
-    place: Place,
-    marked: bool,
-) -> Result<u8, JsonFault>
-    requires { marked ≡ false
-        → get_member (field_seen slot.now).name (members_view members.now.entries) ≡ None }
-    ensures { let L = source.entry.layout.now in
-        result ≡ code_in L.schema union.0 place
-        (look L source.entry.unknown (members_view members.now.entries) (field_seen slot.now).name) }
-{
-    if !marked {
-        return Ok(0);
-    }
-    match members.get(slot.name.as_str()) {
-        Some(tree) => code_told(source.layout, union, tree, place),
-        None => Ok(0),
-    }
-}
-
-/// The code that a slot has; another slot returns what it was passed. Only for a marked slot is a member
-/// looked for.
-#[inline(always)]
-#[tactic(auto, unfolding(crate::specs::Meant::code_after))]
-pub fn code_after(
-    source: Source,
-    members: &Map<String, Json>,
-    slot: &FieldInfo,
-    place: Place,
-    code: u8,
-    marked: bool,
-) -> Result<u8, JsonFault>
-    requires { marked ≡ false
-        → get_member (field_seen slot.now).name (members_view members.now.entries) ≡ None }
-    ensures { let L = source.entry.layout.now in let f = field_seen slot.now in
-        result ≡ code_after L.schema
-        (look L source.entry.unknown (members_view members.now.entries)) place code
-        f.deprecated f.name f.shape }
-{
-    if slot.deprecated {
-        return Ok(code);
-    }
-    let Shape::One(kind) = slot.shape else {
-        return Ok(code);
-    };
-    match kind {
-        Kind::Code(union) => member_code(source, members, union, slot, place, marked),
-        _ => Ok(code),
     }
 }
 

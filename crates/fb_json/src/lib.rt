@@ -3,12 +3,12 @@
 
 mod absent;
 mod codes;
+mod elements;
 mod enums;
 mod faults;
 mod fronts;
 mod laws;
 mod leaves;
-mod marks;
 mod members;
 mod paths;
 mod root;
@@ -16,22 +16,20 @@ mod scalars;
 mod slot_members;
 mod source;
 mod step;
-mod steps;
 mod tree;
 
 pub use absent::{is_absent, is_null, without};
-pub use codes::{code_after, code_of_slot};
+pub use codes::code_of_slot;
+pub use elements::element_of;
 pub use enums::has_flags;
 pub use faults::{JsonFault, Place};
 pub use laws::{
     all_that_is_meant, faults_are_broken, first_fault_refuses, limits_are_reached, meant_fits,
-    meant_is_whole, only_what_is_meant, slots_decide_the_root,
+    meant_is_whole, only_what_is_meant,
 };
 pub use leaves::text_of;
-pub use marks::{is_marked, marks_of};
 pub use paths::fault_path;
 pub use root::value_of;
 pub use slot_members::members_by_slot;
 pub use source::Source;
 pub use step::Step;
-pub use steps::{TakenSlot, element_of, root_members, take_slot};

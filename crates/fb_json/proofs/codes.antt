@@ -1,2 +1,0 @@
--- What the proofs of src/codes.rt use.
-pub mod CodeIsFoundInItsSlot

@@ -1,2 +1,0 @@
--- What the proofs of src/marks.rt use.
-pub mod NamedSlotIsMarked
