@@ -1,2 +1,2 @@
 -- What the proofs of src/elements.rt use.
-pub mod ReadValueFitsItsKind
+pub mod ReadValueFitsItsPlace

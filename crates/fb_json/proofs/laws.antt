@@ -4,7 +4,6 @@ pub mod ComputedValueIsMeant
 pub mod EachStepOfABindSucceeds
 pub mod EntriesSpendTheirCells
 pub mod FaultIsABrokenRule
-pub mod FirstFaultRefusesTheTree
 pub mod FaultOfALeafIsABrokenRule
 pub mod FaultOfAnEntryIsABrokenRule
 pub mod HeldNumberIsInRange

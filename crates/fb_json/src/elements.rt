@@ -1,4 +1,4 @@
-//! Elements of vectors.
+//! Elements of vectors, for who reads a vector element by element.
 ghost use Rattle.std.specs.Prelude.{◌≡◌, true, IfOk};
 ghost use Rattle.serde_json.specs.View.{view as tree_view};
 ghost use Rattle.fb_schema.specs.declared.kinds.Shape.TheVariants.{One};

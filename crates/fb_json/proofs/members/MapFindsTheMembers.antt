@@ -37,10 +37,6 @@ looked L unknown no_members k = refl
 looked L unknown (member l d ms) k = picked L unknown (slice_cmp nat_cmp k l) d (get_member k ms) (look L unknown ms k)
     (looked L unknown ms k)
 
-pub looked_none : (L : LaidSchema) (unknown : Bool) (ms : Members) (k : Name) → get_member k ms ≡ None
-    → look L unknown ms k ≡ None
-looked_none L unknown ms k h = looked L unknown ms k ∙ ap (option_map (with_meaning L unknown)) h
-
 -- what a look-up by the map says of a look-up
 pub looked_by_map : (L : LaidSchema) (unknown : Bool) (name : List ℕ) (m : BTreeMap (String Global) Value)
     (r : Option (Bor Value)) → option_map (λ v. v.now) r ≡ get_by_text m name

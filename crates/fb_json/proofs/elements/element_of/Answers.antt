@@ -1,6 +1,6 @@
 use Rattle.serde_json.specs.View.{view as tree_view}
 use Rattle.fb_schema.specs.declared.kinds.Shape.TheVariants.{One}
-use Rattle.fb_json.proofs.elements.ReadValueFitsItsKind.{value_fits, value_whole}
+use Rattle.fb_json.proofs.elements.ReadValueFitsItsPlace.{value_fits, value_whole}
 use Rattle.fb_json.proofs.elements.element_of.Goals as goal
 
 pub returns-clause-fits : goal.returns-clause-fits

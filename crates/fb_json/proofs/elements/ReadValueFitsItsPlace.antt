@@ -1,4 +1,4 @@
--- A value that was read fits its shape, and has no union code that the schema doesn't know.
+-- A value that was read fits its place, and has no union code that the schema doesn't know.
 use Rattle.std.proofs.Common.{◌≡◌, ℕ, Bool, true, Result, Ok, Err, IfOk}
 use Rattle.serde_json.specs.Data.{Data}
 use Rattle.fb_schema.specs.declared.kinds.Shape.{Shape}
@@ -8,8 +8,8 @@ use Rattle.fb_value.specs.Counts.{is_whole}
 use Rattle.fb_value.specs.Fits.{Fits}
 use Rattle.fb_value.specs.View.{view}
 use Rattle.fb_value.specs.declared.values.Value.{Value}
-use Rattle.fb_json.specs.declared.faults.JsonFault.{JsonFault}
 use Rattle.fb_json.specs.declared.faults.Place.{Place}
+use Rattle.fb_json.specs.declared.faults.JsonFault.{JsonFault}
 use Rattle.fb_json.specs.Meant.{meant}
 use Rattle.fb_json.specs.Outcome.{Gives}
 use Rattle.fb_json.proofs.laws.ComputedValueIsMeant.{sound}
