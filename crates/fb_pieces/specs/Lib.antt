@@ -1,0 +1,14 @@
+pub mod Modes
+pub mod Texts
+pub mod Reads
+pub mod LexemesSplit
+pub mod TokensSplit
+pub mod EndsOutside
+pub mod ArrayOfElements
+pub mod ArrayOfRuns
+pub mod ExampleRuns
+pub mod ArrayRefused
+pub mod InBrackets
+pub mod ObjectOfMembers
+pub mod ObjectOfRuns
+pub mod Blanks
