@@ -12,3 +12,4 @@ pub mod InBrackets
 pub mod ObjectOfMembers
 pub mod ObjectOfRuns
 pub mod Blanks
+pub mod Cuts

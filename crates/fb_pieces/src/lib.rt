@@ -1,8 +1,11 @@
 //! JSON texts in pieces: where one may be cut, and what `serde_json` reads of the whole.
 #![tactic(auto)]
 
+mod cut;
 mod laws;
+mod walk;
 
+pub use cut::{Member, Piece, Run, next_member, next_run};
 pub use laws::{
     array_is_that_of_its_elements, blanks_change_nothing, element_is_read_without_brackets,
     elements_make_the_array, lexemes_split, members_make_the_object, read_run_ends_outside,
