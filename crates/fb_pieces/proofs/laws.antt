@@ -13,3 +13,4 @@ pub mod ArrayIsRefusedWhereAnElementIs
 pub mod MembersArePutInOrder
 pub mod RunsMakeTheObject
 pub mod BlanksHaveNoLexemes
+pub mod PiecesAreTheText

@@ -1,5 +1,5 @@
--- Where a text is cut: what a piece of it, a run of elements and a member are.
-use Rattle.std.specs.Prelude.{◌≡◌, ℕ, ◌+◌, ◌≤◌, Bool, if◌then◌else◌, Some, List, slice_get}
+-- What a cut of a text gives: a run of an array's elements, or a member of an object.
+use Rattle.std.specs.Prelude.{◌≡◌, ℕ, ◌+◌, ◌≤◌, if◌then◌else◌, Some, List, slice_get}
 use Rattle.json.specs.Ascii as ascii
 use Rattle.fb_pieces.specs.declared.cut.Piece.{Piece}
 use Rattle.fb_pieces.specs.declared.cut.Run.{Run}
@@ -11,13 +11,9 @@ pub record StandsBefore (text : List ℕ) (from edge : ℕ) (piece : Piece) : Ty
   pub ends : from ≤ piece.end
   pub before : slice_get text piece.end ≡ Some edge
 
--- The run stands before a comma, the last one before the bracket that closes.
-abbrev pub IsRunBefore : List ℕ → ℕ → ℕ → Run → Type 0
-IsRunBefore text from bracket run = StandsBefore text from (if run.is_last then bracket else ascii.comma) run.elements
-
--- a run of an array's elements
+-- The run stands before a comma, the last one before the bracket.
 abbrev pub IsRunOf : List ℕ → ℕ → Run → Type 0
-IsRunOf text from run = IsRunBefore text from ascii.close_bracket run
+IsRunOf text from run = StandsBefore text from (if run.is_last then ascii.close_bracket else ascii.comma) run.elements
 
 -- The name stands before a colon, and the value behind it before a comma, the last one before the brace.
 pub record IsMemberOf (text : List ℕ) (from : ℕ) (member : Member) : Type 0 where

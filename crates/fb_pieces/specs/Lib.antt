@@ -13,3 +13,4 @@ pub mod ObjectOfMembers
 pub mod ObjectOfRuns
 pub mod Blanks
 pub mod Cuts
+pub mod CutTexts

@@ -3,6 +3,7 @@ ghost use Rattle.fb_pieces.specs.ArrayOfElements.{ElementsMakeTheArray};
 ghost use Rattle.fb_pieces.specs.ArrayOfRuns.{RunsMakeTheArray};
 ghost use Rattle.fb_pieces.specs.ArrayRefused.{ArrayIsThatOfItsElements};
 ghost use Rattle.fb_pieces.specs.Blanks.{BlanksChangeNothing};
+ghost use Rattle.fb_pieces.specs.CutTexts.{CutMembersAreTheText, CutRunsAreTheText};
 ghost use Rattle.fb_pieces.specs.EndsOutside.{ReadRunEndsOutside, ReadTextEndsOutside};
 ghost use Rattle.fb_pieces.specs.InBrackets.{ElementIsReadWithoutBrackets};
 ghost use Rattle.fb_pieces.specs.LexemesSplit.{LexemesSplit};
@@ -64,4 +65,14 @@ pub fn runs_make_the_object()
 /// Blanks before a text, and after one that ends outside strings, change nothing of what is read.
 pub fn blanks_change_nothing()
     ensures { BlanksChangeNothing }
+{}
+
+/// Runs that are cut one behind another are the array's text, with the commas and the bracket.
+pub fn cut_runs_are_the_text()
+    ensures { CutRunsAreTheText }
+{}
+
+/// Members that are cut one behind another are the object's text, with the colons, the commas and the brace.
+pub fn cut_members_are_the_text()
+    ensures { CutMembersAreTheText }
 {}

@@ -28,7 +28,7 @@ fn equal_to(block: u8x64, byte: u8) -> u64 {
     block.simd_eq(u8x64::splat(byte)).to_bitmask()
 }
 
-/// Each bit is told whether the number of bits up to it is odd.
+/// A bit is set where the number of bits up to it, itself counted, is odd.
 fn prefix_xor(bits: u64) -> u64 {
     let a = bits ^ (bits << 1);
     let b = a ^ (a << 2);
@@ -40,7 +40,11 @@ fn prefix_xor(bits: u64) -> u64 {
 
 impl Walk {
     /// Where the walk begins.
-    pub(crate) const START: Walk = Walk { is_escaped: false, in_string: false, open: 0 };
+    pub(crate) const START: Walk = Walk {
+        is_escaped: false,
+        in_string: false,
+        open: 0,
+    };
 
     /// The bytes that follow an odd run of backslashes.
     fn escaped(&mut self, backslashes: u64) -> u64 {
@@ -53,7 +57,7 @@ impl Walk {
         (EVEN ^ (even_runs << 1)) & follows
     }
 
-    /// Goes over a block.
+    /// Goes over the strings of a block.
     #[inline(always)]
     pub(crate) fn marks_of(&mut self, block: u8x64, wanted: u8) -> Marks {
         let quotes = equal_to(block, b'"') & !self.escaped(equal_to(block, b'\\'));
@@ -67,13 +71,17 @@ impl Walk {
         }
     }
 
-    /// Goes over the brackets of a block, up to the first byte outside all of them that closes, or is wanted and so
-    /// many bytes on: its place in the block.
+    /// Goes over the brackets of a block, up to the first byte outside all of them that closes, or is wanted and isn't
+    /// among so many bytes that are skipped: its place in the block.
     #[inline(always)]
     pub(crate) fn first_outside(&mut self, marks: Marks, skipped: usize) -> Option<usize> {
         let closing = marks.closing.count_ones() as usize;
+        // One bracket stays open throughout, whichever of the others are opened and closed first.
         if closing < self.open {
-            self.open = self.open.wrapping_add(marks.opening.count_ones() as usize).wrapping_sub(closing);
+            self.open = self
+                .open
+                .wrapping_add(marks.opening.count_ones() as usize)
+                .wrapping_sub(closing);
             return None;
         }
         let far = u64::MAX.checked_shl(skipped.min(BLOCK) as u32).unwrap_or(0);
