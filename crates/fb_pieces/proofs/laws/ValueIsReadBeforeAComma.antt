@@ -231,6 +231,32 @@ module _ (ms : List Lexeme) (stops : Stops ms) where
     pub alone : punctuate p ls ≡ ts ++ punctuate after_value rest
     pub after : punctuate after_value (rest ++ ms) ≡ us
 
+  two_taken : (ts us xs : List Token) {vs ws : List Token} → vs ≡ ts ++ ws → ws ≡ us ++ xs → vs ≡ (ts ++ us) ++ xs
+  two_taken ts us xs {vs} {ws} first second =
+      first ∙ ap (λ l. ts ++ l) second ∙ sym (append_assoc ts us xs)
+
+  item_taken : (j : json.Json) (js : json.Items) (n : ℕ) (ls : List Lexeme) (p : Place) (ts us : List Token)
+      (i : Entered n ls p ts) (t : Taken (suc n) i.rest i.place (json_tokens j) (items_tokens js ++ us))
+      → Taken n t.rest after_value (items_tokens js) us → Taken n ls p (items_tokens (json.item j js)) us
+  item_taken j js n ls p ts us i t r = record {
+    rest = r.rest;
+    level = r.level;
+    alone = i.alone ∙ two_taken (json_tokens j) (items_tokens js) _ t.alone r.alone;
+    after = r.after;
+  }
+
+  member_taken : (k : List ℕ) (j : json.Json) (ks : json.Members) (n : ℕ) (ls : List Lexeme) (p : Place)
+      (ts us vs ws : List Token) (i : Entered n ls p ts) (f : First (suc n) i.rest i.place (key k) vs)
+      (c : Named n f.rest ws) (t : Taken (suc n) c.rest fresh (json_tokens j) (members_tokens ks ++ us))
+      → Taken n t.rest after_value (members_tokens ks) us → Taken n ls p (members_tokens (json.member k j ks)) us
+  member_taken k j ks n ls p ts us vs ws i f c t r = record {
+    rest = r.rest;
+    level = r.level;
+    alone = i.alone ∙ f.alone
+        ∙ ap (λ l. key k ∷ l) (c.alone ∙ two_taken (json_tokens j) (members_tokens ks) _ t.alone r.alone);
+    after = r.after;
+  }
+
   mutual
     pub take_value : (j : json.Json) (n : ℕ) (ls : List Lexeme) (p : Place) (us : List Token) → Level n ls
         → may_begin p ≡ true → punctuate p (ls ++ ms) ≡ json_tokens j ++ us → Taken n ls p (json_tokens j) us
@@ -266,13 +292,7 @@ module _ (ms : List Lexeme) (stops : Stops ms) where
         (e ∙ append_assoc (json_tokens j) (items_tokens js) us) in
         let t = take_value j (suc n) i.rest i.place more i.level i.may i.after in
         let r = take_items js n t.rest after_value us tt t.level t.after in
-        record {
-          rest = r.rest;
-          level = r.level;
-          alone = i.alone ∙ t.alone ∙ ap (λ l. json_tokens j ++ l) r.alone
-              ∙ sym (append_assoc (json_tokens j) (items_tokens js) _);
-          after = r.after;
-        }
+        item_taken j js n ls p _ us i t r
 
     take_members : (ks : json.Members) (n : ℕ) (ls : List Lexeme) (p : Place) (us : List Token) → Inside p
         → Level (suc n) ls → punctuate p (ls ++ ms) ≡ members_tokens ks ++ us → Taken n ls p (members_tokens ks) us
@@ -287,12 +307,4 @@ module _ (ms : List Lexeme) (stops : Stops ms) where
         let c = named n f.rest (json_tokens j ++ more) f.level (value_opens j more) f.after in
         let t = take_value j (suc n) c.rest fresh more c.level refl c.after in
         let r = take_members ks n t.rest after_value us tt t.level t.after in
-        record {
-          rest = r.rest;
-          level = r.level;
-          alone = i.alone ∙ f.alone
-              ∙ ap (λ l. key k ∷ l)
-              (c.alone ∙ t.alone ∙ ap (λ l. json_tokens j ++ l) r.alone
-              ∙ sym (append_assoc (json_tokens j) (members_tokens ks) _));
-          after = r.after;
-        }
+        member_taken k j ks n ls p _ us _ _ i f c t r
