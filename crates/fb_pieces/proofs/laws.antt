@@ -11,6 +11,7 @@ pub mod RunsMakeTheArray
 pub mod ValueIsReadBeforeAComma
 pub mod ArrayIsRefusedWhereAnElementIs
 pub mod MembersArePutInOrder
+pub mod StringIsReadFromOneLexeme
 pub mod RunsMakeTheObject
 pub mod BlanksHaveNoLexemes
 pub mod PiecesAreTheText

@@ -1,21 +1,16 @@
 -- An object of members whose names and values are read one by one.
 use Rattle.std.specs.Prelude.{◌≡◌, ℕ, suc, Some, List, [], ◌∷◌, map, ⊤}
-use Rattle.json.specs.Token.{string}
-use Rattle.json.specs.Lex.{token, between, lex}
-use Rattle.serde_json.specs.Data.{Data, object, Members, no_members, put}
+use Rattle.serde_json.specs.Data.{Data, string, object, Members, no_members, put}
 use Rattle.fb_pieces.specs.Reads.{read_at}
 use Rattle.fb_pieces.specs.Texts.{object_text, member_text}
 
--- The text is one string, of these bytes.
-abbrev pub Names : List ℕ → List ℕ → Type 0
-Names text name = lex between text ≡ token (string name) ∷ []
-
--- Each text is read as one of the members, in order.
+-- Each name is read as a string, and each value as that of one of the members, in order.
 abbrev pub ReadMembers : ℕ → List (List ℕ × List ℕ) → List (List ℕ × Data) → Type 0
 ReadMembers levels [] [] = ⊤
 ReadMembers levels [] (d ∷ ds) = ⊥
 ReadMembers levels (m ∷ ms) [] = ⊥
-ReadMembers levels (m ∷ ms) (d ∷ ds) = Names m.0 d.0 × (read_at levels m.1 ≡ Some d.1) × ReadMembers levels ms ds
+ReadMembers levels (m ∷ ms) (d ∷ ds) = (read_at levels m.0 ≡ Some (string d.0)) × (read_at levels m.1 ≡ Some d.1)
+    × ReadMembers levels ms ds
 
 -- The members, put one after another: of a name that is there twice the last value stays.
 abbrev pub put_all : List (List ℕ × Data) → Members → Members

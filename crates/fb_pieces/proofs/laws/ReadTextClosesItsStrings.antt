@@ -18,7 +18,6 @@ use Rattle.serde_json.specs.Data.{Data}
 use Rattle.fb_pieces.specs.Modes.{next_mode, mode_after, IsOutside, EndsOutside}
 use Rattle.fb_pieces.specs.TokensSplit.{AreGood}
 use Rattle.fb_pieces.specs.Reads.{read_at}
-use Rattle.fb_pieces.specs.ObjectOfMembers.{Names}
 use Rattle.fb_pieces.specs.Texts.{array_text, object_text}
 use Rattle.fb_pieces.proofs.laws.StringContentEndsAtItsQuote.{mode, is_found, not_this, hex}
 use Rattle.fb_pieces.proofs.laws.TokensOfAValue.{value_good}
@@ -214,10 +213,6 @@ mutual
 -- a text whose tokens are good ends outside strings
 pub tokens-closed : (text : List ℕ) → AreGood (tokens text) → EndsOutside text
 tokens-closed text good = outside_closes between text tt (good_lexemes (lex between text) fresh good)
-
--- so does one that is a string
-pub name-closed : (text name : List ℕ) → Names text name → EndsOutside text
-name-closed text name e = outside_closes between text tt (subst AllGood (sym e) (refl, tt))
 
 pub text-closed : (levels : ℕ) (text : List ℕ) (d : Data) → read_at levels text ≡ Some d → EndsOutside text
 text-closed levels text d e = let v = value_of levels text d e in

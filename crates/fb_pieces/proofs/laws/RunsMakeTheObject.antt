@@ -10,20 +10,21 @@ use Rattle.json.specs.Lex.{tokens}
 use Rattle.json.specs.Json as json
 use Rattle.json.specs.Tree as tree
 use Rattle.json.specs.Tree.{json_tokens, members_tokens}
-use Rattle.serde_json.specs.Data.{Data, object, Members, no_members, put}
+use Rattle.serde_json.specs.Data.{Data, string, object, Members, no_members, put}
 use Rattle.serde_json.specs.Read.{of_json, of_members}
 use Rattle.fb_pieces.specs.Modes.{mode_after}
 use Rattle.fb_pieces.specs.TokensSplit.{AreGood, ends_value_after, AreValues}
 use Rattle.fb_pieces.specs.Texts.{object_rest, object_text, member_text}
 use Rattle.fb_pieces.specs.Reads.{read_at}
-use Rattle.fb_pieces.specs.ObjectOfMembers.{Names, ReadMembers, put_all, MembersMakeTheObject}
+use Rattle.fb_pieces.specs.ObjectOfMembers.{ReadMembers, put_all, MembersMakeTheObject}
 use Rattle.fb_pieces.specs.ObjectOfRuns.{ReadsMembers, ReadMemberRuns, put_members, put_runs, RunsMakeTheObject}
 use Rattle.fb_pieces.proofs.laws.LexemesSplitOutsideStrings.{lex-cut, may_cut}
 use Rattle.fb_pieces.proofs.laws.TokensSplitAtAComma.{values-then}
 use Rattle.fb_pieces.proofs.laws.TokensBeforeAClosingBracket.{before_bracket}
 use Rattle.fb_pieces.proofs.laws.TokensOfAValue.{AreGood-append, ends-append, value_good, value_ends}
 use Rattle.fb_pieces.proofs.laws.ReadTextHasTheTokensOfAValue.{value_of, read_value}
-use Rattle.fb_pieces.proofs.laws.ReadTextClosesItsStrings.{tokens-closed, name-closed, member-run-closed}
+use Rattle.fb_pieces.proofs.laws.ReadTextClosesItsStrings.{tokens-closed, text-closed, member-run-closed}
+use Rattle.fb_pieces.proofs.laws.StringIsReadFromOneLexeme.{string_lexeme}
 use Rattle.fb_pieces.proofs.laws.MembersArePutInOrder.{read-put}
 
 -- ---- what follows a member
@@ -137,16 +138,17 @@ run_of levels text ds r =
     }
 
 -- the tokens of a name, a colon and what follows
-name-then : (text name next : List ℕ) → Names text name
+name-then : (levels : ℕ) (text name next : List ℕ) → read_at levels text ≡ Some (string name)
     → tokens (text ++ 58 ∷ next) ≡ tok.key name ∷ tokens next
 unfolding lex punctuate
-name-then text name next n =
+name-then levels text name next n =
+    let closed = text-closed levels text (string name) n in
     ap (punctuate fresh)
-    (lex-cut text (58 ∷ next) between (may_cut (mode_after between text) (58 ∷ next) (name-closed text name n) refl)
-    ∙ ap (λ l. l ++ lex between (58 ∷ next)) n)
+    (lex-cut text (58 ∷ next) between (may_cut (mode_after between text) (58 ∷ next) closed refl)
+    ∙ ap (λ l. l ++ lex between (58 ∷ next)) (string_lexeme levels text name n))
 
-one_member : (levels : ℕ) (m : List ℕ × List ℕ) (d : List ℕ × Data) → Names m.0 d.0 → read_at levels m.1 ≡ Some d.1
-    → Run levels (member_text m) (put d.0 d.1)
+one_member : (levels : ℕ) (m : List ℕ × List ℕ) (d : List ℕ × Data) → read_at levels m.0 ≡ Some (string d.0)
+    → read_at levels m.1 ≡ Some d.1 → Run levels (member_text m) (put d.0 d.1)
 one_member levels m d name read =
     let v = value_of levels m.1 d.1 read in
     let is = λ (found : Members). ap (option_and_then (λ x. Some (put d.0 x found))) v.data_of in
@@ -157,7 +159,7 @@ one_member levels m d name read =
         first = refl;
         last = ends-inner true (json.member d.0 v.was json.no_members) refl;
       };
-      spelled = name-then m.0 d.0 m.1 name
+      spelled = name-then levels m.0 d.0 m.1 name
           ∙ ap (λ l. tok.key d.0 ∷ l) (v.spells.spelled ∙ sym (append-nil (json_tokens v.was)));
       shallow = omega (arith, v.spells.shallow);
       data_of = is;
