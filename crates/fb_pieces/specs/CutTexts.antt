@@ -1,5 +1,5 @@
 -- A text that is cut, put together again.
-use Rattle.std.specs.Prelude.{◌≡◌, ℕ, ◌+◌, Bool, true, false, List, [], ◌∷◌, ◌++◌, map, drop, slice_range}
+use Rattle.std.specs.Prelude.{◌≡◌, ℕ, ◌+◌, Bool, true, false, List, [], ◌∷◌, ◌++◌, map, slice_range}
 use Rattle.fb_pieces.specs.declared.cut.Piece.{Piece}
 use Rattle.fb_pieces.specs.declared.cut.Run.{Run}
 use Rattle.fb_pieces.specs.declared.cut.Member.{Member}
@@ -31,15 +31,14 @@ run_text text run = piece_text text run.elements
 abbrev pub member_texts : List ℕ → Member → List ℕ × List ℕ
 member_texts text member = (piece_text text member.name, piece_text text member.value)
 
--- What follows an array's bracket is the runs that are cut, with commas and the closing bracket, and what is behind it.
+-- Runs that follow one another are, with their commas and the bracket, the text that they are cut from.
 abbrev pub CutRunsAreTheText : Type 0
-CutRunsAreTheText = (text : List ℕ) (from end : ℕ) (run : Run) (runs : List Run)
-    → AreRunsOf text from end (run ∷ runs)
-    → drop from text ≡ run_text text run ++ (array_rest (map (run_text text) runs) ++ drop end text)
+CutRunsAreTheText = (text : List ℕ) (from end : ℕ) (run : Run) (runs : List Run) → AreRunsOf text from end (run ∷ runs)
+    → slice_range text from end ≡ run_text text run ++ array_rest (map (run_text text) runs)
 
--- The same of an object's brace and members.
+-- The same of members with their colons, commas and the brace.
 abbrev pub CutMembersAreTheText : Type 0
 CutMembersAreTheText = (text : List ℕ) (from end : ℕ) (member : Member) (members : List Member)
     → AreMembersOf text from end (member ∷ members)
-    → drop from text ≡ member_text (member_texts text member)
-    ++ (object_rest (map (λ m. member_text (member_texts text m)) members) ++ drop end text)
+    → slice_range text from end
+    ≡ member_text (member_texts text member) ++ object_rest (map (λ m. member_text (member_texts text m)) members)

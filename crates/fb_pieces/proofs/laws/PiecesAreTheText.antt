@@ -1,7 +1,8 @@
 -- Pieces with the bytes between them are the text.
-use Rattle.std.proofs.Common.{◌≡◌, ℕ, suc, ◌+◌, Bool, true, false, List, [], ◌∷◌, ◌++◌, map, drop}
+use Rattle.std.proofs.Common.{◌≡◌, ◌≤◌, ℕ, suc, ◌+◌, Bool, true, false, List, [], ◌∷◌, ◌++◌, map, drop}
 use Rattle.std.proofs.Common.{sym, ap, ap₂, ◌∙◌, arith, append_assoc}
 use Rattle.std.specs.List.{slice_range}
+use Rattle.std.proofs.lemmas.List.{append_cancel_right}
 use Rattle.std.proofs.lemmas.List.Folds.{drop_split}
 use Rattle.std.proofs.lemmas.Option.{slice_get_within, get_or_from_slice_get}
 use Rattle.std.proofs.Math.Seq.{drop-cons}
@@ -38,9 +39,22 @@ run-then text from end elements false (r ∷ rs) s ends more =
     (run-then text (elements.end + 1) end r.elements r.is_last rs more.0 more.1 more.2
     ∙ sym (append_assoc (run_text text r) (array_rest (map (run_text text) rs)) (drop end text)))
 
+runs-forward : (text : List ℕ) (from end : ℕ) (runs : List Run) → AreRunsOf text from end runs → from ≤ end
+runs-forward text from end [] same = omega arith
+runs-forward text from end (run ∷ runs) r =
+    omega (arith, r.0.ends, runs-forward text (run.elements.end + 1) end runs r.2)
+
+-- what stands before the rest of a text is cut off
+cut-off : (text xs : List ℕ) (from end : ℕ) → from ≤ end → drop from text ≡ xs ++ drop end text
+    → slice_range text from end ≡ xs
+cut-off text xs from end forward e =
+    append_cancel_right (slice_range text from end) xs (drop end text) (sym (drop_split text from end forward) ∙ e)
+
 pub cut_runs_are_the_text_shown : CutRunsAreTheText
 cut_runs_are_the_text_shown text from end run runs r =
-    run-then text from end run.elements run.is_last runs r.0 r.1 r.2
+    cut-off text _ from end (runs-forward text from end (run ∷ runs) r)
+    (run-then text from end run.elements run.is_last runs r.0 r.1 r.2
+    ∙ sym (append_assoc (run_text text run) (array_rest (map (run_text text) runs)) (drop end text)))
 
 name-then : (text : List ℕ) (from : ℕ) (member : Member) (rest : List ℕ) → IsMemberOf text from member
     → drop (member.name.end + 1) text ≡ piece_text text member.value ++ rest
@@ -69,6 +83,16 @@ member-then text from end name value false (r ∷ rs) m ends more =
     (append_assoc (member_text (member_texts text r)) (object_rest (map (λ n. member_text (member_texts text n)) rs))
     (drop end text))))
 
+members-forward : (text : List ℕ) (from end : ℕ) (members : List Member) → AreMembersOf text from end members
+    → from ≤ end
+members-forward text from end [] same = omega arith
+members-forward text from end (m ∷ members) r =
+    omega (arith, r.0.name.ends, r.0.value.ends, members-forward text (m.value.end + 1) end members r.2)
+
 pub cut_members_are_the_text_shown : CutMembersAreTheText
 cut_members_are_the_text_shown text from end member members r =
-    member-then text from end member.name member.value member.is_last members r.0 r.1 r.2
+    cut-off text _ from end (members-forward text from end (member ∷ members) r)
+    (member-then text from end member.name member.value member.is_last members r.0 r.1 r.2
+    ∙ sym
+    (append_assoc (member_text (member_texts text member))
+    (object_rest (map (λ n. member_text (member_texts text n)) members)) (drop end text)))

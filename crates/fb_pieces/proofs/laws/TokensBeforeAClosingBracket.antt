@@ -1,7 +1,8 @@
 -- The tokens before a closing bracket are those of the lexemes before it.
-use Rattle.std.proofs.Common.{◌≡◌, Bool, true, false, List, [], ◌∷◌, ◌++◌, length, take, take_at, length-append}
-use Rattle.std.proofs.Common.{arith, refl, sym, ap, ◌∙◌, subst}
+use Rattle.std.proofs.Common.{◌≡◌, Bool, true, false, List, [], ◌∷◌, ◌++◌}
+use Rattle.std.proofs.Common.{refl, sym, ap, ◌∙◌, subst}
 use Rattle.std.proofs.lemmas.Bool.{false≢true}
+use Rattle.std.proofs.lemmas.List.{append_cancel_right}
 use Rattle.json.specs.Token.{Token, begin_object, end_object, begin_array, end_array, key, string, number, boolean}
 use Rattle.json.specs.Token.{null, bad}
 use Rattle.json.specs.Lex.{Lexeme, token, comma, colon, Place, fresh, after_value, after_comma, after_key}
@@ -32,11 +33,6 @@ token_good p (number s) b k l good ih = allowed_good (may_begin p) (number s) k 
 token_good p (boolean v) b k l good ih = allowed_good (may_begin p) (boolean v) k l after_value good (ih after_value)
 token_good p null b k l good ih = allowed_good (may_begin p) null k l after_value good (ih after_value)
 token_good p bad b k l good ih = absurd (false≢true good.0)
-
-same_front : (xs ys zs : List Token) → xs ++ zs ≡ ys ++ zs → xs ≡ ys
-same_front xs ys zs e =
-    let n : length ys ≡ length xs = omega (arith, ap length e, length-append xs zs, length-append ys zs) in
-    sym (take_at xs zs (length xs) refl) ∙ ap (take (length xs)) e ∙ take_at ys zs (length xs) n
 
 good-right : (ts us : List Token) → AreGood (ts ++ us) → AreGood us
 good-right [] us g = g
@@ -81,5 +77,5 @@ module _ (close : Token) (closes : Closes close) where
       let whole = subst AreGood (sym e) good in
       let cut = punctuate-cut ls (token close ∷ []) fresh (before_close ls fresh whole) refl in
       let last = good-right (punctuate fresh ls) _ (subst AreGood cut whole) in
-      same_front (punctuate fresh ls) ts (close ∷ [])
+      append_cancel_right (punctuate fresh ls) ts (close ∷ [])
       (ap (λ us. punctuate fresh ls ++ us) (sym (close_alone (place_after fresh ls) last)) ∙ sym cut ∙ e)
