@@ -9,12 +9,14 @@ pub record ReadsRun (levels : ℕ) (run : List ℕ) (ds : Items) : Type 0 where
   pub some : ds ≢ no_items
   pub read : read_at (suc levels) (array_text run []) ≡ Some (array ds)
 
+-- Each run is read as one of these lists, in order.
 abbrev pub ReadRuns : ℕ → List (List ℕ) → List Items → Type 0
 ReadRuns levels [] [] = ⊤
 ReadRuns levels [] (r ∷ rs) = ⊥
 ReadRuns levels (e ∷ es) [] = ⊥
 ReadRuns levels (e ∷ es) (r ∷ rs) = ReadsRun levels e r × ReadRuns levels es rs
 
+-- the elements of two arrays, one behind the other
 abbrev pub append : Items → Items → Items
 append no_items es = es
 append (item d ds) es = item d (append ds es)

@@ -10,6 +10,7 @@ use Rattle.fb_pieces.specs.Modes.{EndsOutside}
 use Rattle.fb_pieces.specs.Reads.{read_at}
 use Rattle.fb_pieces.specs.Texts.{array_text}
 
+-- whether the token is an opening bracket
 abbrev pub is_opening : Token → Bool
 is_opening tokens.begin_object = true
 is_opening tokens.end_object = false
@@ -55,6 +56,7 @@ abbrev pub AreBetweenCommas : List (List ℕ) → Type 0
 AreBetweenCommas [] = ⊤
 AreBetweenCommas (e ∷ es) = EndsOutside e × Level 0 (lex between e) × AreBetweenCommas es
 
+-- what is read of all texts, one by one, or nothing where one of them is refused
 abbrev pub read_all : ℕ → List (List ℕ) → Option Items
 read_all levels [] = Some no_items
 read_all levels (e ∷ es) = option_and_then (λ d. option_map (item d) (read_all levels es)) (read_at levels e)

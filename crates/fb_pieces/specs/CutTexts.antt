@@ -6,9 +6,17 @@ use Rattle.fb_pieces.specs.declared.cut.Member.{Member}
 use Rattle.fb_pieces.specs.Texts.{array_rest, object_rest, member_text}
 use Rattle.fb_pieces.specs.Cuts.{IsRunOf, IsMemberOf}
 
+-- the bytes of a piece, of the elements of a run, and of the name and value of a member
 abbrev pub piece_text : List ℕ → Piece → List ℕ
 piece_text text piece = slice_range text piece.start piece.end
 
+abbrev pub run_text : List ℕ → Run → List ℕ
+run_text text run = piece_text text run.elements
+
+abbrev pub member_texts : List ℕ → Member → List ℕ × List ℕ
+member_texts text member = (piece_text text member.name, piece_text text member.value)
+
+-- whether none are behind
 abbrev pub is_empty : {X : Type 0} → List X → Bool
 is_empty [] = true
 is_empty (x ∷ xs) = false
@@ -24,12 +32,6 @@ abbrev pub AreMembersOf : List ℕ → ℕ → ℕ → List Member → Type 0
 AreMembersOf text from end [] = from ≡ end
 AreMembersOf text from end (member ∷ members) = IsMemberOf text from member × (member.is_last ≡ is_empty members)
     × AreMembersOf text (member.value.end + 1) end members
-
-abbrev pub run_text : List ℕ → Run → List ℕ
-run_text text run = piece_text text run.elements
-
-abbrev pub member_texts : List ℕ → Member → List ℕ × List ℕ
-member_texts text member = (piece_text text member.name, piece_text text member.value)
 
 -- Runs that follow one another are, with their commas and the bracket, the text that they are cut from.
 abbrev pub CutRunsAreTheText : Type 0

@@ -27,6 +27,7 @@ unfoldable pub mode_after : Mode → List ℕ → Mode
 mode_after m [] = m
 mode_after m (x ∷ xs) = mode_after (next_mode m (class x)) xs
 
+-- In this mode no string is open.
 abbrev pub IsOutside : Mode → Type 0
 IsOutside between = ⊤
 IsOutside in_word = ⊤

@@ -9,6 +9,7 @@ pub record ReadsMembers (levels : ℕ) (run : List ℕ) (ms : Members) : Type 0 
   pub some : ms ≢ no_members
   pub read : read_at (suc levels) (object_text run []) ≡ Some (object ms)
 
+-- Each run is read as one of these, in order.
 abbrev pub ReadMemberRuns : ℕ → List (List ℕ) → List Members → Type 0
 ReadMemberRuns levels [] [] = ⊤
 ReadMemberRuns levels [] (r ∷ rs) = ⊥

@@ -9,6 +9,7 @@ use Rattle.json.specs.Lex.{Lexeme, comma, fresh, punctuate}
 abbrev pub ends_value_after : Bool → List Token → Bool
 ends_value_after = fold (λ before t. ends t)
 
+-- No token is `bad`.
 abbrev pub AreGood : List Token → Type 0
 AreGood [] = ⊤
 AreGood (t ∷ ts) = (is_good t ≡ true) × AreGood ts
