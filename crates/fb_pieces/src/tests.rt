@@ -123,17 +123,17 @@ fn behind_blanks(alloc: Global, blanks: usize, text: &str) -> Result<Vec<u8>, Al
 fn arrays_are_cut_behind_each_element(rt: HostRuntime) -> Result<(), Fail> {
     for (text, pieces) in ELEMENTS {
         for blanks in 0..66 {
-            let text = behind_blanks(rt.alloc(), blanks, text)?;
-            let pieces = behind_blanks(
+            let padded = behind_blanks(rt.alloc(), blanks, text)?;
+            let wanted = behind_blanks(
                 rt.alloc(),
                 if *pieces == "?" { 0 } else { blanks },
                 pieces,
             )?;
-            let shown = shown_runs(rt.alloc(), text.as_slice(), 0)?;
+            let shown = shown_runs(rt.alloc(), padded.as_slice(), 0)?;
             assert_eq!(rt;
                 shown.as_slice(),
-                pieces.as_slice(),
-                "behind {blanks} blanks"
+                wanted.as_slice(),
+                "{text} behind {blanks} blanks"
             );
         }
     }
@@ -144,17 +144,17 @@ fn arrays_are_cut_behind_each_element(rt: HostRuntime) -> Result<(), Fail> {
 fn objects_are_cut_behind_each_name_and_value(rt: HostRuntime) -> Result<(), Fail> {
     for (text, pieces) in MEMBERS {
         for blanks in 0..66 {
-            let text = behind_blanks(rt.alloc(), blanks, text)?;
-            let pieces = behind_blanks(
+            let padded = behind_blanks(rt.alloc(), blanks, text)?;
+            let wanted = behind_blanks(
                 rt.alloc(),
                 if *pieces == "?" { 0 } else { blanks },
                 pieces,
             )?;
-            let shown = shown_members(rt.alloc(), text.as_slice())?;
+            let shown = shown_members(rt.alloc(), padded.as_slice())?;
             assert_eq!(rt;
                 shown.as_slice(),
-                pieces.as_slice(),
-                "behind {blanks} blanks"
+                wanted.as_slice(),
+                "{text} behind {blanks} blanks"
             );
         }
     }
