@@ -15,3 +15,4 @@ pub mod StringIsReadFromOneLexeme
 pub mod RunsMakeTheObject
 pub mod BlanksHaveNoLexemes
 pub mod PiecesAreTheText
+pub mod TextIsReadByItsPieces

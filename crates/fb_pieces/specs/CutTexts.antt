@@ -43,4 +43,4 @@ abbrev pub CutMembersAreTheText : Type 0
 CutMembersAreTheText = (text : List ℕ) (from end : ℕ) (member : Member) (members : List Member)
     → AreMembersOf text from end (member ∷ members)
     → slice_range text from end
-    ≡ member_text (member_texts text member) ++ object_rest (map (λ m. member_text (member_texts text m)) members)
+    ≡ member_text (member_texts text member) ++ object_rest (map member_text (map (member_texts text) members))

@@ -14,3 +14,4 @@ pub mod ObjectOfRuns
 pub mod Blanks
 pub mod Cuts
 pub mod CutTexts
+pub mod ReadByPieces

@@ -9,6 +9,7 @@ ghost use Rattle.fb_pieces.specs.InBrackets.{ElementIsReadWithoutBrackets};
 ghost use Rattle.fb_pieces.specs.LexemesSplit.{LexemesSplit};
 ghost use Rattle.fb_pieces.specs.ObjectOfMembers.{MembersMakeTheObject};
 ghost use Rattle.fb_pieces.specs.ObjectOfRuns.{RunsMakeTheObject};
+ghost use Rattle.fb_pieces.specs.ReadByPieces.{CutArrayIsRead, CutObjectIsRead};
 ghost use Rattle.fb_pieces.specs.TokensSplit.{TokensSplit};
 
 /// Where a text may be cut, its lexemes are those of its two parts.
@@ -75,4 +76,14 @@ pub fn cut_runs_are_the_text()
 /// Members that are cut one behind another are the object's text, with the colons, the commas and the brace.
 pub fn cut_members_are_the_text()
     ensures { CutMembersAreTheText }
+{}
+
+/// An array's text whose runs are read in brackets of their own is read as the array of them all.
+pub fn cut_array_is_read()
+    ensures { CutArrayIsRead }
+{}
+
+/// An object's text whose members' names and values are read one by one is read as the object of them all.
+pub fn cut_object_is_read()
+    ensures { CutObjectIsRead }
 {}

@@ -39,7 +39,7 @@ run-then text from end elements false (r ∷ rs) s ends more =
     (run-then text (elements.end + 1) end r.elements r.is_last rs more.0 more.1 more.2
     ∙ sym (append_assoc (run_text text r) (array_rest (map (run_text text) rs)) (drop end text)))
 
-runs-forward : (text : List ℕ) (from end : ℕ) (runs : List Run) → AreRunsOf text from end runs → from ≤ end
+pub runs-forward : (text : List ℕ) (from end : ℕ) (runs : List Run) → AreRunsOf text from end runs → from ≤ end
 runs-forward text from end [] same = omega arith
 runs-forward text from end (run ∷ runs) r =
     omega (arith, r.0.ends, runs-forward text (run.elements.end + 1) end runs r.2)
@@ -68,7 +68,7 @@ member-then : (text : List ℕ) (from end : ℕ) (name value : Piece) (b : Bool)
     → IsMemberOf text from (record { name = name; value = value; is_last = b }) → b ≡ is_empty members
     → AreMembersOf text (value.end + 1) end members
     → drop from text ≡ member_text (piece_text text name, piece_text text value)
-    ++ (object_rest (map (λ m. member_text (member_texts text m)) members) ++ drop end text)
+    ++ (object_rest (map member_text (map (member_texts text) members)) ++ drop end text)
 member-then text from end name value true [] m ends more =
     name-then text from _ _ m
     (piece-then text (name.end + 1) 125 value m.value ∙ ap (λ n. piece_text text value ++ 125 ∷ drop n text) more)
@@ -80,10 +80,10 @@ member-then text from end name value false (r ∷ rs) m ends more =
     ∙ ap (λ l. piece_text text value ++ 44 ∷ l)
     (member-then text (value.end + 1) end r.name r.value r.is_last rs more.0 more.1 more.2
     ∙ sym
-    (append_assoc (member_text (member_texts text r)) (object_rest (map (λ n. member_text (member_texts text n)) rs))
+    (append_assoc (member_text (member_texts text r)) (object_rest (map member_text (map (member_texts text) rs)))
     (drop end text))))
 
-members-forward : (text : List ℕ) (from end : ℕ) (members : List Member) → AreMembersOf text from end members
+pub members-forward : (text : List ℕ) (from end : ℕ) (members : List Member) → AreMembersOf text from end members
     → from ≤ end
 members-forward text from end [] same = omega arith
 members-forward text from end (m ∷ members) r =
@@ -95,4 +95,4 @@ cut_members_are_the_text_shown text from end member members r =
     (member-then text from end member.name member.value member.is_last members r.0 r.1 r.2
     ∙ sym
     (append_assoc (member_text (member_texts text member))
-    (object_rest (map (λ n. member_text (member_texts text n)) members)) (drop end text)))
+    (object_rest (map member_text (map (member_texts text) members))) (drop end text)))
