@@ -1,0 +1,1 @@
+-- Lemmas are below the modules that they serve: proofs/laws/ has those of src/laws.rt.

@@ -1,0 +1,5 @@
+use Rattle.fb_pieces.proofs.laws.TextIsReadByItsPieces.{cut_array_is_read_shown}
+use Rattle.fb_pieces.proofs.laws.cut_array_is_read.Goals as goal
+
+pub returns : goal.returns
+returns c = cut_array_is_read_shown

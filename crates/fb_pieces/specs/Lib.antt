@@ -1,0 +1,17 @@
+pub mod Modes
+pub mod Texts
+pub mod Reads
+pub mod LexemesSplit
+pub mod TokensSplit
+pub mod EndsOutside
+pub mod ArrayOfElements
+pub mod ArrayOfRuns
+pub mod ExampleRuns
+pub mod ArrayRefused
+pub mod InBrackets
+pub mod ObjectOfMembers
+pub mod ObjectOfRuns
+pub mod Blanks
+pub mod Cuts
+pub mod CutTexts
+pub mod ReadByPieces

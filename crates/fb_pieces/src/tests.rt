@@ -1,0 +1,185 @@
+//! Texts by hand, and the pieces into which they are cut: `|` is behind each piece but the last, `.` behind the last,
+//! and `?` is where none is found.
+use crate::{Piece, leading_blanks, next_member, next_run};
+use std::alloc::{AllocError, Global};
+use std::test::Fail;
+
+// Arrays behind their bracket, cut behind each element.
+const ELEMENTS: &[(&str, &str)] = &[
+    ("1]", "1."),
+    ("1,2,3]", "1|2|3."),
+    (" 1 , 2\n]", " 1 | 2\n."),
+    ("]", "."),
+    (" ]", " ."),
+    ("1,]", "1|."),
+    (",]", "|."),
+    ("[1,2],[[],[3]]]", "[1,2]|[[],[3]]."),
+    ("{\"a\":[1],\"b\":{}},{}]", "{\"a\":[1],\"b\":{}}|{}."),
+    ("\"]\",\",\",\"[{\"]", "\"]\"|\",\"|\"[{\"."),
+    ("\"\\\"],\",1]", "\"\\\"],\"|1."),
+    ("\"\\\\\",\"]\"]", "\"\\\\\"|\"]\"."),
+    ("\"\\\\\\\",\",2]", "\"\\\\\\\",\"|2."),
+    ("1,2", "1|?"),
+    ("1,\"2]", "1|?"),
+    ("1,[2]", "1|?"),
+    ("1}", "?"),
+    ("", "?"),
+    ("1] ,2]", "1."),
+];
+
+// Objects behind their brace.
+const MEMBERS: &[(&str, &str)] = &[
+    ("\"a\":1}", "\"a\"=1."),
+    (" \"a\" : 1 , \"b\" : 2 }", " \"a\" = 1 | \"b\" = 2 ."),
+    (
+        "\"a\":[1,2],\"b\":{\"c\":[]}}",
+        "\"a\"=[1,2]|\"b\"={\"c\":[]}.",
+    ),
+    ("\":}\":\",\\\"}\",\"\":0}", "\":}\"=\",\\\"}\"|\"\"=0."),
+    ("}", "?"),
+    ("\"a\"}", "?"),
+    ("\"a\",\"b\":1}", "\"a\",\"b\"=1."),
+    ("\"a\":1]", "?"),
+    ("\"a\":1", "?"),
+    ("\"a\":1,", "\"a\"=1|?"),
+];
+
+// Arrays of which a run has at least four bytes.
+const RUNS: &[(&str, &str)] = &[
+    ("1]", "1."),
+    ("123,4]", "123,4."),
+    ("1234,5]", "1234|5."),
+    ("1,2,3,4,5,6]", "1,2,3|4,5,6."),
+    ("[1,2,3,4],[5],[6],7]", "[1,2,3,4]|[5],[6]|7."),
+];
+
+fn push_piece(
+    shown: &mut Vec<u8>,
+    text: &[u8],
+    piece: Piece,
+    behind: u8,
+) -> Result<(), AllocError> {
+    shown.extend_from_slice(text.get(piece.start..piece.end).unwrap_or(b"(no piece)"))?;
+    shown.push(behind)?;
+    Ok(())
+}
+
+fn shown_runs(alloc: Global, text: &[u8], least: usize) -> Result<Vec<u8>, AllocError> {
+    let mut shown = Vec::new(alloc);
+    let mut from = 0;
+    for _ in 0..=text.len() {
+        let Some(run) = next_run(text, from, least) else {
+            shown.push(b'?')?;
+            break;
+        };
+        push_piece(
+            &mut shown,
+            text,
+            run.elements,
+            if run.is_last { b'.' } else { b'|' },
+        )?;
+        if run.is_last {
+            break;
+        }
+        from = run.elements.end + 1;
+    }
+    Ok(shown)
+}
+
+fn shown_members(alloc: Global, text: &[u8]) -> Result<Vec<u8>, AllocError> {
+    let mut shown = Vec::new(alloc);
+    let mut from = 0;
+    for _ in 0..=text.len() {
+        let Some(member) = next_member(text, from) else {
+            shown.push(b'?')?;
+            break;
+        };
+        push_piece(&mut shown, text, member.name, b'=')?;
+        push_piece(
+            &mut shown,
+            text,
+            member.value,
+            if member.is_last { b'.' } else { b'|' },
+        )?;
+        if member.is_last {
+            break;
+        }
+        from = member.value.end + 1;
+    }
+    Ok(shown)
+}
+
+fn behind_blanks(alloc: Global, blanks: usize, text: &str) -> Result<Vec<u8>, AllocError> {
+    let mut padded = Vec::new(alloc);
+    for _ in 0..blanks {
+        padded.push(b' ')?;
+    }
+    padded.extend_from_slice(text.as_bytes())?;
+    Ok(padded)
+}
+
+// Behind so many blanks that each byte of a text begins a block of 64 once, and ends one.
+#[test]
+fn arrays_are_cut_behind_each_element(rt: HostRuntime) -> Result<(), Fail> {
+    for (text, pieces) in ELEMENTS {
+        for blanks in 0..66 {
+            let padded = behind_blanks(rt.alloc(), blanks, text)?;
+            let wanted = behind_blanks(
+                rt.alloc(),
+                if *pieces == "?" { 0 } else { blanks },
+                pieces,
+            )?;
+            let shown = shown_runs(rt.alloc(), padded.as_slice(), 0)?;
+            assert_eq!(rt;
+                shown.as_slice(),
+                wanted.as_slice(),
+                "{text} behind {blanks} blanks"
+            );
+        }
+    }
+    Ok(())
+}
+
+#[test]
+fn objects_are_cut_behind_each_name_and_value(rt: HostRuntime) -> Result<(), Fail> {
+    for (text, pieces) in MEMBERS {
+        for blanks in 0..66 {
+            let padded = behind_blanks(rt.alloc(), blanks, text)?;
+            let wanted = behind_blanks(
+                rt.alloc(),
+                if *pieces == "?" { 0 } else { blanks },
+                pieces,
+            )?;
+            let shown = shown_members(rt.alloc(), padded.as_slice())?;
+            assert_eq!(rt;
+                shown.as_slice(),
+                wanted.as_slice(),
+                "{text} behind {blanks} blanks"
+            );
+        }
+    }
+    Ok(())
+}
+
+#[test]
+fn runs_are_as_long_as_asked(rt: HostRuntime) -> Result<(), Fail> {
+    for (text, pieces) in RUNS {
+        let shown = shown_runs(rt.alloc(), text.as_bytes(), 4)?;
+        assert_eq!(rt; shown.as_slice(), pieces.as_bytes(), "{text}");
+    }
+    Ok(())
+}
+
+#[test]
+fn blanks_are_counted(rt: HostRuntime) {
+    for (text, blanks) in [
+        ("", 0),
+        (" ", 1),
+        ("\t\r\n [", 4),
+        ("[ ", 0),
+        ("\u{b}", 0),
+        ("\u{a0}", 0),
+    ] {
+        assert_eq!(rt; leading_blanks(text.as_bytes()), blanks, "{text}");
+    }
+}
