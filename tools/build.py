@@ -3,9 +3,9 @@
 
 usage: tools/build.py CRATE [--over-gate]
 
-The crates are proved by rt ci, side by side, in a copy of the tree that has nothing else and no must-fail edits. What
-passes is kept beside the toolchain, on this machine: a later build, and the gate, prove only what has changed since,
-and what is above it. A crate that is built already, of the same files, isn't built again.
+The crates are proved by rt ci, side by side, in a copy of the tree that has nothing else and no must-fail edits. Where
+the toolchain keeps what passes (kit 13f does), a later build, and the gate, prove only what has changed since, and what
+is above it. A crate that is built already, of the same files, isn't built again.
 
 With --over-gate a library for C is only compiled, over the libraries that rt ci proved and left in this tree.
 """
