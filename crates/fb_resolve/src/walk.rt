@@ -124,12 +124,12 @@ impl<'d, 's> Walk<'d, 's> {
     {
         let scope = self.scope;
         let namespace = self.path;
-        let uses = uses_of(alloc, &mut self.used, declaration)?;
-        let values = EnumValues::of(alloc, self.key, declaration, uses.as_slice())?;
         let word = word_of(declaration).text;
         let full_name = self.tree.insert_words(namespace, word)?;
-        self.values.push(values)?;
         self.full_names.push(full_name)?;
+        let uses = uses_of(alloc, &mut self.used, declaration)?;
+        let values = EnumValues::of(alloc, self.key, declaration, uses.as_slice())?;
+        self.values.push(values)?;
         self.notes.push(TypeNotes { namespace, uses })?;
         Ok(self.types.push(TypeRead { scope, declaration })?)
     }
