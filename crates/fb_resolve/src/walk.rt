@@ -225,7 +225,7 @@ fn uses_in<'d, T: UsesType>(
 {
     let mut uses = Vec::with_capacity(alloc, users.len())?;
     for user in users {
-        uses.push(type_use(used, user.name_used())?)?;
+        uses.push_reserved(type_use(used, user.name_used())?);
     }
     Ok(uses)
 }
@@ -261,7 +261,7 @@ fn repeated_numbers(alloc: Global, numbers: &[usize], bound: usize) -> Result<Ve
     let mut repeats = Vec::with_capacity(alloc, numbers.len())?;
     for number in numbers {
         let number = *number;
-        repeats.push(seen[number])?;
+        repeats.push_reserved(seen[number]);
         seen[number] = true;
     }
     Ok(repeats)
