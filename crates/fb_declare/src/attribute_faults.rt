@@ -110,15 +110,27 @@ pub(crate) fn metadata_fault(
         (metadata_faults (is_met declared.now) host attributes.now)) }
 {
     match attributes {
-        [] => return Ok(None),
-        [one] => return Ok(attribute_fault(declared, host, false, one)),
+        [] => Ok(None),
+        [one] => Ok(attribute_fault(declared, host, false, one)),
         [one, other] => {
             let again = other.name.text == one.name.text;
             let first = attribute_fault(declared, host, false, one);
-            return Ok(earlier(first, attribute_fault(declared, host, again, other)));
+            Ok(earlier(first, attribute_fault(declared, host, again, other)))
         }
-        _ => {}
+        _ => fault_of_many(alloc, declared, host, attributes),
     }
+}
+
+/// The least fault of any number of attributes. The only error is a refused allocation.
+fn fault_of_many(
+    alloc: Global,
+    declared: &NameSet<'_>,
+    host: AttributeHost,
+    attributes: &[Attribute<'_>],
+) -> Result<Option<SchemaFault>, AllocError>
+    ensures { IfOk result (λ f. f ≡ least_of
+        (metadata_faults (is_met declared.now) host attributes.now)) }
+{
     let mut least = None;
     let mut met = NameSet::new(alloc, declared.key(), attributes.len())?;
     for attribute in attributes {

@@ -70,7 +70,7 @@ pub(crate) fn types_fault(
         let natural = natural_of_type(outline, lower.as_slice(), read);
         let fault = type_fault(alloc, declared, number, natural, repeats[number], read)?;
         least = earlier(least, fault);
-        lower.push(align_of_type(natural, read))?;
+        lower.push_reserved(align_of_type(natural, read));
     }
     Ok(least)
 }

@@ -144,7 +144,7 @@ fn numbers_over<'s>(
     for resolved in values {
         let value = resolved.value;
         let number = value_number(base, flags, resolved.number);
-        repeats.push(note_number(&mut numbers, value.name.text, number)?)?;
+        repeats.push_reserved(note_number(&mut numbers, value.name.text, number)?);
     }
     Ok((repeats, numbers))
 }

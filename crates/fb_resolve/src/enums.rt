@@ -80,7 +80,7 @@ pub(crate) fn resolved_values<'d, 's>(
     let mut next = 0;
     for value in values {
         let number = written_number(next, value);
-        resolved.push(ResolvedValue { value, number })?;
+        resolved.push_reserved(ResolvedValue { value, number });
         next = number + 1;
     }
     Ok(resolved)
@@ -113,7 +113,7 @@ pub fn values_over(
     let base = base.unwrap_or(Base::U8);
     let mut read = Vec::with_capacity(alloc, values.len())?;
     for resolved in values {
-        read.push(value_over(alloc, base, flags, resolved)?)?;
+        read.push_reserved(value_over(alloc, base, flags, resolved)?);
     }
     Ok(read)
 }

@@ -119,10 +119,8 @@ impl<'d, 's> Outline<'d, 's> {
         ensures { IfOk result (λ o. o ≡ outline_of decls.now) }
     {
         let mut walk = Walk::new(alloc, decls.key());
-        for declaration in decls.declarations() {
-            walk.pass(alloc, declaration)?;
-        }
-        walk.outline(alloc, decls.text_len())
+        let repeats = walk.pass_all(alloc, decls.declarations())?;
+        walk.outline(alloc, repeats, decls.text_len())
     }
 }
 

@@ -107,7 +107,7 @@ pub fn parts_read(
     let mut parts = Vec::with_capacity(alloc, fields.len())?;
     for (number, resolved) in fields.iter().enumerate() {
         let field = resolved.field;
-        parts.push(FieldInfo {
+        parts.push_reserved(FieldInfo {
             name: String::from_str(alloc, field.name.text)?,
             shape: shape_of(&field.kind, resolved.meaning),
             default: 0,
@@ -115,7 +115,7 @@ pub fn parts_read(
             required: false,
             deprecated: false,
             slot: number as u64,
-        })?;
+        });
     }
     Ok(parts)
 }

@@ -3,8 +3,8 @@ ghost use Rattle.std.specs.Prelude.{◌≡◌, ◌<◌, ◌++◌, List, [], ◌�
 ghost use Rattle.std.specs.Option.{option_copied};
 ghost use Rattle.fb_syntax.specs.declared.declarations.Declaration.{Declaration as Declared};
 ghost use Rattle.fb_scopes.specs.PathTree.{IsTree, KeepsPaths};
-ghost use Rattle.fb_resolve.specs.Outline.{scope_named, nothing_read, outline_behind};
-ghost use Rattle.fb_resolve.specs.RepeatedNames.{repeated_numbers};
+ghost use Rattle.fb_resolve.specs.Outline.{scope_named, nothing_read, outline_behind, name_of_type};
+ghost use Rattle.fb_resolve.specs.RepeatedNames.{repeated_names, repeated_numbers};
 ghost use Rattle.fb_resolve.specs.Paths.{names_used, walk_read, IsNoted, AreNoted, IsPlaced};
 ghost use Rattle.fb_resolve.specs.Meaning.{type_name};
 ghost use Rattle.fb_schema.specs.Schema.{Name};
@@ -70,12 +70,28 @@ impl<'d, 's> Walk<'d, 's> {
         }
     }
 
-    /// Passes a declaration. The only error is a refused allocation.
-    pub(crate) fn pass(
+    /// Passes declarations, and returns of each type whether one before it has its full name. The only
+    /// error is a refused allocation.
+    pub(crate) fn pass_all(
         &mut self,
         alloc: Global,
-        declaration: &'d Declaration<'s>,
-    ) -> Result<(), AllocError>
+        declarations: &'d [Declaration<'s>],
+    ) -> Result<Vec<bool>, AllocError>
+        requires { IsPlaced self.now }
+        ensures placed { OnOk result (IsPlaced self.new) }
+        ensures passed { (len : ℕ) → OnOk result (outline_behind (walk_read self.new) [] len
+            ≡ outline_behind (walk_read self.old) declarations.now len) }
+        ensures repeats { IfOk result
+            (λ r. r.items ≡ repeated_names name_of_type self.new.types.items) }
+    {
+        for declaration in declarations {
+            self.pass(alloc, declaration)?;
+        }
+        repeated_numbers(alloc, self.full_names.as_slice(), self.tree.len())
+    }
+
+    /// Passes a declaration. The only error is a refused allocation.
+    fn pass(&mut self, alloc: Global, declaration: &'d Declaration<'s>) -> Result<(), AllocError>
         requires placed { IsPlaced self.now }
         ensures placed { OnOk result (IsPlaced self.new) }
         ensures passed { (behind : List Declared) (len : ℕ) → OnOk result
@@ -124,12 +140,12 @@ impl<'d, 's> Walk<'d, 's> {
     {
         let scope = self.scope;
         let namespace = self.path;
-        let uses = uses_of(alloc, &mut self.used, declaration)?;
-        let values = EnumValues::of(alloc, self.key, declaration, uses.as_slice())?;
         let word = word_of(declaration).text;
         let full_name = self.tree.insert_words(namespace, word)?;
-        self.values.push(values)?;
         self.full_names.push(full_name)?;
+        let uses = uses_of(alloc, &mut self.used, declaration)?;
+        let values = EnumValues::of(alloc, self.key, declaration, uses.as_slice())?;
+        self.values.push(values)?;
         self.notes.push(TypeNotes { namespace, uses })?;
         Ok(self.types.push(TypeRead { scope, declaration })?)
     }
@@ -149,16 +165,20 @@ impl<'d, 's> Walk<'d, 's> {
     }
 
     /// Builds the outline of a text of this length. The only error is a refused allocation.
-    pub(crate) fn outline(self, alloc: Global, text_len: u64) -> Result<Outline<'d, 's>, AllocError>
+    pub(crate) fn outline(
+        self,
+        alloc: Global,
+        repeats: Vec<bool>,
+        text_len: u64,
+    ) -> Result<Outline<'d, 's>, AllocError>
         requires placed { IsPlaced self }
+        requires repeats { repeats.items ≡ repeated_names name_of_type self.types.items }
         ensures { IfOk result
             (λ o. o ≡ outline_behind (walk_read self.entry) [] text_len) }
     {
-        let numbers = self.full_names;
-        let full_names = numbers.as_slice();
-        let repeats = repeated_numbers(alloc, full_names, self.tree.len())?;
+        let full_names = self.full_names;
         let names = Names {
-            scopes: Scopes::of(alloc, self.tree, self.used, full_names)?,
+            scopes: Scopes::of(alloc, self.tree, self.used, full_names.as_slice())?,
             notes: self.notes,
             values: self.values,
             root_path: self.root_path,
@@ -225,7 +245,7 @@ fn uses_in<'d, T: UsesType>(
 {
     let mut uses = Vec::with_capacity(alloc, users.len())?;
     for user in users {
-        uses.push(type_use(used, user.name_used())?)?;
+        uses.push_reserved(type_use(used, user.name_used())?);
     }
     Ok(uses)
 }
@@ -261,7 +281,7 @@ fn repeated_numbers(alloc: Global, numbers: &[usize], bound: usize) -> Result<Ve
     let mut repeats = Vec::with_capacity(alloc, numbers.len())?;
     for number in numbers {
         let number = *number;
-        repeats.push(seen[number])?;
+        repeats.push_reserved(seen[number]);
         seen[number] = true;
     }
     Ok(repeats)

@@ -1,27 +1,14 @@
-use Rattle.std.proofs.Common.{rules, ◌≡◌, ◌∙◌, ◌++◌, ◌||◌, List, [], ◌∷◌, Bool, false, true, length, get_or, ap, refl, sym, subst, map, take, arith}
+use Rattle.std.proofs.Common.{rules, ◌≡◌, ◌∙◌, ◌++◌, ◌||◌, List, [], ◌∷◌, Bool, false, true, length, get_or, ap, refl, sym, arith}
 use Rattle.std.specs.Str.{bytes_eq}
 use Rattle.std.proofs.lemmas.List.{append-nil}
 use Rattle.fb_syntax.specs.Attributes.{AttributeRead}
 use Rattle.fb_schema.specs.Schema.{Name}
-use Rattle.fb_declare.specs.AttributeFaults.{attribute_faults, attribute_behind, metadata_faults}
+use Rattle.fb_declare.specs.AttributeFaults.{attribute_faults, metadata_faults}
 use Rattle.fb_declare.specs.Faults.{earlier, least_of}
 use Rattle.fb_declare.specs.declared.attribute_faults.AttributeHost.{AttributeHost}
-use Rattle.fb_declare.specs.NameSet.{is_met, AreMet}
-use Rattle.fb_declare.proofs.Least.{least_of_append, least_more, map-taken}
+use Rattle.fb_declare.specs.NameSet.{is_met}
+use Rattle.fb_declare.proofs.Least.{least_of_append}
 use Rattle.fb_declare.proofs.attribute_faults.metadata_fault.Goals as goal
-
-pub loop-attribute-preserved : goal.loop-attribute-preserved
-loop-attribute-preserved c =
-    let attributes = c.args.attributes.now in
-    let i = c.loop-attribute.attribute-index in
-    let a = c.attribute-item.result in
-    let text : c.name.inside.text.now ≡ a.name.bytes = grind rules in
-    let met = rw text at (c.in_ok-again.ensures (map (λ b. b.name.bytes) (take i attributes)) c.loop-attribute.invariant.met) in
-    record {
-      least = rw (c.earlier-least.ensures, c.attribute_fault-in-loop-attribute.ensures, met.0, c.loop-attribute.invariant.least)
-          (least_more (attribute_behind (is_met c.args.declared.now) c.args.host) attributes i a c.loop-attribute-test.true c.attribute-item.is);
-      met = subst (AreMet c.meet.new.self) (sym (map-taken (λ b. b.name.bytes) attributes i a c.loop-attribute-test.true c.attribute-item.is)) met.1;
-    }
 
 or_false : (b : Bool) → (b || false) ≡ b
 or_false true = refl

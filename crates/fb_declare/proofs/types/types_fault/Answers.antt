@@ -1,4 +1,4 @@
-use Rattle.std.proofs.Common.{◌≡◌, ◌∙◌, [], ap, sym, take}
+use Rattle.std.proofs.Common.{◌≡◌, ◌∙◌, [], ap, sym, take, arith}
 use Rattle.fb_resolve.specs.StructsRead.{natural_of_type}
 use Rattle.fb_declare.specs.NameSet.{is_met}
 use Rattle.fb_declare.specs.TypeFaults.{aligns_from, type_behind}
@@ -26,8 +26,9 @@ loop-number-preserved c =
     let natural : natural_of_type types lower r ≡ c.natural_of_type-natural.result =
     sym (c.natural_of_type-natural.ensures ∙ ap (λ l. natural_of_type types l r) (c.as_slice.ensures.value ∙ c.loop-number.invariant.lower)) in
     record {
+      room = omega arith;
       least = rw (c.earlier-least.ensures, c.in_ok-fault.ensures types lower (length-before types rs i h) natural, (told_type types known.repeats.now rs i r known.repeated (c.as_slice-types.ensures.value ∙ known.meant) h e).1, c.loop-number.invariant.least)
           (least_more (type_behind types (is_met c.args.declared.now)) rs i r h e);
-      lower = rw (c.in_ok-push.ensures.items, c.align_of_type.ensures types lower natural, c.loop-number.invariant.lower)
+      lower = rw (c.push_reserved.ensures.items, c.align_of_type.ensures types lower natural, c.loop-number.invariant.lower)
           (sym (aligns-more types rs i r h e));
     }

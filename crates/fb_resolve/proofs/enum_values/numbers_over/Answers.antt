@@ -47,6 +47,7 @@ loop-resolved-preserved c =
     let old = c.loop-resolved.numbers in
     let number = c.value_number-number.result in
     record {
+      room = omega arith;
       repeats =
           let again : c.in_ok-note_number.field-0 ≡ list_any (bytes_eq name) (map name_of_value (take i values)) =
           grind (arith, rules, c.loop-resolved.invariant.numbers name, named_again c.args.base c.args.flags (take i values) name) in

@@ -25,6 +25,7 @@ loop-value-preserved c =
     let number : to_z w128 (of_z w128 n) ≡ n = to_z-of_z w128 n fits in
     let sum : to_z w128 (of_z w128 (n +ℤ pos 1)) ≡ n +ℤ pos 1 = to_z-of_z w128 (n +ℤ pos 1) (grind (arith, ints, near)) in
     record {
-      so_far = rw (number, sum, c.in_ok-push.ensures.items, c.written_number-number.ensures.number) (grind (arith, common_steps, c.loop-value.invariant.so_far));
+      room = omega arith;
+      so_far = rw (number, sum, c.written_number-number.ensures.number) (grind (arith, common_steps, c.loop-value.invariant.so_far));
       near = rw (number, sum) (grind (arith, ints, near));
     }

@@ -1,6 +1,7 @@
-use Rattle.std.proofs.Common.{rules, ◌≡◌, ◌+◌, ◌∷◌, drop, ap, sym, ◌∙◌, arith}
+use Rattle.std.proofs.Common.{rules, length, ◌≡◌, ◌+◌, ◌∷◌, drop, ap, sym, ◌∙◌, arith}
 use Rattle.std.proofs.lemmas.Grind.{common_steps}
-use Rattle.std.proofs.lemmas.List.{drop_more}
+use Rattle.std.proofs.lemmas.List.{drop_more, length-map}
+use Rattle.fb_resolve.specs.EnumsRead.{enum_values_of}
 use Rattle.std.proofs.lemmas.Slice.Zip.{AllZip-long}
 use Rattle.fb_scopes.specs.Scopes.{tree_of, names_of}
 use Rattle.fb_resolve.specs.Paths.{AreNotesOf}
@@ -10,6 +11,10 @@ use Rattle.fb_resolve.proofs.resolve.resolved_types.Goals as goal
 pub index-notes-requires : goal.index-notes-requires
 index-notes-requires c = let names = c.args.names.now in
     omega (arith, AllZip-long (AreNotesOf (tree_of names.scopes) (names_of names.scopes)) names.notes.items c.args.types.now c.requires.notes, c.loop-number-test.true)
+
+pub index-values-requires : goal.index-values-requires
+index-values-requires c = let types = c.args.types.now in
+    omega (arith, ap length c.requires.values, length-map types (enum_values_of types), c.loop-number-test.true)
 
 pub invariant_of-scope : goal.invariant_of-scope
 invariant_of-scope c = let names = c.args.names.now in
@@ -28,7 +33,7 @@ loop-number-preserved c =
     let item = c.index-types-number.result in
     let next : drop i types ≡ item ∷ drop (i + 1) types =
     drop_more types i item c.loop-number-test.true ∙ ap (λ r. r ∷ drop (i + 1) types) (sym c.index-types-number.is) in
-    record { room = grind (arith, common_steps, next, c.loop-number.invariant.room); so_far = grind (arith, common_steps, next, c.loop-number.invariant.so_far) }
+    record { room = omega arith; so_far = grind (arith, common_steps, next, c.loop-number.invariant.so_far) }
 
 pub returns : goal.returns
 returns c = grind (arith, common_steps, c.loop-number.invariant.so_far)

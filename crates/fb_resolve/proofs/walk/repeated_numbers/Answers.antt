@@ -18,6 +18,7 @@ loop-number-preserved c =
     let told : c.index.result.now ≡ list_any (λ m. n == m) (take i ns) =
     grind (arith, get_or_default marks n c.index.result.now false marked, c.loop-number.invariant.marks n low) in
     record {
+      room = omega arith;
       count = simp length-set c.loop-number.invariant.count;
       marks = λ k h. grind (arith, common_steps, nat_tests, list_any_more (λ m. k == m) ns i 0 c.loop-number-test.true, c.loop-number.invariant.marks k h);
       told = grind (arith, common_steps, told, take_more ns i 0 c.loop-number-test.true);

@@ -15,4 +15,4 @@ pub loop-number-preserved : goal.loop-number-preserved
 loop-number-preserved c =
     let item = c.index-fields-number in
     let meant = c.meaning-meaning.ensures _ (use_at (λ f. (type_name f.kind).bytes) (names_of c.args.self.names.now.scopes) c.args.uses.now c.args.fields.now c.loop-number.number _ item.result c.requires.used c.loop-number-test.true item.is) in
-    record { room = grind (arith, common_steps, c.loop-number.invariant.room); so_far = grind (arith, common_steps, meant, c.loop-number.invariant.so_far) }
+    record { room = omega arith; so_far = grind (arith, common_steps, meant, c.loop-number.invariant.so_far) }

@@ -5,6 +5,6 @@ use Rattle.fb_resolve.proofs.scope.Scope.resolved_fields.Given as goal
 
 abbrev pub invariant-loop-number : goal.invariant-loop-number
 invariant-loop-number l = let resolved = resolved_fields l.self.types.now (option_copied l.self.name) in record {
-  room : vec_len l.resolved + length (drop l.number l.fields) ≤ vec_capacity l.resolved;
+  room : vec_len l.resolved + length l.fields ≤ l.number + vec_capacity l.resolved;
   so_far : l.resolved.items ++ resolved (drop l.number l.fields) ≡ resolved l.fields;
 }

@@ -28,8 +28,8 @@ returns-clause-placed c =
       scope = grown.scope;
       notes = rw (c.in_ok-push-3.ensures.items, c.in_ok-push-4.ensures.items)
           (all_zipped_more (AreNotesOf tree used) w.notes.items w.types.items _ one grown.notes (record { namespace = grown.scope; uses = noted.uses }));
-      values = λ types. rw (c.in_ok-push.ensures.items, c.in_ok-push-4.ensures.items, map_push (enum_values_of types) w.types.items one, grown.values types, c.in_ok-values.ensures types one.scope) refl;
-      full_names = rw (c.in_ok-push-2.ensures.items, c.in_ok-push-4.ensures.items)
+      values = λ types. rw (c.in_ok-push-2.ensures.items, c.in_ok-push-4.ensures.items, map_push (enum_values_of types) w.types.items one, grown.values types, c.in_ok-values.ensures types one.scope) refl;
+      full_names = rw (c.in_ok-push.ensures.items, c.in_ok-push-4.ensures.items)
           (all_zipped_more (λ n r. IsPath tree n (words (name_of_type r))) w.full_names.items w.types.items full_name one grown.full_names named);
       root = grown.root;
     }

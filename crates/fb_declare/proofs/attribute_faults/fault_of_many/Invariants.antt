@@ -2,7 +2,7 @@ use Rattle.std.proofs.Common.{◌≡◌, map, take}
 use Rattle.fb_declare.specs.Faults.{least_of}
 use Rattle.fb_declare.specs.AttributeFaults.{metadata_faults}
 use Rattle.fb_declare.specs.NameSet.{is_met, AreMet}
-use Rattle.fb_declare.proofs.attribute_faults.metadata_fault.Given as goal
+use Rattle.fb_declare.proofs.attribute_faults.fault_of_many.Given as goal
 
 abbrev pub invariant-loop-attribute : goal.invariant-loop-attribute
 invariant-loop-attribute l = record {
