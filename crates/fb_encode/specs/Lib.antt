@@ -1,3 +1,4 @@
 pub mod Encoded
 pub mod TreesNoted
 pub mod StoredAs
+pub mod SlotsRead

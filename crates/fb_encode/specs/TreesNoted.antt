@@ -1,5 +1,5 @@
 -- What a tree adds to a tape while it is read: the value that it gives waits there, and its cells are spent.
-use Rattle.std.specs.Prelude.{ℕ, ◌≡◌, ◌≤◌, true, Bool, List, Option, None, Some, Result, Ok, Err, length, slice_get}
+use Rattle.std.specs.Prelude.{ℕ, ◌≡◌, ◌≤◌, true, Bool, List, Option, None, Some, Ok, Err, length, slice_get}
 use Rattle.std.specs.Prelude.{if◌then◌else◌}
 use Rattle.serde_json.specs.Data.{Data}
 use Rattle.fb_schema.specs.Schema.{DeclaredField}
@@ -11,11 +11,9 @@ use Rattle.fb_value.specs.Entries.{EntryFits, entry_room}
 use Rattle.fb_value.specs.Fits.{Fits}
 use Rattle.fb_value.specs.Room.{room, parts_room}
 use Rattle.fb_value.specs.View.{parts_in}
-use Rattle.fb_value.specs.declared.values.Value.{Value}
 use Rattle.fb_tape.specs.NamedParts.{apart_of, as_list, elements_apart, entry_apart}
 use Rattle.fb_tape.specs.OpenFields.{OpenField}
 use Rattle.fb_tape.specs.Tapes.{Taped}
-use Rattle.fb_json.specs.declared.faults.JsonFault.{JsonFault}
 use Rattle.fb_json.specs.declared.faults.Place.{Place}
 use Rattle.fb_json.specs.Meant.{Meaner, meant, unless_null, used_meant}
 use Rattle.fb_json.specs.Outcome.{Counted}
@@ -75,8 +73,3 @@ IsSlot L t k f = slice_get (slots_of L t) k ≡ Some f
 abbrev pub vector_given : Counted (List Datum) → Counted Datum
 vector_given (Ok xs) = Ok (a_vector (parts_in xs.0), xs.1)
 vector_given (Err e) = Err e
-
--- the cells that are left behind an entry
-abbrev pub left_of : Result (Option Value × ℕ) JsonFault → Result ℕ JsonFault
-left_of (Ok x) = Ok x.1
-left_of (Err e) = Err e

@@ -8,11 +8,12 @@ ghost use Rattle.fb_layout.specs.Laid.{one_of, stored_kind, stored_shape};
 ghost use Rattle.fb_layout.specs.Seen.{slot_seen};
 ghost use Rattle.fb_tape.specs.InlineBytes.{IsInline};
 ghost use Rattle.fb_tape.specs.Tapes.{Taped};
-ghost use Rattle.fb_json.specs.Meant.{meant, slot_place, used_meant};
+ghost use Rattle.fb_json.specs.Meant.{slot_place};
 ghost use Rattle.fb_json.specs.Outcome.{Fails};
 ghost use Rattle.fb_json.specs.SlotMembers.{is_of_union, tree_seen};
 ghost use Rattle.fb_encode.specs.StoredAs.{IsStoredAs};
-ghost use Rattle.fb_encode.specs.TreesNoted.{IsEntryNoted, IsPart, IsSlot, entry_given, left_of};
+ghost use Rattle.fb_encode.specs.SlotsRead.{NotesSlot, left_of, present_given, slot_given};
+ghost use Rattle.fb_encode.specs.TreesNoted.{IsEntryNoted, IsPart, IsSlot};
 
 use crate::parts::{note_object, note_part};
 use fb_build::{Noting, is_default};
@@ -88,15 +89,10 @@ fn note_member(
     requires slot { IsSlot source.layout.now slot.owner.0 slot.number (slot_seen source.layout.now slot.field.now) }
     requires used { slot.field.now.deprecated ≡ false }
     requires union { slot.field.now.shape ≡ One (Kind.Union union) }
-    ensures noted { let L = source.entry.layout.now in let f = field_seen slot.entry.field.now in
-        IfOk result (IsEntryNoted L slot.entry.number (slot_seen L slot.entry.field.now)
-        (used_meant L f slot.entry.code (Some (meant L source.entry.unknown (tree_view tree.now)))
-        (slot_place slot.entry.owner.0 slot.entry.number) levels left f.shape)
-        noting.old.tape noting.new.tape noting.old.opened noting.new.opened) }
-    ensures refused { let L = source.entry.layout.now in let f = field_seen slot.entry.field.now in
-        IfErr result (λ e. Fails e (used_meant L f slot.entry.code
-        (Some (meant L source.entry.unknown (tree_view tree.now)))
-        (slot_place slot.entry.owner.0 slot.entry.number) levels left f.shape)) }
+    ensures noted { let L = source.entry.layout.now in IfOk result (NotesSlot L slot.entry
+        (present_given L source.entry.unknown slot.entry (tree_view tree.now) levels left) noting.old noting.new) }
+    ensures refused { IfErr result (λ e. Fails e (present_given source.entry.layout.now source.entry.unknown
+        slot.entry (tree_view tree.now) levels left)) }
 {
     let _schema = source.layout.schema(); // its contract: the code has the slot before
     let place = slot.place();
@@ -123,15 +119,10 @@ fn note_reference(
     requires whole { noting.old.tape.unfinished ≡ [] }
     requires used { slot.field.now.deprecated ≡ false }
     requires part { IsPart source.layout.now (stored_shape source.layout.now.schema slot.field.now.shape) }
-    ensures noted { let L = source.entry.layout.now in let f = field_seen slot.entry.field.now in
-        IfOk result (IsEntryNoted L slot.entry.number (slot_seen L slot.entry.field.now)
-        (used_meant L f slot.entry.code (Some (meant L source.entry.unknown (tree_view tree.now)))
-        (slot_place slot.entry.owner.0 slot.entry.number) levels left f.shape)
-        noting.old.tape noting.new.tape noting.old.opened noting.new.opened) }
-    ensures refused { let L = source.entry.layout.now in let f = field_seen slot.entry.field.now in
-        IfErr result (λ e. Fails e (used_meant L f slot.entry.code
-        (Some (meant L source.entry.unknown (tree_view tree.now)))
-        (slot_place slot.entry.owner.0 slot.entry.number) levels left f.shape)) }
+    ensures noted { let L = source.entry.layout.now in IfOk result (NotesSlot L slot.entry
+        (present_given L source.entry.unknown slot.entry (tree_view tree.now) levels left) noting.old noting.new) }
+    ensures refused { IfErr result (λ e. Fails e (present_given source.entry.layout.now source.entry.unknown
+        slot.entry (tree_view tree.now) levels left)) }
 {
     let place = slot.place();
     let left = note_part(source, noting, tree, slot.field.shape, place, levels, left)?;
@@ -153,16 +144,13 @@ fn note_inline(
     requires kind { slot.field.now.shape ≡ One kind }
     requires plain { is_of_union slot.field.now.shape ≡ false }
     requires inline { IsInline source.layout.now (stored_kind source.layout.now.schema kind) }
-    ensures noted { let L = source.entry.layout.now in let f = field_seen slot.entry.field.now in
+    ensures noted { let L = source.entry.layout.now in
         IfOk result (λ rest. (T : Taped) → T.unfinished ≡ [] → IsEntryNoted L slot.entry.number
         (slot_seen L slot.entry.field.now)
-        (used_meant L f slot.entry.code (Some (meant L source.entry.unknown (tree_view tree.now)))
-        (slot_place slot.entry.owner.0 slot.entry.number) levels left f.shape)
+        (present_given L source.entry.unknown slot.entry (tree_view tree.now) levels left)
         T T opened.old opened.new rest) }
-    ensures refused { let L = source.entry.layout.now in let f = field_seen slot.entry.field.now in
-        IfErr result (λ e. Fails e (used_meant L f slot.entry.code
-        (Some (meant L source.entry.unknown (tree_view tree.now)))
-        (slot_place slot.entry.owner.0 slot.entry.number) levels left f.shape)) }
+    ensures refused { IfErr result (λ e. Fails e (present_given source.entry.layout.now source.entry.unknown
+        slot.entry (tree_view tree.now) levels left)) }
 {
     let place = slot.place();
     let (value, left) = element_of(source, tree, kind, place, levels, left)?;
@@ -188,15 +176,10 @@ fn note_present(
     requires slot { IsSlot source.layout.now slot.owner.0 slot.number (slot_seen source.layout.now slot.field.now) }
     requires marks { MarksFit source.layout.now.schema (field_seen slot.field.now) slot.field.now.shape }
     requires used { slot.field.now.deprecated ≡ false }
-    ensures noted { let L = source.entry.layout.now in let f = field_seen slot.entry.field.now in
-        IfOk result (IsEntryNoted L slot.entry.number (slot_seen L slot.entry.field.now)
-        (used_meant L f slot.entry.code (Some (meant L source.entry.unknown (tree_view tree.now)))
-        (slot_place slot.entry.owner.0 slot.entry.number) levels left f.shape)
-        noting.old.tape noting.new.tape noting.old.opened noting.new.opened) }
-    ensures refused { let L = source.entry.layout.now in let f = field_seen slot.entry.field.now in
-        IfErr result (λ e. Fails e (used_meant L f slot.entry.code
-        (Some (meant L source.entry.unknown (tree_view tree.now)))
-        (slot_place slot.entry.owner.0 slot.entry.number) levels left f.shape)) }
+    ensures noted { let L = source.entry.layout.now in IfOk result (NotesSlot L slot.entry
+        (present_given L source.entry.unknown slot.entry (tree_view tree.now) levels left) noting.old noting.new) }
+    ensures refused { IfErr result (λ e. Fails e (present_given source.entry.layout.now source.entry.unknown
+        slot.entry (tree_view tree.now) levels left)) }
 {
     let _schema = source.layout.schema(); // its contract: the layout is well made
     match stored_as(slot.field.shape) {
@@ -233,14 +216,10 @@ pub(crate) fn note_slot(
     requires whole { noting.old.tape.unfinished ≡ [] }
     requires slot { IsSlot source.layout.now slot.owner.0 slot.number (slot_seen source.layout.now slot.field.now) }
     requires marks { MarksFit source.layout.now.schema (field_seen slot.field.now) slot.field.now.shape }
-    ensures noted { let L = source.entry.layout.now in let f = field_seen slot.entry.field.now in
-        IfOk result (IsEntryNoted L slot.entry.number (slot_seen L slot.entry.field.now)
-        (entry_given L source.entry.unknown f (tree_seen tree.entry)
-        (slot_place slot.entry.owner.0 slot.entry.number) slot.entry.code levels left)
-        noting.old.tape noting.new.tape noting.old.opened noting.new.opened) }
-    ensures refused { let L = source.entry.layout.now in let f = field_seen slot.entry.field.now in
-        IfErr result (λ e. Fails e (entry_given L source.entry.unknown f (tree_seen tree.entry)
-        (slot_place slot.entry.owner.0 slot.entry.number) slot.entry.code levels left)) }
+    ensures noted { let L = source.entry.layout.now in IfOk result (NotesSlot L slot.entry
+        (slot_given L source.entry.unknown slot.entry (tree_seen tree.entry) levels left) noting.old noting.new) }
+    ensures refused { IfErr result (λ e. Fails e (slot_given source.entry.layout.now source.entry.unknown
+        slot.entry (tree_seen tree.entry) levels left)) }
 {
     if slot.field.deprecated {
         return Ok(left);

@@ -276,15 +276,21 @@ parts::note_object-returns-clause-refused t c =
 
 pub parts::note_target-returns-in-Text-clause-noted : goal.parts::note_target-returns-in-Text-clause-noted
 parts::note_target-returns-in-Text-clause-noted t c =
-    rw (c.in-Text.is, text_by c.args.source.layout.now c.args.source.unknown c.args.place c.args.levels c.args.left
-    (tree_view c.args.tree.now)) (subst (λ (M : LaidSchema). IfOk c.note_text.result (IsNoted M (one_of text_kind)
+    rw (
+      c.in-Text.is,
+      text_by c.args.source.layout.now c.args.source.unknown c.args.place c.args.levels c.args.left
+          (tree_view c.args.tree.now),
+    ) (subst (λ (M : LaidSchema). IfOk c.note_text.result (IsNoted M (one_of text_kind)
     (text_meant (tree_view c.args.tree.now) c.args.place c.args.left) c.args.noting.now.tape
     c.note_text.new.noting.tape)) c.requires.layout c.note_text.ensures.noted)
 
 pub parts::note_target-returns-in-Text-clause-refused : goal.parts::note_target-returns-in-Text-clause-refused
 parts::note_target-returns-in-Text-clause-refused t c =
-    rw (c.in-Text.is, text_by c.args.source.layout.now c.args.source.unknown c.args.place c.args.levels c.args.left
-    (tree_view c.args.tree.now)) c.note_text.ensures.refused
+    rw (
+      c.in-Text.is,
+      text_by c.args.source.layout.now c.args.source.unknown c.args.place c.args.levels c.args.left
+          (tree_view c.args.tree.now),
+    ) c.note_text.ensures.refused
 
 -- ---- a table slot by slot
 

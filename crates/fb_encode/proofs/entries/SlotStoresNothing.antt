@@ -28,7 +28,8 @@ use Rattle.fb_build.specs.Noted.{AreFieldsOf}
 use Rattle.fb_build.specs.Parts.{EntryWhole}
 use Rattle.fb_build.proofs.noted.EntryHasItsFields.{no_fields}
 use Rattle.fb_build.proofs.noted.PartsAreAdded.{adds_none, adds_same}
-use Rattle.fb_encode.specs.TreesNoted.{IsEntryNoted, entry_given, left_of}
+use Rattle.fb_encode.specs.SlotsRead.{left_of}
+use Rattle.fb_encode.specs.TreesNoted.{IsEntryNoted, entry_given}
 
 pub record StoresNothing (L : LaidSchema) (f : Slot) (x : Option Datum) : Type 0 where
   pub fits : EntryFits L f x
