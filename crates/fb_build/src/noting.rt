@@ -1,5 +1,5 @@
 //! Notes values on a tape.
-ghost use Rattle.std.specs.Prelude.{ℕ, ◌≡◌, ◌≤◌, ◌<◌, ◌+◌, List, [], ◌∷◌, Some, true, false, not, length, map};
+ghost use Rattle.std.specs.Prelude.{ℕ, ◌≡◌, ◌≤◌, ◌<◌, ◌+◌, [], ◌∷◌, Some, true, false, not, length, map};
 ghost use Rattle.std.specs.Prelude.{option_map, OnOk, IfOk};
 ghost use Rattle.fb_layout.specs.Laid.{LaidSchema, slots_of, one_of, kind_in, align_of, table_kind, union_kind};
 ghost use Rattle.fb_layout.specs.Widths.{greatest};
@@ -12,7 +12,7 @@ ghost use Rattle.fb_value.specs.Room.{room, table_room, vector_room, parts_room,
 ghost use Rattle.fb_value.specs.Datum.{count};
 ghost use Rattle.fb_value.specs.UpTo.{at_most_usize};
 ghost use Rattle.fb_value.specs.View.{view, parts_view, entries_view};
-ghost use Rattle.fb_tape.specs.NamedParts.{NamedPart, apart_of, entry_apart, entries_apart, elements_apart, as_list};
+ghost use Rattle.fb_tape.specs.NamedParts.{apart_of, entry_apart, entries_apart, elements_apart, as_list};
 ghost use Rattle.fb_tape.specs.Tapes.{Waits};
 ghost use Rattle.fb_build.specs.Fields.{IsSimple, IsElement, is_reference, entries_seen, slot_seen};
 ghost use Rattle.fb_build.specs.Fields.{code_in, is_coded, is_stored, shape_seen, kind_seen, slots_seen, stored_seen};

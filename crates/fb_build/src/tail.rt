@@ -1,6 +1,6 @@
 //! Bytes that are laid from their end.
 ghost use Rattle.std.specs.Prelude.{◌≡◌, ◌≤◌, ◌<◌, ◌+◌, ◌-◌, ◌%◌, ◌++◌};
-ghost use Rattle.std.specs.Prelude.{length, replicate, max, true, IfOk, OnOk, OnErr};
+ghost use Rattle.std.specs.Prelude.{length, replicate, max, true};
 ghost use Rattle.fb_value.specs.Num.{divides};
 ghost use Rattle.byteorder.specs.Endian.{little_bytes};
 ghost use Rattle.fb_layout.specs.Sizes.{IsAlignment};

@@ -1,5 +1,5 @@
 //! What references name: texts, tables and vectors are noted as their trees are read.
-ghost use Rattle.std.specs.Prelude.{◌≡◌, ◌≤◌, [], ◌⊎◌, IfErr, IfOk, true, length};
+ghost use Rattle.std.specs.Prelude.{◌≡◌, ◌≤◌, [], IfErr, IfOk, true, length};
 ghost use Rattle.serde_json.specs.View.{view as tree_view, items_view};
 ghost use Rattle.fb_schema.specs.declared.kinds.Kind.TheVariants.{Table, Text};
 ghost use Rattle.fb_schema.specs.declared.kinds.Shape.TheVariants.{One, Many};

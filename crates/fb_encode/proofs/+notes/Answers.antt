@@ -22,7 +22,7 @@ use Rattle.fb_json.specs.SlotMembers.{looked_up, tree_seen}
 use Rattle.fb_json.proofs.slots.MemberAtItsSlot.{looked_up_at, read_at}
 use Rattle.fb_json.proofs.slots.OneSlotOrFieldMore.{fails_by, fails_is, slot_at}
 use Rattle.fb_json.proofs.slots.SlotsDecideTheTable.{table_fails, table_gives, table_unknown}
-use Rattle.fb_build.proofs.apart.OneMoreFits.{counted, elements_fit, long_more, parts_room_more}
+use Rattle.fb_build.proofs.noted.OneMoreFits.{counted, elements_fit, long_more, parts_room_more}
 use Rattle.fb_build.proofs.fields.AlignmentDividesTheSize.{all_known}
 use Rattle.fb_build.proofs.fields.CodeIsBeforeItsUnion.{slots_paired}
 use Rattle.fb_build.proofs.fields.NumbersHaveDefaults.{marks_at}
@@ -276,15 +276,21 @@ parts::note_object-returns-clause-refused t c =
 
 pub parts::note_target-returns-in-Text-clause-noted : goal.parts::note_target-returns-in-Text-clause-noted
 parts::note_target-returns-in-Text-clause-noted t c =
-    rw (c.in-Text.is, text_by c.args.source.layout.now c.args.source.unknown c.args.place c.args.levels c.args.left
-    (tree_view c.args.tree.now)) (subst (λ (M : LaidSchema). IfOk c.note_text.result (IsNoted M (one_of text_kind)
+    rw (
+      c.in-Text.is,
+      text_by c.args.source.layout.now c.args.source.unknown c.args.place c.args.levels c.args.left
+          (tree_view c.args.tree.now),
+    ) (subst (λ (M : LaidSchema). IfOk c.note_text.result (IsNoted M (one_of text_kind)
     (text_meant (tree_view c.args.tree.now) c.args.place c.args.left) c.args.noting.now.tape
     c.note_text.new.noting.tape)) c.requires.layout c.note_text.ensures.noted)
 
 pub parts::note_target-returns-in-Text-clause-refused : goal.parts::note_target-returns-in-Text-clause-refused
 parts::note_target-returns-in-Text-clause-refused t c =
-    rw (c.in-Text.is, text_by c.args.source.layout.now c.args.source.unknown c.args.place c.args.levels c.args.left
-    (tree_view c.args.tree.now)) c.note_text.ensures.refused
+    rw (
+      c.in-Text.is,
+      text_by c.args.source.layout.now c.args.source.unknown c.args.place c.args.levels c.args.left
+          (tree_view c.args.tree.now),
+    ) c.note_text.ensures.refused
 
 -- ---- a table slot by slot
 

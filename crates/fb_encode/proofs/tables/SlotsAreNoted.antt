@@ -29,13 +29,13 @@ use Rattle.fb_json.specs.Meant.{Look, code_after, entry_meant, slot_place, slots
 use Rattle.fb_json.specs.Outcome.{Counted, Fails}
 use Rattle.fb_json.specs.SlotMembers.{looked_up, tree_seen}
 use Rattle.fb_json.proofs.slots.OneSlotOrFieldMore.{after, fails_by, fails_is, slots_end, slots_next, slots_ungiven, slots_untold}
-use Rattle.fb_build.specs.Apart.{EachEntryFits}
+use Rattle.fb_build.specs.OneByOne.{EachEntryFits}
 use Rattle.fb_build.specs.Fields.{stored_in}
 use Rattle.fb_build.specs.Noted.{AddsParts, AddsSlots}
 use Rattle.fb_build.specs.Paired.{ArePaired}
 use Rattle.fb_build.specs.Parts.{EntryWhole}
-use Rattle.fb_build.proofs.apart.EntriesAreKnown.{known_in}
-use Rattle.fb_build.proofs.apart.OneMoreFits.{all_fit, fits_more, long_more}
+use Rattle.fb_build.proofs.fields.EntriesAreKnown.{known_in}
+use Rattle.fb_build.proofs.noted.OneMoreFits.{all_fit, fits_more, long_more}
 use Rattle.fb_build.proofs.noted.PartsAreAdded.{adds_none, adds_same, adds_then}
 use Rattle.fb_build.proofs.noted.SlotsAreNoted.{apart_more, empty_open, no_apart, no_room, none_stored, open_more, room_more}
 use Rattle.fb_encode.specs.TreesNoted.{IsEntryNoted, IsNoted, entry_given}

@@ -81,8 +81,7 @@ module _ (L : LaidSchema) (most : Bounds) (unknown : Bool) (t : Data) (root leve
     pub root_means : OnlyWhatIsMeant → Means L most unknown t h.value
     root_means law =
         let good = law L unknown t (One (Table (record { 0 = root }))) (type_place root) levels left (h.value, rest)
-        h.given_is in
-        (
+        h.given_is in (
           subst (λ (n : ℕ). MeansAs L unknown t (One (Table (record { 0 = n }))) h.value) is good.0,
           omega (arith, good.2, deep),
           omega (arith, good.1, many),
