@@ -62,7 +62,7 @@ pub fn is_reference(shape: Shape) -> bool
 
 /// Notes a table and what its references name.
 #[cycle(noting)]
-pub(crate) fn note_table(
+fn note_table(
     noting: &mut Noting<'_>,
     layout: &Layout,
     table: TypeId,
@@ -140,7 +140,7 @@ fn code_of(value: &Value) -> Option<u8>
 
 /// Notes what a slot stores, and what its reference names. A union's code, in the slot before, comes with its value.
 #[cycle(noting)]
-pub(crate) fn note_entry(
+fn note_entry(
     noting: &mut Noting<'_>,
     layout: &Layout,
     k: u16,
@@ -182,7 +182,7 @@ pub(crate) fn note_entry(
 
 /// Notes what a reference names.
 #[cycle(noting)]
-pub(crate) fn note_part(
+fn note_part(
     noting: &mut Noting<'_>,
     layout: &Layout,
     shape: Shape,
