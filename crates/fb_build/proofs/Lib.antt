@@ -1,4 +1,3 @@
-pub mod apart
 pub mod covered
 pub mod fields
 pub mod noted

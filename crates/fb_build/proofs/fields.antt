@@ -1,5 +1,6 @@
 pub mod AlignmentDividesTheSize
 pub mod CodeIsBeforeItsUnion
+pub mod EntriesAreKnown
 pub mod FieldEndsBehindThoseBefore
 pub mod FieldHasItsValue
 pub mod FieldLeadsToItsTarget

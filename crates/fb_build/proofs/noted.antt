@@ -4,3 +4,4 @@ pub mod PartsAreAdded
 pub mod ElementsAreNoted
 pub mod SlotsAreNoted
 pub mod PartsFollow
+pub mod OneMoreFits

@@ -18,7 +18,7 @@ pub mod CoveredTails
 pub mod CoveredSteps
 pub mod FaultTable
 pub mod Made
-pub mod Apart
+pub mod OneByOne
 pub mod Roots
 pub mod Vtables
 pub mod Lengths

@@ -1,4 +1,4 @@
--- What is laid outside of a table for one of its entries, or for an element of a vector.
+-- Entries that fit the slots of a table, and are whole.
 use Rattle.std.specs.Prelude.{ℕ, ◌≡◌, true, Option, None, Some, List, length, slice_get}
 use Rattle.fb_layout.specs.Laid.{LaidSchema, Slot}
 use Rattle.fb_value.specs.Datum.{Datum}

@@ -53,9 +53,8 @@ buffer_end L t = header_end L.schema.identifier (tape_most t) (tape_end t)
 
 -- ---- the operations that are left
 
--- The parts that wait are those that the operations so far leave, and the parts qs will wait behind the others, for
--- which
--- the tail has room.
+-- The parts that wait are those that the operations so far leave. The parts qs will wait behind the others, and for
+-- these the tail has room.
 pub record IsLaidUpTo (L : LaidSchema) (vtables : List Bytes) (ops : List Op) (notes : List NotedField) (bytes : Bytes)
     (qs : List NamedPart) (a : Laying) : Type 0 where
   pub parts : List NamedPart

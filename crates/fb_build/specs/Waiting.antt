@@ -19,9 +19,8 @@ use Rattle.fb_build.specs.Tails.{TailSeen, LaidInTail}
 abbrev pub all_of : List NamedPart → List (Option NamedPart)
 all_of ps = map (λ x. Some x) ps
 
--- Each part lies at its end-count, the tail is made of all of them and of the vtables that have come, and is padded
--- to no
--- more than the layout's greatest alignment.
+-- Each part lies at its end-count. The tail is made of all of them and of the vtables that have come, and is padded to
+-- no more than the layout's greatest alignment.
 pub record AreWaiting (L : LaidSchema) (vtables : List Bytes) (ps : List NamedPart) (ends places : List ℕ)
     (o : TailSeen) : Type 0 where
   pub each : length ends ≡ length ps

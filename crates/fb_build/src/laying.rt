@@ -1,5 +1,5 @@
 //! Lays the operations of a tape, one after the other.
-ghost use Rattle.std.specs.Prelude.{ℕ, List, [], ◌∷◌, ◌≡◌, ◌≤◌, ◌<◌, ◌+◌, ◌-◌, ◌++◌, ◌^◌, length, take, max};
+ghost use Rattle.std.specs.Prelude.{[], ◌∷◌, ◌≡◌, ◌≤◌, ◌<◌, ◌+◌, ◌-◌, ◌++◌, ◌^◌, length, take, max};
 ghost use Rattle.std.specs.Vec.{vec_capacity};
 ghost use Rattle.fb_tape.specs.declared.ops.Op.TheVariants.{Data, References, Table};
 ghost use Rattle.fb_build.specs.Lengths.{data_end, references_end, fields_end, table_end};

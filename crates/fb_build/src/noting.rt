@@ -1,5 +1,5 @@
 //! Notes values on a tape.
-ghost use Rattle.std.specs.Prelude.{ℕ, ◌≡◌, ◌≤◌, ◌<◌, ◌+◌, List, [], ◌∷◌, Some, true, false, not, length, map};
+ghost use Rattle.std.specs.Prelude.{ℕ, ◌≡◌, ◌≤◌, ◌<◌, ◌+◌, [], ◌∷◌, Some, true, false, not, length, map};
 ghost use Rattle.std.specs.Prelude.{option_map, OnOk, IfOk};
 ghost use Rattle.fb_layout.specs.Laid.{LaidSchema, slots_of, one_of, kind_in, align_of, table_kind, union_kind};
 ghost use Rattle.fb_layout.specs.Widths.{greatest};
@@ -12,7 +12,7 @@ ghost use Rattle.fb_value.specs.Room.{room, table_room, vector_room, parts_room,
 ghost use Rattle.fb_value.specs.Datum.{count};
 ghost use Rattle.fb_value.specs.UpTo.{at_most_usize};
 ghost use Rattle.fb_value.specs.View.{view, parts_view, entries_view};
-ghost use Rattle.fb_tape.specs.NamedParts.{NamedPart, apart_of, entry_apart, entries_apart, elements_apart, as_list};
+ghost use Rattle.fb_tape.specs.NamedParts.{apart_of, entry_apart, entries_apart, elements_apart, as_list};
 ghost use Rattle.fb_tape.specs.Tapes.{Waits};
 ghost use Rattle.fb_build.specs.Fields.{IsSimple, IsElement, is_reference, entries_seen, slot_seen};
 ghost use Rattle.fb_build.specs.Fields.{code_in, is_coded, is_stored, shape_seen, kind_seen, slots_seen, stored_seen};
@@ -62,7 +62,7 @@ pub fn is_reference(shape: Shape) -> bool
 
 /// Notes a table and what its references name.
 #[cycle(noting)]
-pub(crate) fn note_table(
+fn note_table(
     noting: &mut Noting<'_>,
     layout: &Layout,
     table: TypeId,
@@ -140,7 +140,7 @@ fn code_of(value: &Value) -> Option<u8>
 
 /// Notes what a slot stores, and what its reference names. A union's code, in the slot before, comes with its value.
 #[cycle(noting)]
-pub(crate) fn note_entry(
+fn note_entry(
     noting: &mut Noting<'_>,
     layout: &Layout,
     k: u16,
@@ -182,7 +182,7 @@ pub(crate) fn note_entry(
 
 /// Notes what a reference names.
 #[cycle(noting)]
-pub(crate) fn note_part(
+fn note_part(
     noting: &mut Noting<'_>,
     layout: &Layout,
     shape: Shape,

@@ -1,6 +1,6 @@
 //! Bytes that are laid from their end.
 ghost use Rattle.std.specs.Prelude.{◌≡◌, ◌≤◌, ◌<◌, ◌+◌, ◌-◌, ◌%◌, ◌++◌};
-ghost use Rattle.std.specs.Prelude.{length, replicate, max, true, IfOk, OnOk, OnErr};
+ghost use Rattle.std.specs.Prelude.{length, replicate, max, true};
 ghost use Rattle.fb_value.specs.Num.{divides};
 ghost use Rattle.byteorder.specs.Endian.{little_bytes};
 ghost use Rattle.fb_layout.specs.Sizes.{IsAlignment};
@@ -90,19 +90,6 @@ impl Tail {
         self.put(bytes);
     }
 
-    /// Lays a number of two bytes.
-    pub(crate) fn lay_u16(&mut self, number: u16)
-        requires room { 2 ≤ self.old.free }
-        ensures bytes { self.new.bytes ≡ little_bytes 2 number ++ self.old.bytes }
-        ensures free { self.new.free + 2 ≡ self.old.free }
-        ensures most { self.new.most ≡ self.old.most }
-        ensures grows { Grows self.old self.new }
-    {
-        let mut bytes = [0u8; 2];
-        LittleEndian::write_u16(&mut bytes, number);
-        self.lay(&bytes);
-    }
-
     /// Lays a number of four bytes.
     pub(crate) fn lay_u32(&mut self, number: u32)
         requires room { 4 ≤ self.old.free }
@@ -125,17 +112,6 @@ impl Tail {
         self.free -= zeros;
     }
 
-    /// Takes zeros that are already there.
-    pub(crate) fn take_zeros(&mut self, zeros: usize)
-        requires room { zeros ≤ self.old.free }
-        ensures bytes { self.new.bytes ≡ replicate zeros 0 ++ self.old.bytes }
-        ensures free { self.new.free + zeros ≡ self.old.free }
-        ensures most { self.new.most ≡ self.old.most }
-        ensures grows { Grows self.old self.new }
-    {
-        self.skip(zeros);
-    }
-
     fn widen(&mut self, align: usize)
         requires power { IsAlignment align }
         ensures bytes { self.new.bytes ≡ self.old.bytes }
@@ -146,8 +122,7 @@ impl Tail {
         self.most = self.most.max(align);
     }
 
-    /// Takes zeros that are already there, so that so many more bytes end at a multiple: these zeros are
-    /// free.
+    /// Takes zeros that are already there, so that so many more bytes end at a multiple.
     pub(crate) fn fit(&mut self, align: usize, more: usize) -> usize
         requires power { IsAlignment align }
         requires short { more ≤ 2147483648 }
@@ -166,23 +141,6 @@ impl Tail {
         self.skip(zeros);
         self.widen(align);
         zeros
-    }
-
-    /// Takes zeros that are already there, so that so many more bytes end at a multiple.
-    pub(crate) fn pad(&mut self, align: usize, more: usize) -> usize
-        requires power { IsAlignment align }
-        requires short { more ≤ 2147483648 }
-        requires room { align ≤ self.old.free + 1 }
-        ensures bytes { self.new.bytes ≡ replicate result 0 ++ self.old.bytes }
-        ensures free { self.new.free + result ≡ self.old.free }
-        ensures exact { result ≡ (align - (length self.old.bytes + more) % align) % align }
-        ensures under { result < align }
-        ensures multiple { (length self.new.bytes + more) % align ≡ 0 }
-        ensures most { self.new.most ≡ max self.old.most align }
-        ensures wide { divides align self.new.most ≡ true }
-        ensures grows { Grows self.old self.new }
-    {
-        self.fit(align, more)
     }
 
     /// The bytes that are laid.

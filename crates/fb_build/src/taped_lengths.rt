@@ -2,9 +2,7 @@
 ghost use Rattle.std.specs.Prelude.{◌≡◌, ◌≤◌, ◌<◌, ◌+◌, ◌-◌, length};
 ghost use Rattle.fb_layout.specs.Widths.{greatest};
 ghost use Rattle.fb_tape.specs.Tapes.{known_after};
-ghost use Rattle.std.specs.Prelude.{Bool, if◌then◌else◌};
 ghost use Rattle.fb_build.specs.Lengths.{zeros_to, data_end, fields_end, closed_end};
-ghost use Rattle.fb_build.specs.NotesLaid.{notes_size};
 ghost use Rattle.fb_build.specs.TapeLaid.{MayCount, SomeLay, op_end, op_most, tape_end, tape_most, buffer_end};
 
 use crate::taped_fields::size_in;

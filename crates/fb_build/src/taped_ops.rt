@@ -1,12 +1,11 @@
 //! Lays a tape.
-ghost use Rattle.std.specs.Prelude.{ℕ, List, [], ◌≡◌, ◌≤◌, ◌<◌, ◌+◌, length, take, drop};
+ghost use Rattle.std.specs.Prelude.{List, [], ◌≡◌, ◌≤◌, ◌<◌, ◌+◌, length, take, drop};
 ghost use Rattle.std.specs.Vec.{vec_capacity};
-ghost use Rattle.fb_layout.specs.Widths.{greatest};
 ghost use Rattle.fb_tape.specs.NamedParts.{NamedPart};
-ghost use Rattle.fb_tape.specs.Tapes.{Lay, Waits};
+ghost use Rattle.fb_tape.specs.Tapes.{Lay};
 ghost use Rattle.fb_tape.specs.KnownVtables.{EachHasOneNumber};
 ghost use Rattle.fb_build.specs.Steps.{Steps};
-ghost use Rattle.fb_build.specs.TapeLaid.{op_fields, op_bytes, op_vtable, notes_bytes, MayLayOp, op_end, op_most};
+ghost use Rattle.fb_build.specs.TapeLaid.{op_fields, op_bytes, op_vtable, MayLayOp, op_end, op_most};
 ghost use Rattle.fb_build.specs.TapeLaid.{tape_most};
 ghost use Rattle.fb_build.specs.TapeLaid.{SomeLay, IsFresh, tape_end};
 ghost use Rattle.fb_build.specs.Tails.{Grows};

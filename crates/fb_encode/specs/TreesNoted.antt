@@ -17,7 +17,7 @@ use Rattle.fb_tape.specs.Tapes.{Taped}
 use Rattle.fb_json.specs.declared.faults.Place.{Place}
 use Rattle.fb_json.specs.Meant.{Meaner, meant, unless_null, used_meant}
 use Rattle.fb_json.specs.Outcome.{Counted}
-use Rattle.fb_build.specs.Apart.{EachElementFits}
+use Rattle.fb_build.specs.OneByOne.{EachElementFits}
 use Rattle.fb_build.specs.Fields.{IsElement, is_reference}
 use Rattle.fb_build.specs.Noted.{AddsFields, AddsParts}
 use Rattle.fb_build.specs.Parts.{EntryWhole}

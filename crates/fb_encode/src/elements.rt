@@ -1,5 +1,5 @@
 //! Vectors of numbers and structs.
-ghost use Rattle.std.specs.Prelude.{◌≡◌, ◌≤◌, ◌+◌, [], IfErr, IfOk, false, length};
+ghost use Rattle.std.specs.Prelude.{◌≡◌, ◌≤◌, [], IfErr, IfOk, false};
 ghost use Rattle.serde_json.specs.View.{items_view};
 ghost use Rattle.fb_layout.specs.Laid.{align_of, one_of, stored_kind, vector_of};
 ghost use Rattle.fb_layout.specs.Widths.{greatest};

@@ -1,10 +1,10 @@
 //! Slots of a table: what each stores is noted as its member is read.
-ghost use Rattle.std.specs.Prelude.{◌≡◌, [], IfErr, IfOk, Some, false, true};
+ghost use Rattle.std.specs.Prelude.{◌≡◌, [], IfErr, IfOk, Some, false};
 ghost use Rattle.serde_json.specs.View.{view as tree_view};
 ghost use Rattle.fb_schema.specs.Seen.{field_seen};
 ghost use Rattle.fb_schema.specs.WellDeclared.{MarksFit};
 ghost use Rattle.fb_schema.specs.declared.kinds.Shape.TheVariants.{One};
-ghost use Rattle.fb_layout.specs.Laid.{one_of, stored_kind, stored_shape};
+ghost use Rattle.fb_layout.specs.Laid.{stored_kind, stored_shape};
 ghost use Rattle.fb_layout.specs.Seen.{slot_seen};
 ghost use Rattle.fb_tape.specs.InlineBytes.{IsInline};
 ghost use Rattle.fb_tape.specs.Tapes.{Taped};

@@ -1,5 +1,5 @@
 //! What references name: texts, tables and vectors are noted as their trees are read.
-ghost use Rattle.std.specs.Prelude.{◌≡◌, ◌≤◌, [], ◌⊎◌, IfErr, IfOk, true, length};
+ghost use Rattle.std.specs.Prelude.{◌≡◌, ◌≤◌, [], IfErr, IfOk, true, length};
 ghost use Rattle.serde_json.specs.View.{view as tree_view, items_view};
 ghost use Rattle.fb_schema.specs.declared.kinds.Kind.TheVariants.{Table, Text};
 ghost use Rattle.fb_schema.specs.declared.kinds.Shape.TheVariants.{One, Many};
@@ -50,7 +50,8 @@ pub(crate) fn note_object(
 ) -> Result<u32, JsonFault>
     requires layout { noting.old.tape.layout ≡ source.layout.now }
     requires whole { noting.old.tape.unfinished ≡ [] }
-    ensures noted { let L = source.entry.layout.now in IfOk result (IsNoted L (one_of (stored_kind L.schema (Table owner)))
+    ensures noted { let L = source.entry.layout.now in
+        IfOk result (IsNoted L (one_of (stored_kind L.schema (Table owner)))
         (meant L source.entry.unknown (tree_view tree.now) (One (Table owner)) place levels left)
         noting.old.tape noting.new.tape) }
     ensures opened { IfOk result (λ rest. noting.new.opened ≡ noting.old.opened) }

@@ -81,7 +81,8 @@ inline_fields L k f kind (a_number n) x shape inline fits stored h =
     inline_field L k f kind (a_number n) x shape inline (rw shape (own_kind L kind (a_number n) (rw shape at fits)))
     stored h
 inline_fields L k f kind (a_text b) x shape inline fits stored h =
-    inline_field L k f kind (a_text b) x shape inline (rw shape (own_kind L kind (a_text b) (rw shape at fits))) stored h
+    inline_field L k f kind (a_text b) x shape inline (rw shape (own_kind L kind (a_text b) (rw shape at fits)))
+    stored h
 inline_fields L k f kind (a_vector ds) x shape inline fits stored h =
     inline_field L k f kind (a_vector ds) x shape inline (rw shape (own_kind L kind (a_vector ds) (rw shape at fits)))
     stored h

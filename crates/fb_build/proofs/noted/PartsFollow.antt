@@ -15,7 +15,7 @@ use Rattle.fb_value.specs.Room.{parts_room}
 use Rattle.fb_value.specs.View.{view, parts_view}
 use Rattle.fb_value.specs.declared.values.Value.{Value}
 use Rattle.fb_tape.specs.NamedParts.{NamedPart, apart_of, elements_apart, as_list}
-use Rattle.fb_build.specs.Apart.{EachElementFits}
+use Rattle.fb_build.specs.OneByOne.{EachElementFits}
 use Rattle.fb_build.specs.Fields.{IsElement, IsSimple, SlotFits, is_reference}
 use Rattle.fb_build.specs.Items.{ItemsKnown}
 use Rattle.fb_build.proofs.rooms.RoomsAddUp.{number_inline, struct_inline, all_inline}
@@ -63,16 +63,7 @@ named_more kind ds d = filter_map-append (apart_of (one_of kind)) ds (d ∷ [])
     one None = refl
     one (Some x) = refl
 
--- ---- shapes and elements, as contracts above have them
-
-pub reference_simple : (L : LaidSchema) (kind : StoredKind) → is_reference (one_of kind) ≡ true
-    → IsSimple L (one_of kind)
-reference_simple L (scalar_kind b) is = tt
-reference_simple L (struct_kind s) is = cc
-reference_simple L (table_kind t) is = tt
-reference_simple L (union_kind u) is = tt
-reference_simple L (code_kind u) is = tt
-reference_simple L text_kind is = tt
+-- ---- elements, as contracts above have them
 
 slot_fits : (L : LaidSchema) (kind : StoredKind) (d : Datum) → IsElement L kind → Fits L (one_of kind) d
     → SlotFits L (one_of kind) d

@@ -2,6 +2,7 @@
 use Rattle.std.proofs.Common.{◌≡◌, ℕ, zero, suc, ◌-◌, ◌≤◌, ◌++◌, true, List, [], ◌∷◌, length, map}
 use Rattle.std.proofs.Common.{slice_get, slice_index, Some, refl, ap, sym, ◌∙◌, subst, arith, append_assoc, append-nil}
 use Rattle.std.proofs.Common.{length-append}
+use Rattle.std.proofs.lemmas.List.Sorted.{IsPermutation-append_comm, IsPermutation-append_left}
 use Rattle.fb_layout.specs.Laid.{LaidSchema}
 use Rattle.fb_layout.specs.Widths.{greatest}
 use Rattle.fb_value.specs.Num.{Bytes, divides}
@@ -13,7 +14,7 @@ use Rattle.fb_build.specs.NumberedVtables.{AreLaidInTurn}
 use Rattle.fb_build.specs.Pieces.{PartAt}
 use Rattle.fb_build.specs.Tails.{TailSeen, Grows, LaidInTail}
 use Rattle.fb_build.specs.Waiting.{AreWaiting, all_of}
-use Rattle.fb_build.proofs.apart.PartsApartAreMade.{made_first}
+use Rattle.fb_build.proofs.covered.PartsInFrontAreAdded.{made_permuted}
 use Rattle.fb_build.proofs.tables.EndsNameTheParts.{AreThere, ends_moved}
 use Rattle.fb_build.proofs.tail.WhatIsLaidStaysLaid.{laid_grown}
 
@@ -47,6 +48,15 @@ each_waits P (o ∷ others) taken part [] ends_t e long h now k x is = absurd (o
 each_waits P (o ∷ others) taken part (q ∷ ends_o) ends_t e long h now zero x is = h zero x is
 each_waits P (o ∷ others) taken part (q ∷ ends_o) ends_t e long h now (suc k) x is =
     each_waits P others taken part ends_o ends_t e (omega (arith, long)) (λ j y at. h (suc j) y at) now k x is
+
+-- What is made stays so where the parts in front come behind the next ones.
+made_first : (L : LaidSchema) (o : TailSeen) (places : List ℕ) (ys xs zs : List PartAt)
+    → IsMade L o places (ys ++ (xs ++ zs)) → IsMade L o places ((xs ++ ys) ++ zs)
+made_first L o places ys xs zs made =
+    let joined : ys ++ (xs ++ zs) ≡ (ys ++ xs) ++ zs = sym (append_assoc ys xs zs) in
+    made_permuted L o places ((ys ++ xs) ++ zs) ((xs ++ ys) ++ zs)
+    (IsPermutation-append_left zs (ys ++ xs) (xs ++ ys) (IsPermutation-append_comm ys xs))
+    (subst (λ (ps : List PartAt). IsMade L o places ps) joined made)
 
 -- what is asked of what is laid
 pub record IsLaidNow (L : LaidSchema) (vtables : List Bytes) (taken : List NamedPart) (part : NamedPart)

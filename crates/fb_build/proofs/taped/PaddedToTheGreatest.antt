@@ -11,7 +11,7 @@ use Rattle.fb_tape.specs.declared.ops.Op.{Op}
 use Rattle.fb_tape.specs.declared.ops.Op.TheVariants.{Data, References, Table}
 use Rattle.fb_build.specs.Fields.{stored_in}
 use Rattle.fb_build.specs.OpLengths.{op_most, ops_most}
-use Rattle.fb_build.proofs.apart.EntriesAreKnown.{known_in}
+use Rattle.fb_build.proofs.fields.EntriesAreKnown.{known_in}
 use Rattle.fb_build.proofs.fields.AlignmentDividesTheSize.{inline_low}
 use Rattle.fb_build.proofs.tables.TableFitsItsRoom.{stored_low}
 use Rattle.fb_build.proofs.taped.StepsOfALaying.{data_aligned}

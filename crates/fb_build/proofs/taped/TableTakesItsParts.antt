@@ -27,7 +27,7 @@ use Rattle.fb_build.specs.NumberedVtables.{IsTableOpen, IsTableClosed}
 use Rattle.fb_build.specs.Parts.{TableKnown}
 use Rattle.fb_build.specs.Tails.{TailSeen, Grows, LaidInTail}
 use Rattle.fb_build.specs.Waiting.{AreWaiting, MayStep}
-use Rattle.fb_build.proofs.apart.EntriesAreKnown.{known_in}
+use Rattle.fb_build.proofs.fields.EntriesAreKnown.{known_in}
 use Rattle.fb_build.proofs.fields.AlignmentDividesTheSize.{inline_low}
 use Rattle.fb_build.proofs.fields.SlotStoresItsEntry.{same_some}
 use Rattle.fb_build.proofs.tables.TableFitsItsRoom.{fields_narrow, stored_low}

@@ -26,7 +26,7 @@ use Rattle.fb_build.specs.Fields.{AreKnown, fields_size, stored_in}
 use Rattle.fb_build.specs.Lengths.{zeros_to}
 use Rattle.fb_build.specs.NotesLaid.{noted_size, notes_size}
 use Rattle.fb_build.specs.TapeLaid.{op_fields, op_end, MayCount, IsCountedUpTo}
-use Rattle.fb_build.proofs.apart.EntriesAreKnown.{known_in}
+use Rattle.fb_build.proofs.fields.EntriesAreKnown.{known_in}
 use Rattle.fb_build.proofs.fields.SlotStoresItsEntry.{same_some}
 use Rattle.fb_build.proofs.order.LaidFieldsTakeTheirSizes.{size_from, size_retested, size_all, size_none}
 use Rattle.fb_build.proofs.order.NextFieldIsNamed.{IsNamed, size_of_next}

@@ -10,7 +10,6 @@ use Rattle.fb_build.specs.Vtables.{StandsEnd}
 use Rattle.fb_build.specs.Tails.{TailSeen, Grows}
 use Rattle.fb_build.specs.TableBytes.{way_to}
 use Rattle.fb_build.specs.Vtables.{AreLaid, TellsItsLength}
--- ISKNOWN
 use Rattle.fb_build.proofs.tail.WhatIsLaidStaysLaid.{stands_grown}
 use Rattle.fb_build.proofs.numbers.NumberReadsBack.{num_behind, num_first}
 

@@ -1,4 +1,5 @@
-use Rattle.std.proofs.Common.{◌≡◌, ◌∙◌, ◌++◌, ◌∷◌, ◌<◌, ◌≤◌, [], ℕ, None, Some, Ok, refl, sym, ap, subst, length, map, arith, rules}
+use Rattle.std.proofs.Common.{◌≡◌, ◌∙◌, ◌++◌, ◌∷◌, ◌<◌, ◌≤◌, [], ℕ, None, Some, Ok, refl, sym, ap, subst, length, map}
+use Rattle.std.proofs.Common.{arith, rules}
 use Rattle.std.proofs.Common.{option_map, ◌-◌, IfOk}
 use Rattle.std.proofs.lemmas.List.{length-map}
 use Rattle.std.proofs.lemmas.Result.{err_from_is_err_and}
@@ -22,15 +23,17 @@ use Rattle.fb_json.specs.SlotMembers.{looked_up, tree_seen}
 use Rattle.fb_json.proofs.slots.MemberAtItsSlot.{looked_up_at, read_at}
 use Rattle.fb_json.proofs.slots.OneSlotOrFieldMore.{fails_by, fails_is, slot_at}
 use Rattle.fb_json.proofs.slots.SlotsDecideTheTable.{table_fails, table_gives, table_unknown}
-use Rattle.fb_build.proofs.apart.OneMoreFits.{counted, elements_fit, long_more, parts_room_more}
+use Rattle.fb_build.proofs.noted.OneMoreFits.{counted, elements_fit, long_more, parts_room_more}
 use Rattle.fb_build.proofs.fields.AlignmentDividesTheSize.{all_known}
 use Rattle.fb_build.proofs.fields.CodeIsBeforeItsUnion.{slots_paired}
 use Rattle.fb_build.proofs.fields.NumbersHaveDefaults.{marks_at}
 use Rattle.fb_build.proofs.noted.PartsAreAdded.{adds_same, adds_then}
 use Rattle.fb_build.proofs.noted.PartsFollow.{elements_known, named_more}
 use Rattle.fb_encode.proofs.elements.ElementsAreNoted.{one_more_fits, one_more_given}
-use Rattle.fb_encode.proofs.entries.PresentEntryIsNoted.{code_given, inline_of, member_given, member_noted, member_refused}
-use Rattle.fb_encode.proofs.entries.PresentEntryIsNoted.{mismatch_refused, part_of, part_plain, plain_given, plain_refused}
+use Rattle.fb_encode.proofs.entries.PresentEntryIsNoted.{code_given, inline_of, member_given, member_noted}
+use Rattle.fb_encode.proofs.entries.PresentEntryIsNoted.{member_refused}
+use Rattle.fb_encode.proofs.entries.PresentEntryIsNoted.{mismatch_refused, part_of, part_plain, plain_given}
+use Rattle.fb_encode.proofs.entries.PresentEntryIsNoted.{plain_refused}
 use Rattle.fb_encode.proofs.entries.PresentEntryIsNoted.{reference_noted}
 use Rattle.fb_encode.proofs.entries.SlotStoresNothing.{absent_noted, given_nothing, nothing_noted}
 use Rattle.fb_encode.proofs.parts.ArrayIsNoted.{array_given, array_refused, if_err_then, vector_refused}
@@ -60,7 +63,8 @@ entries::note_member-overflow_sub-slot t c =
     (ap (stored_shape L.schema) c.requires.union) in
     omega (arith, led.2)
 
-pub entries::note_member-returns-in_err-left-clause-refused : goal.entries::note_member-returns-in_err-left-clause-refused
+pub entries::note_member-returns-in_err-left-clause-refused
+    : goal.entries::note_member-returns-in_err-left-clause-refused
 entries::note_member-returns-in_err-left-clause-refused t c =
     let L = c.args.source.layout.now in
     let slot = c.args.slot in
@@ -117,7 +121,8 @@ entries::note_present-note_inline-requires t c =
       inline = inline_of L c.in-Inline.kind (rw is.0 at simple) (rw is.0 at is.1) (rw is.0 at (is.2 L.schema));
     }
 
-pub entries::note_reference-returns-in_err-left-clause-refused : goal.entries::note_reference-returns-in_err-left-clause-refused
+pub entries::note_reference-returns-in_err-left-clause-refused
+    : goal.entries::note_reference-returns-in_err-left-clause-refused
 entries::note_reference-returns-in_err-left-clause-refused t c =
     let L = c.args.source.layout.now in
     let slot = c.args.slot in
@@ -183,7 +188,8 @@ parts::note_array-returns-then-len-left-clause-refused t c =
     (tree_view c.args.tree.now) c.in-Some.elements.now.items c.in-Some.ensures c.len.result
     (omega (arith, c.len.ensures, c.in-Some.elements.now.small)) c.if-len-left.true
 
-pub parts::note_array-returns-then-not-is_reference-clause-noted : goal.parts::note_array-returns-then-not-is_reference-clause-noted
+pub parts::note_array-returns-then-not-is_reference-clause-noted
+    : goal.parts::note_array-returns-then-not-is_reference-clause-noted
 parts::note_array-returns-then-not-is_reference-clause-noted t c =
     let given = array_given c.args.source.layout.now c.args.source.unknown c.args.place c.args.levels c.args.left
     c.args.kind (tree_view c.args.tree.now) c.deref.result.now (rw c.deref.ensures.value c.in-Some.ensures)
@@ -191,7 +197,8 @@ parts::note_array-returns-then-not-is_reference-clause-noted t c =
     (omega (arith, c.len.ensures, c.len-2.ensures, c.if-len-left.false)) in
     rw given c.note_elements.ensures.noted
 
-pub parts::note_array-returns-then-not-is_reference-clause-refused : goal.parts::note_array-returns-then-not-is_reference-clause-refused
+pub parts::note_array-returns-then-not-is_reference-clause-refused
+    : goal.parts::note_array-returns-then-not-is_reference-clause-refused
 parts::note_array-returns-then-not-is_reference-clause-refused t c =
     let given = array_given c.args.source.layout.now c.args.source.unknown c.args.place c.args.levels c.args.left
     c.args.kind (tree_view c.args.tree.now) c.deref.result.now (rw c.deref.ensures.value c.in-Some.ensures)
@@ -294,14 +301,16 @@ parts::note_target-returns-in-Text-clause-refused t c =
 
 -- ---- a table slot by slot
 
-pub tables::note_table-returns-then-levels-eq0-clause-refused : goal.tables::note_table-returns-then-levels-eq0-clause-refused
+pub tables::note_table-returns-then-levels-eq0-clause-refused
+    : goal.tables::note_table-returns-then-levels-eq0-clause-refused
 tables::note_table-returns-then-levels-eq0-clause-refused t c =
     let ms = members_view c.args.members.now.entries in
     let L = c.args.source.layout.now in
     too_deep L c.args.source.unknown ms (look L c.args.source.unknown ms) c.args.owner.0 c.args.place c.args.levels
     c.args.left c.if-levels-eq0.true
 
-pub tables::note_table-returns-then-left-eq0-clause-refused : goal.tables::note_table-returns-then-left-eq0-clause-refused
+pub tables::note_table-returns-then-left-eq0-clause-refused
+    : goal.tables::note_table-returns-then-left-eq0-clause-refused
 tables::note_table-returns-then-left-eq0-clause-refused t c =
     let ms = members_view c.args.members.now.entries in
     let L = c.args.source.layout.now in

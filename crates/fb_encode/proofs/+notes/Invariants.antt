@@ -7,7 +7,7 @@ use Rattle.fb_value.specs.View.{parts_in}
 use Rattle.fb_tape.specs.NamedParts.{elements_apart}
 use Rattle.fb_json.specs.Meant.{items_meant, look}
 use Rattle.fb_json.proofs.slots.OneSlotOrFieldMore.{after}
-use Rattle.fb_build.specs.Apart.{EachElementFits}
+use Rattle.fb_build.specs.OneByOne.{EachElementFits}
 use Rattle.fb_build.specs.Noted.{AddsParts}
 use Rattle.fb_encode.proofs.tables.SlotsAreNoted.{AreSlotsNoted}
 use Rattle.fb_encode.proofs.+notes.Given as goal

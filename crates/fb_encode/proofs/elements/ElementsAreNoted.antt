@@ -1,6 +1,7 @@
 -- The elements of a vector of numbers or structs are noted one after the other.
-use Rattle.std.proofs.Common.{◌≡◌, ◌+◌, ◌≤◌, ◌<◌, ◌++◌, ◌∷◌, [], ℕ, true, false, List, Ok, length, drop, refl, sym, ap, ◌∙◌, subst}
-use Rattle.std.proofs.Common.{get_or, arith, Bool, zero, suc}
+use Rattle.std.proofs.Common.{◌≡◌, ◌+◌, ◌≤◌, ◌<◌, ◌++◌, ◌∷◌, [], ℕ, true, List, Ok, length, drop, refl, sym, ap, ◌∙◌}
+use Rattle.std.proofs.Common.{subst}
+use Rattle.std.proofs.Common.{get_or, Bool, zero, suc}
 use Rattle.std.proofs.lemmas.List.{drop_all}
 use Rattle.std.proofs.Common.{add-one, drop-cons}
 use Rattle.serde_json.specs.View.{view as tree_view, items_view}
@@ -16,17 +17,14 @@ use Rattle.fb_json.specs.declared.faults.JsonFault.{JsonFault}
 use Rattle.fb_json.specs.Meant.{items_meant, meant}
 use Rattle.fb_json.specs.Outcome.{Counted, Fails}
 use Rattle.fb_json.proofs.slots.OneSlotOrFieldMore.{after, fails_by, items_end, items_next, items_ungiven}
-use Rattle.fb_build.specs.Apart.{EachElementFits}
-use Rattle.fb_build.proofs.apart.OneMoreFits.{elements_more}
+use Rattle.fb_build.specs.OneByOne.{EachElementFits}
+use Rattle.fb_build.proofs.noted.OneMoreFits.{elements_more}
 
 drop_at : {A : Type 0} (xs : List A) (k : ℕ) (x : A) → k < length xs → x ≡ get_or xs k x
     → drop k xs ≡ x ∷ drop (k + 1) xs
 drop_at xs k x h is =
     let there : drop k xs ≡ get_or xs k x ∷ drop (k + 1) xs = rw (add-one, drop-cons xs k x) refl in
     there ∙ ap (λ y. y ∷ drop (k + 1) xs) (sym is)
-
-pub none_fit : (L : LaidSchema) (kind : StoredKind) → EachElementFits L kind []
-none_fit L kind k d at = cc
 
 pub one_more_fits : (L : LaidSchema) (kind : StoredKind) (ds : List Datum) (d : Datum) → Fits L (one_of kind) d
     → is_whole d ≡ true → EachElementFits L kind ds → EachElementFits L kind (ds ++ (d ∷ []))

@@ -1,6 +1,7 @@
 -- The entry of a slot whose member is there.
 use Rattle.std.specs.Prelude.{ℤ}
-use Rattle.std.proofs.Common.{◌≡◌, ◌≤◌, ◌-◌, ◌++◌, ◌∷◌, [], ◌∙◌, ℕ, zero, suc, Bool, true, false, not, List, Option, None, Some, pos}
+use Rattle.std.proofs.Common.{◌≡◌, ◌≤◌, ◌-◌, ◌++◌, ◌∷◌, [], ◌∙◌, ℕ, zero, suc, Bool, true, false, not, List, Option}
+use Rattle.std.proofs.Common.{None, Some, pos}
 use Rattle.std.proofs.Common.{Result, Ok, Err, refl, sym, ap, subst}
 use Rattle.std.proofs.lemmas.List.{append-nil}
 use Rattle.fb_schema.specs.declared.kinds.Base.TheVariants.{U8}
@@ -10,7 +11,8 @@ use Rattle.fb_schema.specs.declared.kinds.Shape.{Shape}
 use Rattle.fb_schema.specs.declared.kinds.Shape.TheVariants.{One, Many}
 use Rattle.fb_schema.specs.declared.kinds.TypeId.{TypeId}
 use Rattle.fb_schema.specs.Schema.{DeclaredField}
-use Rattle.fb_layout.specs.Laid.{LaidSchema, Slot, StoredKind, StoredShape, align_of, kind_in, member_by_code, one_of, slot_of}
+use Rattle.fb_layout.specs.Laid.{LaidSchema, Slot, StoredKind, StoredShape, align_of, kind_in, member_by_code, one_of}
+use Rattle.fb_layout.specs.Laid.{slot_of}
 use Rattle.fb_layout.specs.Laid.{stored_kind, stored_shape}
 use Rattle.fb_layout.specs.Laid.{vector_of, scalar_kind, struct_kind, table_kind, union_kind, code_kind, text_kind}
 use Rattle.fb_layout.specs.Widths.{greatest}

@@ -2,7 +2,8 @@
 use Rattle.std.specs.Prelude.{ℤ}
 use Rattle.std.specs.Ordering.{int_eq}
 use Rattle.std.proofs.Common.{◌≡◌, ◌⊎◌, inl, inr, ◌∙◌, ◌&&◌, ◌||◌, ℕ, zero, suc, Bool, true, false, not, List, []}
-use Rattle.std.proofs.Common.{Option, None, Some, Result, Ok, Err, IfOk, IfErr, option_map, if◌then◌else◌, refl, sym, ap, subst, arith}
+use Rattle.std.proofs.Common.{Option, None, Some, Result, Ok, Err, IfOk, IfErr, option_map, if◌then◌else◌, refl, sym}
+use Rattle.std.proofs.Common.{ap, subst, arith}
 use Rattle.std.proofs.lemmas.List.{append-nil}
 use Rattle.std.proofs.lemmas.Bool.Decides.{Decides-int_eq}
 use Rattle.fb_schema.specs.declared.kinds.Base.{Base}
@@ -150,7 +151,8 @@ module _ (L : LaidSchema) (f : DeclaredField) where
       → StoresNothing L (slot_of L.schema f) x
   by_either marks at left x rest h =
       elim (either (slot_of L.schema f).if_absent (slot_of L.schema f).required at left x rest h) [
-        | inl none ↦ subst (StoresNothing L (slot_of L.schema f)) (sym none.0) (empty_slot L (slot_of L.schema f) none.2 none.1)
+        | inl none ↦ subst (StoresNothing L (slot_of L.schema f)) (sym none.0)
+            (empty_slot L (slot_of L.schema f) none.2 none.1)
         | inr some ↦ subst (StoresNothing L (slot_of L.schema f)) (sym some.1) (default_slot marks some.0 some.2)
       ]
 

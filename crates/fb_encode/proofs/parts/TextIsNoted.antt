@@ -17,8 +17,8 @@ use Rattle.fb_build.specs.Noted.{AddsParts}
 use Rattle.fb_encode.proofs.entries.SlotStoresNothing.{given_or}
 use Rattle.fb_encode.specs.TreesNoted.{IsNoted}
 
-text_utf8 : (t : Data) (s : List ℕ) (at : Place) (left rest : ℕ) → TreeHasUtf8 t → text_meant t at left ≡ Ok (a_text s, rest)
-    → IsUtf8 s
+text_utf8 : (t : Data) (s : List ℕ) (at : Place) (left rest : ℕ) → TreeHasUtf8 t
+    → text_meant t at left ≡ Ok (a_text s, rest) → IsUtf8 s
 unfolding text_meant
 text_utf8 null s at left rest utf8 given = cc
 text_utf8 (boolean b) s at left rest utf8 given = cc

@@ -1,11 +1,13 @@
 -- The root's value is noted, and is what the tree means.
-use Rattle.std.proofs.Common.{◌≡◌, ◌∙◌, ◌+◌, ◌∷◌, [], ℕ, Bool, List, Option, None, Some, Ok, refl, sym, ap, subst, arith}
+use Rattle.std.proofs.Common.{◌≡◌, ◌∙◌, ◌+◌, ◌∷◌, [], ℕ, Bool, List, Option, None, Some, Ok, refl, sym, ap, subst}
+use Rattle.std.proofs.Common.{arith}
 use Rattle.serde_json.specs.Data.{Data}
 use Rattle.fb_schema.specs.declared.kinds.Kind.TheVariants.{Table}
 use Rattle.fb_schema.specs.declared.kinds.Shape.TheVariants.{One}
 use Rattle.fb_layout.specs.Laid.{LaidSchema, one_of, table_kind}
 use Rattle.fb_value.specs.Bounds.{Bounds}
-use Rattle.fb_value.specs.Datum.{Datum, a_number, a_text, a_vector, a_struct, a_table, a_member, an_unknown, SlotEntries}
+use Rattle.fb_value.specs.Datum.{Datum, a_number, a_text, a_vector, a_struct, a_table, a_member, an_unknown}
+use Rattle.fb_value.specs.Datum.{SlotEntries}
 use Rattle.fb_value.specs.Datum.{no_entries, absent_entry, present_entry}
 use Rattle.fb_value.specs.Fits.{Fits}
 use Rattle.fb_value.specs.Places.{table_part}

@@ -7,7 +7,7 @@ use Rattle.fb_tape.specs.NamedParts.{NamedPart}
 use Rattle.fb_tape.specs.Tapes.{IsUnfinished, Waits}
 use Rattle.fb_json.specs.Meant.{items_meant}
 use Rattle.fb_json.proofs.slots.OneSlotOrFieldMore.{after}
-use Rattle.fb_build.specs.Apart.{EachElementFits}
+use Rattle.fb_build.specs.OneByOne.{EachElementFits}
 use Rattle.fb_encode.proofs.elements.note_elements.Given as goal
 
 abbrev pub invariant-loop-element : goal.invariant-loop-element

@@ -5,7 +5,8 @@ use Rattle.fb_schema.specs.Seen.{field_seen}
 use Rattle.fb_layout.specs.Laid.{stored_kind, stored_shape}
 use Rattle.fb_value.specs.View.{view}
 use Rattle.fb_json.specs.Meant.{meant, slot_place}
-use Rattle.fb_encode.proofs.entries.PresentEntryIsNoted.{default_noted, inline_noted, not_coded, plain_given, plain_refused}
+use Rattle.fb_encode.proofs.entries.PresentEntryIsNoted.{default_noted, inline_noted, not_coded, plain_given}
+use Rattle.fb_encode.proofs.entries.PresentEntryIsNoted.{plain_refused}
 use Rattle.fb_encode.proofs.entries.note_inline.Goals as goal
 
 pub returns-in_err-value-clause-refused : goal.returns-in_err-value-clause-refused

@@ -6,9 +6,11 @@ use Rattle.fb_layout.specs.Laid.{stored_shape}
 use Rattle.fb_value.specs.View.{view}
 use Rattle.fb_tape.specs.OpenFields.{reference_field}
 use Rattle.fb_build.specs.Fields.{is_stored, kind_seen, slot_seen}
-use Rattle.fb_build.proofs.noted.EntryHasItsFields.{inline_fields, member_fields, member_of, no_code, no_fields, reference_fields}
+use Rattle.fb_build.proofs.noted.EntryHasItsFields.{inline_fields, member_fields, member_of, no_code, no_fields}
+use Rattle.fb_build.proofs.noted.EntryHasItsFields.{reference_fields}
 use Rattle.fb_build.proofs.noting.+noting.Goals as goal
-use Rattle.fb_build.proofs.noting.+noting.Goals.{note_entry-in-Some-code_of+in_ok-push_code, note_entry-in_default-code_of}
+use Rattle.fb_build.proofs.noting.+noting.Goals.{note_entry-in-Some-code_of+in_ok-push_code}
+use Rattle.fb_build.proofs.noting.+noting.Goals.{note_entry-in_default-code_of}
 
 on_ok : {A E : Type 0} (r : Result A E) (P Q : Type 0) → (P → Q) → OnOk r P → OnOk r Q
 on_ok (Ok x) P Q more h = more h
@@ -61,5 +63,6 @@ reference_adds_itself t c =
           ∙ ap (λ os. os ++ (reference_field c.args.k ∷ []))
           (c.in_ok-note_part.ensures.opened ∙ ap (λ n. n.opened) w.noting-is) in
           let none = sym c.code_of.ensures ∙ none_unless c.code_of.result w.in_default-code_of.not-Some in
-          rw c.in-Some.is (reference_field c.args.k ∷ [], after, reference_fields L c.args.k f (view v) refers fits none))
+          rw c.in-Some.is
+          (reference_field c.args.k ∷ [], after, reference_fields L c.args.k f (view v) refers fits none))
     ]

@@ -32,8 +32,9 @@ pub no_slot_yet : goal.note_entries-loop-k-init
 no_slot_yet t c = none_noted _ _ _ _ _ c.requires.whole
 
 -- the slot and the entry at the index of a loop
-at_slot : (L : LaidSchema) (slots : List FieldInfo) (es : List (Option Value)) (k : ℕ) (r : FieldInfo) (v : Option Value)
-    → TableKnown L (slots_seen L slots) (entries_seen es) → k < length slots → r ≡ get_or slots k r → v ≡ get_or es k v
+at_slot : (L : LaidSchema) (slots : List FieldInfo) (es : List (Option Value)) (k : ℕ) (r : FieldInfo)
+    (v : Option Value) → TableKnown L (slots_seen L slots) (entries_seen es) → k < length slots → r ≡ get_or slots k r
+    → v ≡ get_or es k v
     → (slice_get (slots_seen L slots) k ≡ Some (slot_of L.schema (field_seen r)))
     × (slice_get (entries_seen es) k ≡ Some (option_map view v))
 at_slot L slots es k r v known low is1 is2 =

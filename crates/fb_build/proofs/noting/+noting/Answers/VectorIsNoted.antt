@@ -10,7 +10,7 @@ use Rattle.fb_tape.specs.NamedParts.{elements_apart}
 use Rattle.fb_value.specs.declared.values.Value.{the_lemmas}
 use Rattle.fb_value.proofs.types.EachVariantHasItsView.{view-Fields, count-parts_view}
 use Rattle.fb_build.specs.Fields.{kind_seen, shape_seen}
-use Rattle.fb_build.proofs.apart.OneMoreFits.{parts_room_more}
+use Rattle.fb_build.proofs.noted.OneMoreFits.{parts_room_more}
 use Rattle.fb_build.proofs.rooms.RoomsAddUp.{table_entries}
 use Rattle.fb_build.proofs.noted.ElementsAreNoted.{each_fits, seen_more}
 use Rattle.fb_build.proofs.noted.PartsFollow.{nothing_apart, table_named, element_simple, each_whole, named_more}

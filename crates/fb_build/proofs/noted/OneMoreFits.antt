@@ -7,7 +7,7 @@ use Rattle.fb_value.specs.Datum.{Datum, count}
 use Rattle.fb_value.specs.Fits.{EntriesFit, EachFits, Fits}
 use Rattle.fb_value.specs.Room.{parts_room, room}
 use Rattle.fb_value.specs.View.{entries_in, parts_in}
-use Rattle.fb_build.specs.Apart.{EachEntryFits, EachElementFits}
+use Rattle.fb_build.specs.OneByOne.{EachEntryFits, EachElementFits}
 
 pub got_more : {A : Type 0} (xs : List A) (x y : A) (k : ℕ) → slice_get (xs ++ (x ∷ [])) k ≡ Some y
     → ((k < length xs) × (slice_get xs k ≡ Some y)) ⊎ ((k ≡ length xs) × (x ≡ y))

@@ -1,3 +1,0 @@
-pub mod EntriesAreKnown
-pub mod OneMoreFits
-pub mod PartsApartAreMade
