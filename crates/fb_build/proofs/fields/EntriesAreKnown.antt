@@ -1,4 +1,4 @@
--- What a table's slots store is known where its entries fit and are whole, whether they are in memory or not.
+-- What a table's slots store is known where its entries fit and are whole.
 use Rattle.std.proofs.Common.{◌≡◌, ℕ, zero, suc, true, List, [], ◌∷◌, length, slice_get, Option, None, Some, refl, ap}
 use Rattle.std.proofs.Common.{subst}
 use Rattle.std.proofs.lemmas.Bool.{and_parts}

@@ -3,7 +3,7 @@ use Rattle.std.proofs.Common.{◌≡◌, ◌+◌, ◌++◌, ◌∙◌, ℕ, List
 use Rattle.std.proofs.Common.{refl, arith}
 use Rattle.std.proofs.lemmas.List.{append_assoc, append-nil}
 use Rattle.fb_tape.specs.NamedParts.{NamedPart}
-use Rattle.fb_tape.specs.Tapes.{Taped, Waits}
+use Rattle.fb_tape.specs.Tapes.{Taped}
 use Rattle.fb_build.specs.Noted.{AddsParts}
 
 pub adds_none : (t : Taped) → t.unfinished ≡ [] → AddsParts t t [] 0

@@ -1,10 +1,9 @@
-use Rattle.std.proofs.Common.{◌≡◌, ◌∙◌, ◌++◌, ◌∷◌, ◌<◌, ◌≤◌, [], ℕ, None, Some, Ok, refl, sym, ap, subst, length, map}
+use Rattle.std.proofs.Common.{◌≡◌, ◌∙◌, ◌++◌, ◌∷◌, ◌<◌, [], None, refl, sym, ap, subst, length, map}
 use Rattle.std.proofs.Common.{arith, rules}
 use Rattle.std.proofs.Common.{option_map, ◌-◌, IfOk}
 use Rattle.std.proofs.lemmas.List.{length-map}
 use Rattle.std.proofs.lemmas.Result.{err_from_is_err_and}
-use Rattle.serde_json.specs.View.{view as tree_view, items_view, members_view}
-use Rattle.fb_schema.specs.Schema.{body_at, slots_in}
+use Rattle.serde_json.specs.View.{view as tree_view, members_view}
 use Rattle.fb_schema.specs.Seen.{field_seen}
 use Rattle.fb_schema.specs.declared.kinds.Kind.TheVariants.{Table}
 use Rattle.fb_schema.specs.declared.kinds.Shape.TheVariants.{One}
@@ -30,7 +29,7 @@ use Rattle.fb_build.proofs.fields.NumbersHaveDefaults.{marks_at}
 use Rattle.fb_build.proofs.noted.PartsAreAdded.{adds_same, adds_then}
 use Rattle.fb_build.proofs.noted.PartsFollow.{elements_known, named_more}
 use Rattle.fb_encode.proofs.elements.ElementsAreNoted.{one_more_fits, one_more_given}
-use Rattle.fb_encode.proofs.entries.PresentEntryIsNoted.{code_given, inline_of, member_given, member_noted}
+use Rattle.fb_encode.proofs.entries.PresentEntryIsNoted.{inline_of, member_given, member_noted}
 use Rattle.fb_encode.proofs.entries.PresentEntryIsNoted.{member_refused}
 use Rattle.fb_encode.proofs.entries.PresentEntryIsNoted.{mismatch_refused, part_of, part_plain, plain_given}
 use Rattle.fb_encode.proofs.entries.PresentEntryIsNoted.{plain_refused}

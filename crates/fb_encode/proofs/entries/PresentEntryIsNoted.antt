@@ -1,8 +1,7 @@
 -- The entry of a slot whose member is there.
-use Rattle.std.specs.Prelude.{ℤ}
-use Rattle.std.proofs.Common.{◌≡◌, ◌≤◌, ◌-◌, ◌++◌, ◌∷◌, [], ◌∙◌, ℕ, zero, suc, Bool, true, false, not, List, Option}
+use Rattle.std.proofs.Common.{◌≡◌, ◌≤◌, ◌-◌, ◌++◌, ◌∷◌, [], ◌∙◌, ℕ, zero, suc, true, false, List, Option}
 use Rattle.std.proofs.Common.{None, Some, pos}
-use Rattle.std.proofs.Common.{Result, Ok, Err, refl, sym, ap, subst}
+use Rattle.std.proofs.Common.{Ok, Err, refl, sym, ap}
 use Rattle.std.proofs.lemmas.List.{append-nil}
 use Rattle.fb_schema.specs.declared.kinds.Base.TheVariants.{U8}
 use Rattle.fb_schema.specs.declared.kinds.Kind.{Kind}
@@ -11,7 +10,7 @@ use Rattle.fb_schema.specs.declared.kinds.Shape.{Shape}
 use Rattle.fb_schema.specs.declared.kinds.Shape.TheVariants.{One, Many}
 use Rattle.fb_schema.specs.declared.kinds.TypeId.{TypeId}
 use Rattle.fb_schema.specs.Schema.{DeclaredField}
-use Rattle.fb_layout.specs.Laid.{LaidSchema, Slot, StoredKind, StoredShape, align_of, kind_in, member_by_code, one_of}
+use Rattle.fb_layout.specs.Laid.{LaidSchema, StoredKind, StoredShape, align_of, kind_in, member_by_code, one_of}
 use Rattle.fb_layout.specs.Laid.{slot_of}
 use Rattle.fb_layout.specs.Laid.{stored_kind, stored_shape}
 use Rattle.fb_layout.specs.Laid.{vector_of, scalar_kind, struct_kind, table_kind, union_kind, code_kind, text_kind}
@@ -31,9 +30,9 @@ use Rattle.fb_json.specs.Meant.{Meaner, as_member, plain_meant, union_meant, use
 use Rattle.fb_json.specs.Outcome.{◌>>=◌, Counted, Fails}
 use Rattle.fb_json.specs.SlotMembers.{is_of_union}
 use Rattle.fb_json.proofs.slots.OneSlotOrFieldMore.{fails_by}
-use Rattle.fb_build.specs.Fields.{IsElement, IsSimple, code_in, is_coded, is_reference, is_stored}
+use Rattle.fb_build.specs.Fields.{IsSimple, code_in, is_coded, is_reference, is_stored}
 use Rattle.fb_build.specs.Noted.{AddsParts}
-use Rattle.fb_build.proofs.noted.EntryHasItsFields.{inline_fields, member_fields, no_code, no_fields, reference_fields}
+use Rattle.fb_build.proofs.noted.EntryHasItsFields.{inline_fields, member_fields, no_fields, reference_fields}
 use Rattle.fb_build.proofs.noted.PartsAreAdded.{adds_none, adds_same}
 use Rattle.fb_encode.specs.TreesNoted.{IsEntryNoted, IsNoted, IsPart}
 

@@ -1,10 +1,10 @@
 -- What an array gives, and that its vector is noted.
 use Rattle.std.proofs.Common.{◌≡◌, ◌∙◌, ◌+◌, ◌-◌, ◌≤◌, ◌<◌, ℕ, Bool, true, false, List, Some, Result, Ok, Err, IfErr}
 use Rattle.std.proofs.Common.{length}
-use Rattle.std.proofs.Common.{nat_lt, refl, sym, ap, arith}
+use Rattle.std.proofs.Common.{nat_lt, refl, arith}
 use Rattle.std.proofs.lemmas.Bool.Decides.{nat_tests}
 use Rattle.serde_json.specs.declared.value.Value.{Value as Json}
-use Rattle.serde_json.specs.Data.{Data, Items}
+use Rattle.serde_json.specs.Data.{Data}
 use Rattle.serde_json.specs.Find.{as_array}
 use Rattle.serde_json.specs.View.{items_view}
 use Rattle.fb_schema.specs.declared.kinds.Kind.{Kind}
@@ -16,7 +16,7 @@ use Rattle.fb_json.specs.declared.faults.JsonFault.{JsonFault}
 use Rattle.fb_json.specs.declared.faults.JsonFault.TheVariants.{TooManyCells}
 use Rattle.fb_json.specs.declared.faults.Place.{Place}
 use Rattle.fb_json.specs.Meant.{count, items_meant, meant, vector_meant}
-use Rattle.fb_json.specs.Outcome.{◌>>=◌, Counted, Fails, spent}
+use Rattle.fb_json.specs.Outcome.{◌>>=◌, Counted, Fails}
 use Rattle.fb_json.proofs.slots.OneSlotOrFieldMore.{counted, fails_by}
 use Rattle.fb_encode.proofs.parts.TreesByTheirKind.{vector_by}
 use Rattle.fb_encode.specs.TreesNoted.{vector_given}

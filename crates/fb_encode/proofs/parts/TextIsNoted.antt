@@ -8,10 +8,8 @@ use Rattle.fb_layout.specs.Laid.{LaidSchema, one_of, text_kind}
 use Rattle.fb_value.specs.Datum.{a_text}
 use Rattle.fb_value.specs.Places.{text_part}
 use Rattle.fb_tape.specs.Tapes.{Taped}
-use Rattle.fb_json.specs.declared.faults.JsonFault.{JsonFault}
 use Rattle.fb_json.specs.declared.faults.Place.{Place}
 use Rattle.fb_json.specs.Leaves.{text_meant}
-use Rattle.fb_json.specs.Outcome.{Counted}
 use Rattle.fb_json.proofs.texts.TreeTextsAreUtf8.{TreeHasUtf8, tree_utf8}
 use Rattle.fb_build.specs.Noted.{AddsParts}
 use Rattle.fb_encode.proofs.entries.SlotStoresNothing.{given_or}

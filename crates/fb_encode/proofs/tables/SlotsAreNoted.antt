@@ -1,7 +1,7 @@
 -- The slots of a table are noted one after the other.
-use Rattle.std.proofs.Common.{◌≡◌, ◌+◌, ◌-◌, ◌≤◌, ◌<◌, ◌++◌, ◌∷◌, [], ◌∙◌, ℕ, zero, suc, List, Option, None, Some, Ok}
-use Rattle.std.proofs.Common.{Err, Result}
-use Rattle.std.proofs.Common.{length, map, drop, get_or, slice_get, Bor, Bool, true, false, refl, sym, ap, subst, arith}
+use Rattle.std.proofs.Common.{◌≡◌, ◌+◌, ◌≤◌, ◌<◌, ◌++◌, ◌∷◌, [], ◌∙◌, ℕ, zero, suc, List, Option, None, Some, Ok}
+use Rattle.std.proofs.Common.{Err}
+use Rattle.std.proofs.Common.{length, map, drop, get_or, slice_get, Bor, Bool, true, refl, sym, ap, subst, arith}
 use Rattle.std.proofs.Math.Seq.{drop-append_seam}
 use Rattle.std.proofs.lemmas.List.{append_assoc, append-nil, length-map}
 use Rattle.std.proofs.lemmas.Option.{slice_get-map}
@@ -27,9 +27,9 @@ use Rattle.fb_json.specs.declared.faults.JsonFault.{JsonFault}
 use Rattle.fb_json.specs.declared.faults.JsonFault.TheVariants.{TooDeep, TooManyCells}
 use Rattle.fb_json.specs.declared.faults.Place.{Place}
 use Rattle.fb_json.specs.Meant.{Look, code_after, entry_meant, slot_place, slots_meant, table_meant}
-use Rattle.fb_json.specs.Outcome.{Counted, Fails}
+use Rattle.fb_json.specs.Outcome.{Counted}
 use Rattle.fb_json.specs.SlotMembers.{looked_up, tree_seen}
-use Rattle.fb_json.proofs.slots.OneSlotOrFieldMore.{after, fails_by, fails_is, slots_end, slots_next, slots_ungiven}
+use Rattle.fb_json.proofs.slots.OneSlotOrFieldMore.{after, slots_end, slots_next, slots_ungiven}
 use Rattle.fb_json.proofs.slots.OneSlotOrFieldMore.{slots_untold}
 use Rattle.fb_build.specs.OneByOne.{EachEntryFits}
 use Rattle.fb_build.specs.Fields.{stored_in}

@@ -1,5 +1,5 @@
 -- The root's value is noted, and is what the tree means.
-use Rattle.std.proofs.Common.{◌≡◌, ◌∙◌, ◌+◌, ◌∷◌, [], ℕ, Bool, List, Option, None, Some, Ok, refl, sym, ap, subst}
+use Rattle.std.proofs.Common.{◌≡◌, ◌∙◌, ◌∷◌, [], ℕ, Bool, List, Option, None, Some, refl, sym, ap, subst}
 use Rattle.std.proofs.Common.{arith}
 use Rattle.serde_json.specs.Data.{Data}
 use Rattle.fb_schema.specs.declared.kinds.Kind.TheVariants.{Table}
@@ -13,11 +13,10 @@ use Rattle.fb_value.specs.Fits.{Fits}
 use Rattle.fb_value.specs.Places.{table_part}
 use Rattle.fb_value.specs.Room.{room}
 use Rattle.fb_value.specs.View.{entries_in}
-use Rattle.fb_tape.specs.Tapes.{MeansRoot, Taped, Waits}
+use Rattle.fb_tape.specs.Tapes.{Taped, Waits}
 use Rattle.fb_json.specs.Laws.{OnlyWhatIsMeant}
 use Rattle.fb_json.specs.Means.{Means, MeansAs}
 use Rattle.fb_json.specs.Meant.{meant, type_place}
-use Rattle.fb_json.specs.Outcome.{Counted}
 use Rattle.fb_json.specs.Refuses.{root_meant}
 use Rattle.fb_build.specs.NotedRoots.{NotesRoot}
 use Rattle.fb_encode.specs.TreesNoted.{IsNoted}

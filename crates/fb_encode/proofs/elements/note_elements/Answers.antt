@@ -5,7 +5,6 @@ use Rattle.fb_value.specs.Datum.{a_vector}
 use Rattle.fb_value.specs.Room.{vector_room}
 use Rattle.fb_value.specs.View.{view, parts_in}
 use Rattle.fb_build.proofs.noted.OneMoreFits.{counted, elements_fit, long_more}
-use Rattle.fb_build.proofs.noted.ElementsAreNoted.{element_inline}
 use Rattle.fb_build.proofs.noted.PartsFollow.{elements_known, nothing_apart}
 use Rattle.fb_encode.proofs.elements.ElementsAreNoted.{all_given, one_more_fits, one_more_given, one_refused}
 use Rattle.fb_encode.proofs.elements.note_elements.Goals as goal

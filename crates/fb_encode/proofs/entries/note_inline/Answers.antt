@@ -1,4 +1,4 @@
-use Rattle.std.proofs.Common.{◌∙◌, not, ap, sym, subst}
+use Rattle.std.proofs.Common.{◌∙◌, not, ap}
 use Rattle.std.proofs.lemmas.Result.{err_from_is_err_and}
 use Rattle.serde_json.specs.View.{view as tree_view}
 use Rattle.fb_schema.specs.Seen.{field_seen}
