@@ -3,24 +3,22 @@
 
 usage: bench/bench.py PROGRAM [--only WORD] [--rounds N] [--keep FOLDER] [--flatc PATH] [--parse PROGRAM]
 
-Prints tables in Markdown: user time, wall time and peak memory of each program, the least of all rounds, in which the
-programs take turns, and the ratio of the first to the second. `--keep` leaves the documents in a folder. Where the
-program json_parse is built (by `tools/build.py json_parse`; `--parse` names another), the peak memory of parsing a JSON
-text alone is printed as well, and how many times that the way to a buffer takes.
+Prints tables in Markdown: CPU time (user and system), time by the clock and peak memory of each program, the least of
+all rounds, in which the programs take turns, and the ratio of the first to the second. `--keep` leaves the documents in
+a folder. Where the program json_parse is built (by `tools/build.py json_parse`; `--parse` names another), the peak
+memory of parsing a JSON text alone is printed as well.
 """
 import argparse
-import contextlib
 import datetime
 import json
-import multiprocessing
 import os
 import platform
 import random
+import shlex
 import shutil
 import subprocess
 import sys
 import tempfile
-import time
 
 ROOT = os.path.dirname(os.path.dirname(os.path.abspath(__file__)))
 PARSER = f"{ROOT}/crates/json_parse/out/json_parse"
@@ -144,63 +142,70 @@ DOCUMENTS = {
 }
 
 
-class Run:
-    """The least user time, wall time and peak memory of a command's runs."""
+class Took:
+    """The least CPU time, time by the clock and peak memory of a command's runs, in seconds and MB."""
 
     def __init__(self):
-        self.user = self.wall = self.memory = float("inf")
+        self.cpu = self.wall = self.memory = float("inf")
 
-    def take(self, words, stdout):
-        begin = time.perf_counter()
-        child = subprocess.Popen(words, stdout=stdout, stderr=subprocess.PIPE)
-        complaint = child.stderr.read()
-        _, status, used = os.wait4(child.pid, 0)
-        child.stderr.close()
-        child.returncode = os.waitstatus_to_exitcode(status)
-        wall = time.perf_counter() - begin
-        if child.returncode != 0:
-            raise SystemExit(f"bench: {' '.join(words)}: status {child.returncode}: {complaint.decode()}")
-        self.user = min(self.user, used.ru_utime)
-        self.wall = min(self.wall, wall)
-        self.memory = min(self.memory, used.ru_maxrss / 1024)
+    def add(self, figures):
+        cpu, wall, peak = figures
+        self.cpu = min(self.cpu, float(cpu))
+        self.wall = min(self.wall, float(wall))
+        self.memory = min(self.memory, int(peak) / 1024)
 
 
-def ratio(ours, theirs):
-    return f"{ours / theirs:.2f}" if theirs else ""
+class Runner:
+    """Runs commands by bench/runner.c, which says what each took."""
+
+    def __init__(self, folder):
+        self.folder = os.path.abspath(folder)
+        self.program = f"{self.folder}/runner"
+        compiler = shlex.split(os.environ.get("CC") or "cc")
+        subprocess.run([*compiler, "-O2", "-o", self.program, f"{ROOT}/bench/runner.c"], check=True)
+
+    def run(self, words):
+        """Seconds of CPU time, seconds by the clock, and the peak in KiB."""
+        with open(f"{self.folder}/stdout", "wb") as stdout:
+            done = subprocess.run([self.program, *words], stdout=stdout, stderr=subprocess.PIPE, text=True)
+        if done.returncode != 0:
+            raise SystemExit(f"bench: {' '.join(words)}: status {done.returncode}: {done.stderr}")
+        return done.stderr.splitlines()[-1].split()
+
+    def take_turns(self, commands, rounds):
+        found = [Took() for _ in commands]
+        for _ in range(rounds):
+            for took, words in zip(found, commands):
+                took.add(self.run(words))
+        return found
 
 
-def row(name, size, runs):
+def row(name, size, programs, *others):
+    """A line of a table: what each program took, and of two the ratio; of the others the peak alone."""
     cells = [name, f"{size / 1e6:.1f}"]
-    for unit, digits in [("user", 3), ("wall", 3), ("memory", 0)]:
-        figures = [getattr(run, unit) for run in runs]
+    for unit, digits in [("cpu", 3), ("wall", 3), ("memory", 0)]:
+        figures = [getattr(took, unit) for took in programs]
         cells += [f"{figure:.{digits}f}" for figure in figures]
-        if len(figures) > 1:
-            cells.append(ratio(*figures))
-    return cells
+        if len(figures) > 1 and unit != "memory":
+            cells.append(f"{figures[0] / figures[1]:.2f}")
+    return cells + [f"{took.memory:.0f}" for took in others]
 
 
-def head(title, programs):
-    cells = [title, "MB"]
-    for unit in ["user s", "wall s", "peak MB"]:
-        cells += [f"{program} {unit}" for program in programs]
-        if len(programs) > 1:
+def head(size, programs, *others):
+    cells = ["Document", f"{size}, MB"]
+    for unit in ["CPU s", "wall s", "peak MB"]:
+        cells += [unit, *programs[1:]]
+        if len(programs) > 1 and unit != "peak MB":
             cells.append("ratio")
+    cells += others
     return [cells, ["---"] + ["---:"] * (len(cells) - 1)]
 
 
-def show(rows):
+def show(title, rows):
+    print(f"{title}:\n")
     for cells in rows:
         print(f"| {' | '.join(cells)} |")
     print(flush=True)
-
-
-def take_turns(commands, rounds, folder):
-    runs = [Run() for _ in commands]
-    for _ in range(rounds):
-        for run, words in zip(runs, commands):
-            with open(f"{folder}/stdout", "wb") as stdout:
-                run.take(words, stdout)
-    return runs
 
 
 def write_document(make, at):
@@ -218,17 +223,12 @@ def write_documents(folder, only):
     for name, make in DOCUMENTS.items():
         if only in name:
             at = f"{folder}/{name.replace(' ', '_').replace(',', '')}"
-            # A program's peak counts the memory of the process that starts it, so this one stays small.
-            child = multiprocessing.Process(target=write_document, args=(make, at))
-            child.start()
-            child.join()
-            if child.exitcode != 0:
-                raise SystemExit(f"bench: {name} wasn't written")
+            write_document(make, at)
             found.append((name, at))
     return found
 
 
-def bench(program, other, parser, rounds, documents):
+def bench(runner, program, other, parser, rounds, documents):
     programs = ["flatc here"] + (["Google's"] if other else [])
     to_buffer, to_json, check = [], [], []
     for name, at in documents:
@@ -238,23 +238,19 @@ def bench(program, other, parser, rounds, documents):
             commands.append([other, "-b", "-o", out, schema, text])
         if parser:
             commands.append([parser, text])
-        runs = take_turns(commands, rounds, at)
-        cells = row(name, os.path.getsize(text), runs[: len(programs)])
-        for parsing in runs[len(programs) :]:
-            cells += [f"{parsing.memory:.0f}", ratio(runs[0].memory, parsing.memory)]
-        to_buffer.append(cells)
+        took = runner.take_turns(commands, rounds)
+        count = len(programs)
+        to_buffer.append(row(name, os.path.getsize(text), took[:count], *took[count:]))
         size = os.path.getsize(buffer)
         commands = [[program, "json", "--raw-binary", schema, buffer]]
         if other:
             commands.append([other, "-t", "--strict-json", "--raw-binary", "-o", out, schema, "--", buffer])
-        to_json.append(row(name, size, take_turns(commands, rounds, at)))
-        check.append(row(name, size, take_turns([[program, "check", "--raw-binary", schema, buffer]], rounds, at)))
-    titles, dashes = head("JSON to buffer", programs)
-    if parser:
-        titles, dashes = [*titles, "parsing alone peak MB", "ratio"], [*dashes, "---:", "---:"]
-    show([titles, dashes, *to_buffer])
-    show(head("buffer to JSON", programs) + to_json)
-    show(head("check", programs[:1]) + check)
+        to_json.append(row(name, size, runner.take_turns(commands, rounds)))
+        commands = [[program, "check", "--raw-binary", schema, buffer]]
+        check.append(row(name, size, runner.take_turns(commands, rounds)))
+    show("JSON to a buffer", head("JSON", programs, *(["parsing alone"] if parser else [])) + to_buffer)
+    show("A buffer to JSON", head("buffer", programs) + to_json)
+    show("Checking", head("buffer", programs[:1]) + check)
 
 
 def main():
@@ -266,15 +262,14 @@ def main():
     parser.add_argument("--flatc", default=shutil.which("flatc"))
     parser.add_argument("--parse", default=PARSER if os.path.exists(PARSER) else None)
     words = parser.parse_args()
-    with contextlib.ExitStack() as stack:
-        folder = words.keep or stack.enter_context(tempfile.TemporaryDirectory())
-        documents = write_documents(folder, words.only)
+    with tempfile.TemporaryDirectory() as built:
+        documents = write_documents(words.keep or built, words.only)
         print(f"{datetime.date.today()}, {platform.machine()}, {os.cpu_count()} processors", end="")
         if words.flatc:
             version = subprocess.run([words.flatc, "--version"], capture_output=True, text=True, check=True)
             print(f", beside {version.stdout.strip()}", end="")
         print(". The least of", words.rounds, "rounds.\n")
-        bench(words.program, words.flatc, words.parse, words.rounds, documents)
+        bench(Runner(built), words.program, words.flatc, words.parse, words.rounds, documents)
 
 
 if __name__ == "__main__":

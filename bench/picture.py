@@ -1,11 +1,11 @@
 #!/usr/bin/env python3
-"""Draws the table of speeds in docs/BENCHMARKS.md as bars.
+"""Draws the two tables of speeds in docs/BENCHMARKS.md as bars.
 
 usage: bench/picture.py            writes docs/speed.svg
        bench/picture.py --check    says whether docs/speed.svg is what the table gives
 
-For each document there is a bar for the way to a buffer and one for the way to JSON: this program's user time, where
-Google's is 1.
+For each document there is a bar for the way to a buffer and one for the way to JSON: this program's CPU time (user and
+system), where Google's is 1.
 """
 import os
 import sys
@@ -15,22 +15,21 @@ ROOT = os.path.dirname(os.path.dirname(os.path.abspath(__file__)))
 TABLE = f"{ROOT}/docs/BENCHMARKS.md"
 PICTURE = f"{ROOT}/docs/speed.svg"
 BARS = [("JSON to a buffer", "#2f6f9f"), ("a buffer to JSON", "#7fb069")]
-WIDTH, LEFT, UNIT, TOP, BAR, GAP = 760, 130, 480, 58, 11, 10
+WIDTH, LEFT, UNIT, TOP, BAR, GAP = 760, 130, 380, 58, 11, 10
+
+
+def ratios(table):
+    """The documents of a table, each with its first ratio, that of CPU times."""
+    titles, _, *rows = [[cell.strip() for cell in line.strip("|").split("|")] for line in table.splitlines()]
+    return {cells[0]: float(cells[titles.index("ratio")]) for cells in rows}
 
 
 def speeds():
-    """The documents of the first table, each with the two ratios of its row."""
-    found = []
+    """The documents, each with the ratio to a buffer and the one to JSON."""
     with open(TABLE, encoding="utf-8") as it:
-        for line in it:
-            cells = [cell.strip() for cell in line.strip().strip("|").split("|")]
-            if cells[0] == "Document":
-                columns = [at for at, cell in enumerate(cells) if cell == "ratio"]
-            elif found and len(cells) < 2:
-                break
-            elif len(cells) > 2 and not cells[0].startswith("--"):
-                found.append((cells[0], [float(cells[at]) for at in columns]))
-    return found
+        parts = it.read().split("\n\n")
+    to_buffer, to_json = [ratios(part) for part in parts if part.startswith("| Document |")]
+    return [(name, [ratio, to_json[name]]) for name, ratio in to_buffer.items()]
 
 
 def text(x, y, words, more=""):
@@ -38,7 +37,7 @@ def text(x, y, words, more=""):
 
 
 def legend():
-    parts = [text(LEFT, 20, "User time beside Google's flatc, whose time is 1 (shorter is faster)")]
+    parts = [text(LEFT, 20, "CPU time beside Google's flatc, whose time is 1 (shorter is faster)")]
     for at, (words, colour) in enumerate(BARS):
         x = LEFT + 160 * at
         parts += [f'<rect x="{x}" y="30" width="11" height="11" fill="{colour}"/>', text(x + 16, 40, words)]

@@ -6,13 +6,12 @@ usage: tests/memory.py PROGRAM PARSER
 PARSER is built of crates/json_parse. The last line is 'N passed, M failed'.
 """
 import os
-import subprocess
 import sys
 
 from harness import ROOT, Tests, program_of
 
 sys.path.append(f"{ROOT}/bench")
-from bench import write_documents
+from bench import Runner, write_documents
 
 # How many times the memory of a parse and of the buffer the way to it may take: the tape of a buffer that is longer than
 # the JSON tree is behind the tree.
@@ -21,23 +20,17 @@ MOST = 1.2
 NAMES = ("wide and sparse", "small tables", "integers")
 
 
-def peak(words):
-    """The most memory that a program has in use, in KiB."""
-    child = subprocess.Popen(words, stdout=subprocess.DEVNULL, stderr=subprocess.PIPE)
-    told = child.stderr.read()
-    _, status, used = os.wait4(child.pid, 0)
-    child.stderr.close()
-    child.returncode = os.waitstatus_to_exitcode(status)
-    if child.returncode != 0:
-        raise OSError(f"{words}: {told}")
-    return used.ru_maxrss
-
-
 def beside_a_parse(parser):
     def tried(tests):
+        runner = Runner(".")
+
+        def peak(*words):
+            """The most memory that a program has in use, in KiB."""
+            return int(runner.run(words)[-1])
+
         for name, at in [found for it in NAMES for found in write_documents(".", it)]:
-            ours = peak([tests.program, "binary", f"{at}/data.fbs", f"{at}/data.json", f"{at}/data.bin"])
-            alone = peak([parser, f"{at}/data.json"])
+            ours = peak(tests.program, "binary", f"{at}/data.fbs", f"{at}/data.json", f"{at}/data.bin")
+            alone = peak(parser, f"{at}/data.json")
             buffer = os.path.getsize(f"{at}/data.bin") // 1024
             told = f"{ours} KiB, {alone} KiB for a parse, {buffer} KiB for the buffer"
             tests.tell(f"the memory of {name}", ours <= MOST * (alone + buffer), told)
