@@ -16,3 +16,4 @@ pub mod RunsMakeTheObject
 pub mod BlanksHaveNoLexemes
 pub mod PiecesAreTheText
 pub mod TextIsReadByItsPieces
+pub mod PiecesMakeUtf8

@@ -22,8 +22,8 @@ one = 0x22 ∷ 0x61 ∷ 0x2c ∷ 0x5d ∷ 0x22 ∷ []
 
 -- The text is cut behind its second element.
 abbrev pub two_and_one : List Run
-two_and_one = record { elements = record { start = 1; end = 10 }; is_last = false }
-    ∷ record { elements = record { start = 11; end = 16 }; is_last = true } ∷ []
+two_and_one = record { elements = record { start = 1; end = 10 }; count = 2; is_last = false }
+    ∷ record { elements = record { start = 11; end = 16 }; count = 1; is_last = true } ∷ []
 
 pub is_cut : IsCutIntoRuns (array_text two (one ∷ [])) two_and_one
 is_cut = record {

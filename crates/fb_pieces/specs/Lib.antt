@@ -15,3 +15,4 @@ pub mod Blanks
 pub mod Cuts
 pub mod CutTexts
 pub mod ReadByPieces
+pub mod CutTextsAreUtf8

@@ -1,5 +1,6 @@
 //! Blanks, which JSON allows round every value.
 ghost use Rattle.std.specs.Prelude.{◌≡◌, ◌==◌, ◌≤◌, IfSome, Some, MatchOption, false, length, slice_get, take, ⊤};
+ghost use Rattle.std.specs.List.{list_all};
 ghost use Rattle.json.specs.Word.{is_space};
 ghost use Rattle.fb_pieces.specs.Blanks.{AreBlanks};
 
@@ -21,4 +22,11 @@ pub fn leading_blanks(text: &[u8]) -> usize
         }
     }
     text.len()
+}
+
+/// Whether a text has blanks alone.
+pub(crate) fn are_blanks(text: &[u8]) -> bool
+    ensures { result ≡ list_all is_space text.now }
+{
+    text.iter().all(|byte| is_blank(*byte))
 }

@@ -5,7 +5,8 @@ ghost use Rattle.fb_pieces.specs.ArrayRefused.{ArrayIsThatOfItsElements};
 ghost use Rattle.fb_pieces.specs.Blanks.{BlanksChangeNothing};
 ghost use Rattle.fb_pieces.specs.CutTexts.{CutMembersAreTheText, CutRunsAreTheText};
 ghost use Rattle.fb_pieces.specs.EndsOutside.{ReadRunEndsOutside, ReadTextEndsOutside};
-ghost use Rattle.fb_pieces.specs.InBrackets.{ElementIsReadWithoutBrackets};
+ghost use Rattle.fb_pieces.specs.InBrackets.{ElementIsReadWithoutBrackets, TextIsReadWithoutBrackets};
+ghost use Rattle.fb_pieces.specs.CutTextsAreUtf8.{CutArrayIsUtf8, CutObjectIsUtf8};
 ghost use Rattle.fb_pieces.specs.LexemesSplit.{LexemesSplit};
 ghost use Rattle.fb_pieces.specs.ObjectOfMembers.{MembersMakeTheObject};
 ghost use Rattle.fb_pieces.specs.ObjectOfRuns.{RunsMakeTheObject};
@@ -86,4 +87,19 @@ pub fn cut_array_is_read()
 /// An object's text whose members' names and values are read one by one is read as the object of them all.
 pub fn cut_object_is_read()
     ensures { CutObjectIsRead }
+{}
+
+/// What is read in so many brackets is read without them, with so many levels less.
+pub fn text_is_read_without_brackets()
+    ensures { TextIsReadWithoutBrackets }
+{}
+
+/// An array's text whose runs are UTF-8 is UTF-8.
+pub fn cut_array_is_utf8()
+    ensures { CutArrayIsUtf8 }
+{}
+
+/// An object's text whose members' names and values are UTF-8 is UTF-8.
+pub fn cut_object_is_utf8()
+    ensures { CutObjectIsUtf8 }
 {}

@@ -9,11 +9,11 @@ mod tests;
 mod walk;
 
 pub use blanks::leading_blanks;
-pub use cut::{Member, Piece, Run, next_member, next_run};
+pub use cut::{Member, Piece, Run, cut_array, cut_object, next_member, next_run};
 pub use laws::{
-    array_is_that_of_its_elements, blanks_change_nothing, cut_array_is_read,
-    cut_members_are_the_text, cut_object_is_read, cut_runs_are_the_text,
+    array_is_that_of_its_elements, blanks_change_nothing, cut_array_is_read, cut_array_is_utf8,
+    cut_members_are_the_text, cut_object_is_read, cut_object_is_utf8, cut_runs_are_the_text,
     element_is_read_without_brackets, elements_make_the_array, lexemes_split,
     members_make_the_object, read_run_ends_outside, read_text_ends_outside, runs_make_the_array,
-    runs_make_the_object, tokens_split,
+    runs_make_the_object, text_is_read_without_brackets, tokens_split,
 };

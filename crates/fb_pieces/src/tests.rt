@@ -1,6 +1,6 @@
 //! Texts by hand, and the pieces into which they are cut: `|` is behind each piece but the last, `.` behind the last,
 //! and `?` is where none is found.
-use crate::{Piece, leading_blanks, next_member, next_run};
+use crate::{Piece, cut_array, cut_object, leading_blanks, next_member, next_run};
 use std::alloc::{AllocError, Global};
 use std::test::Fail;
 
@@ -44,14 +44,74 @@ const MEMBERS: &[(&str, &str)] = &[
     ("\"a\":1,", "\"a\"=1|?"),
 ];
 
-// Arrays of which a run has at least four bytes.
+// Arrays of which a run has at most five bytes.
 const RUNS: &[(&str, &str)] = &[
     ("1]", "1."),
     ("123,4]", "123,4."),
     ("1234,5]", "1234|5."),
     ("1,2,3,4,5,6]", "1,2,3|4,5,6."),
-    ("[1,2,3,4],[5],[6],7]", "[1,2,3,4]|[5],[6]|7."),
+    ("[1,2,3,4],[5],[6],7]", "[1,2,3,4]|[5]|[6],7."),
+    ("1,2,[3,4,5]]", "1,2|[3,4,5]."),
 ];
+
+// Whole texts: the runs of an array, of at most five bytes, with how many elements they seem to have.
+const CUT_ARRAYS: &[(&str, &str, &[usize])] = &[
+    ("[1]", "1.", &[1]),
+    ("[1,2,3,4]", "1,2,3|4.", &[3, 1]),
+    ("[ 1 ,22]\r\n\t ", " 1 |22.", &[1, 1]),
+    ("[1,22,333]", "1,22|333.", &[2, 1]),
+    ("[[1,2,3],[],[4],5]", "[1,2,3]|[]|[4],5.", &[1, 1, 2]),
+    ("[\"],\",\"[\"]", "\"],\"|\"[\".", &[1, 1]),
+    ("[]", ".", &[1]),
+    ("[1,]", "1,.", &[2]),
+    ("[1] 2", "?", &[]),
+    ("[1]]", "?", &[]),
+    ("[1],", "?", &[]),
+    ("[1,2", "?", &[]),
+    ("[12345,6", "?", &[]),
+    ("[1}", "?", &[]),
+    ("{\"a\":1}", "?", &[]),
+    ("1]", "?", &[]),
+    ("[", "?", &[]),
+    ("", "?", &[]),
+];
+
+// Whole texts: the members of an object.
+const CUT_OBJECTS: &[(&str, &str)] = &[
+    ("{\"a\":1}", "\"a\"=1."),
+    (
+        "{ \"a\" : 1 , \"b\" : [2,3] }\r\n\t ",
+        " \"a\" = 1 | \"b\" = [2,3] .",
+    ),
+    ("{\"}\":\"}\",\"\":{}}", "\"}\"=\"}\"|\"\"={}."),
+    ("{}", "?"),
+    ("{ }", "?"),
+    ("{\"a\":1} 2", "?"),
+    ("{\"a\":1}}", "?"),
+    ("{\"a\":1},", "?"),
+    ("{\"a\":1,}", "?"),
+    ("{\"a\":1", "?"),
+    ("{\"a\":1]", "?"),
+    ("{\"a\"}", "?"),
+    ("[1]", "?"),
+    ("\"a\":1}", "?"),
+    ("{", "?"),
+    ("", "?"),
+];
+
+// How many elements the runs of an array of 200 have, by how many bytes one has at most: 50 elements have 99 bytes with
+// their commas, and 51 have 101.
+const COUNTS: &[(usize, &[usize])] = &[
+    (399, &[200]),
+    (398, &[199, 1]),
+    (100, &[50, 50, 50, 50]),
+    (99, &[50, 50, 50, 50]),
+];
+
+// What stands behind a piece.
+fn mark(is_last: bool) -> u8 {
+    if is_last { b'.' } else { b'|' }
+}
 
 fn push_piece(
     shown: &mut Vec<u8>,
@@ -64,20 +124,15 @@ fn push_piece(
     Ok(())
 }
 
-fn shown_runs(alloc: Global, text: &[u8], least: usize) -> Result<Vec<u8>, AllocError> {
+fn shown_runs(alloc: Global, text: &[u8], most: usize) -> Result<Vec<u8>, AllocError> {
     let mut shown = Vec::new(alloc);
     let mut from = 0;
     for _ in 0..=text.len() {
-        let Some(run) = next_run(text, from, least) else {
+        let Some(run) = next_run(text, from, most) else {
             shown.push(b'?')?;
             break;
         };
-        push_piece(
-            &mut shown,
-            text,
-            run.elements,
-            if run.is_last { b'.' } else { b'|' },
-        )?;
+        push_piece(&mut shown, text, run.elements, mark(run.is_last))?;
         if run.is_last {
             break;
         }
@@ -95,16 +150,42 @@ fn shown_members(alloc: Global, text: &[u8]) -> Result<Vec<u8>, AllocError> {
             break;
         };
         push_piece(&mut shown, text, member.name, b'=')?;
-        push_piece(
-            &mut shown,
-            text,
-            member.value,
-            if member.is_last { b'.' } else { b'|' },
-        )?;
+        push_piece(&mut shown, text, member.value, mark(member.is_last))?;
         if member.is_last {
             break;
         }
         from = member.value.end + 1;
+    }
+    Ok(shown)
+}
+
+fn shown_array(
+    alloc: Global,
+    text: &[u8],
+    most: usize,
+) -> Result<(Vec<u8>, Vec<usize>), AllocError> {
+    let mut shown = Vec::new(alloc);
+    let mut counts = Vec::new(alloc);
+    let Some(runs) = cut_array(alloc, text, most)? else {
+        shown.push(b'?')?;
+        return Ok((shown, counts));
+    };
+    for run in &runs {
+        push_piece(&mut shown, text, run.elements, mark(run.is_last))?;
+        counts.push(run.count)?;
+    }
+    Ok((shown, counts))
+}
+
+fn shown_object(alloc: Global, text: &[u8]) -> Result<Vec<u8>, AllocError> {
+    let mut shown = Vec::new(alloc);
+    let Some(members) = cut_object(alloc, text)? else {
+        shown.push(b'?')?;
+        return Ok(shown);
+    };
+    for member in &members {
+        push_piece(&mut shown, text, member.name, b'=')?;
+        push_piece(&mut shown, text, member.value, mark(member.is_last))?;
     }
     Ok(shown)
 }
@@ -162,10 +243,58 @@ fn objects_are_cut_behind_each_name_and_value(rt: HostRuntime) -> Result<(), Fai
 }
 
 #[test]
-fn runs_are_as_long_as_asked(rt: HostRuntime) -> Result<(), Fail> {
+fn runs_are_no_longer_than_asked(rt: HostRuntime) -> Result<(), Fail> {
     for (text, pieces) in RUNS {
-        let shown = shown_runs(rt.alloc(), text.as_bytes(), 4)?;
+        let shown = shown_runs(rt.alloc(), text.as_bytes(), 5)?;
         assert_eq!(rt; shown.as_slice(), pieces.as_bytes(), "{text}");
+    }
+    Ok(())
+}
+
+#[test]
+fn whole_arrays_are_cut_into_runs(rt: HostRuntime) -> Result<(), Fail> {
+    for (text, pieces, counts) in CUT_ARRAYS {
+        for blanks in 0..66 {
+            let padded = behind_blanks(rt.alloc(), blanks, text)?;
+            let (shown, found) = shown_array(rt.alloc(), padded.as_slice(), 5)?;
+            assert_eq!(rt;
+                shown.as_slice(),
+                pieces.as_bytes(),
+                "{text} behind {blanks} blanks"
+            );
+            assert_eq!(rt; found.as_slice(), *counts, "{text} behind {blanks} blanks");
+        }
+    }
+    Ok(())
+}
+
+#[test]
+fn whole_objects_are_cut_into_members(rt: HostRuntime) -> Result<(), Fail> {
+    for (text, pieces) in CUT_OBJECTS {
+        for blanks in 0..66 {
+            let padded = behind_blanks(rt.alloc(), blanks, text)?;
+            let shown = shown_object(rt.alloc(), padded.as_slice())?;
+            assert_eq!(rt;
+                shown.as_slice(),
+                pieces.as_bytes(),
+                "{text} behind {blanks} blanks"
+            );
+        }
+    }
+    Ok(())
+}
+
+#[test]
+fn elements_of_several_blocks_are_counted(rt: HostRuntime) -> Result<(), Fail> {
+    let mut text = Vec::new(rt.alloc());
+    text.push(b'[')?;
+    for _ in 0..199 {
+        text.extend_from_slice(b"1,")?;
+    }
+    text.extend_from_slice(b"1]")?;
+    for (most, counts) in COUNTS {
+        let (_, found) = shown_array(rt.alloc(), text.as_slice(), *most)?;
+        assert_eq!(rt; found.as_slice(), *counts, "{most}");
     }
     Ok(())
 }

@@ -16,12 +16,25 @@ pub(crate) struct Walk {
     pub(crate) open: usize,
 }
 
-/// Bytes of a block outside strings, as bits.
+/// What a block has outside the brackets that are opened from the walk's start on, as bits.
 #[derive(Clone, Copy)]
-pub(crate) struct Marks {
-    pub(crate) opening: u64,
-    pub(crate) closing: u64,
+pub(crate) struct Outside {
+    /// The bytes that are wanted, before the end.
     pub(crate) wanted: u64,
+    /// The bracket that closes one which was open before the walk.
+    pub(crate) end: Option<usize>,
+}
+
+impl Outside {
+    /// The first of all these bytes.
+    #[inline(always)]
+    pub(crate) fn first(self) -> Option<usize> {
+        if self.wanted != 0 {
+            Some(self.wanted.trailing_zeros() as usize)
+        } else {
+            self.end
+        }
+    }
 }
 
 fn equal_to(block: u8x64, byte: u8) -> u64 {
@@ -47,6 +60,7 @@ impl Walk {
     };
 
     /// The bytes that follow an odd run of backslashes.
+    #[inline(always)]
     fn escaped(&mut self, backslashes: u64) -> u64 {
         let before = self.is_escaped as u64;
         let live = backslashes & !before;
@@ -57,47 +71,74 @@ impl Walk {
         (EVEN ^ (even_runs << 1)) & follows
     }
 
-    /// Goes over the strings of a block.
+    /// The bytes of a block that are in strings, their opening quotes counted.
     #[inline(always)]
-    pub(crate) fn marks_of(&mut self, block: u8x64, wanted: u8) -> Marks {
+    fn strings(&mut self, block: u8x64) -> u64 {
         let quotes = equal_to(block, b'"') & !self.escaped(equal_to(block, b'\\'));
         let inside = prefix_xor(quotes) ^ 0u64.wrapping_sub(self.in_string as u64);
         self.in_string = inside >> 63 == 1;
-        let curly = block | u8x64::splat(0x20);
-        Marks {
-            opening: equal_to(curly, b'{') & !inside,
-            closing: equal_to(curly, b'}') & !inside,
-            wanted: equal_to(block, wanted) & !inside,
-        }
+        inside
     }
 
-    /// Goes over the brackets of a block, up to the first byte outside all of them that closes, or is wanted and isn't
-    /// among so many bytes that are skipped: its place in the block.
+    /// Goes over a block, up to the byte that closes a bracket which was open before the walk.
     #[inline(always)]
-    pub(crate) fn first_outside(&mut self, marks: Marks, skipped: usize) -> Option<usize> {
-        let closing = marks.closing.count_ones() as usize;
+    pub(crate) fn outside(&mut self, block: u8x64, wanted: u8) -> Outside {
+        let inside = self.strings(block);
+        if inside == u64::MAX {
+            return Outside {
+                wanted: 0,
+                end: None,
+            };
+        }
+        let curly = block | u8x64::splat(0x20);
+        let opening = equal_to(curly, b'{') & !inside;
+        let closing = equal_to(curly, b'}') & !inside;
         // One bracket stays open throughout, whichever of the others are opened and closed first.
-        if closing < self.open {
+        if (closing.count_ones() as usize) < self.open {
             self.open = self
                 .open
-                .wrapping_add(marks.opening.count_ones() as usize)
-                .wrapping_sub(closing);
-            return None;
+                .wrapping_add(opening.count_ones() as usize)
+                .wrapping_sub(closing.count_ones() as usize);
+            return Outside {
+                wanted: 0,
+                end: None,
+            };
         }
-        let far = u64::MAX.checked_shl(skipped.min(BLOCK) as u32).unwrap_or(0);
-        let mut rest = marks.opening | marks.closing | (marks.wanted & far);
+        self.between(opening, closing, equal_to(block, wanted) & !inside)
+    }
+
+    /// Goes over the brackets of a block.
+    #[inline(always)]
+    fn between(&mut self, opening: u64, closing: u64, wanted: u64) -> Outside {
+        let mut found = 0;
+        let mut live = if self.open == 0 { u64::MAX } else { 0 };
+        let mut rest = opening | closing;
         for _ in 0..rest.count_ones() {
             let bit = rest & rest.wrapping_neg();
-            if marks.opening & bit != 0 {
+            let before = bit.wrapping_sub(1);
+            if self.open == 0 {
+                found |= wanted & live & before;
+                live = 0;
+            }
+            if opening & bit != 0 {
                 self.open = self.open.wrapping_add(1);
             } else if self.open == 0 {
-                return Some(bit.trailing_zeros() as usize);
-            } else if marks.closing & bit != 0 {
+                return Outside {
+                    wanted: found,
+                    end: Some(bit.trailing_zeros() as usize),
+                };
+            } else {
                 self.open = self.open.wrapping_sub(1);
+                if self.open == 0 {
+                    live = !(bit | before);
+                }
             }
             rest ^= bit;
         }
-        None
+        Outside {
+            wanted: found | wanted & live,
+            end: None,
+        }
     }
 }
 

@@ -25,18 +25,18 @@ piece-then text from edge piece s =
     (cut ∙ ap₂ (λ b n. b ∷ drop n text) here next)
 
 -- a run before its separator, and the runs behind it
-run-then : (text : List ℕ) (from end : ℕ) (elements : Piece) (b : Bool) (runs : List Run)
-    → IsRunOf text from (record { elements = elements; is_last = b }) → b ≡ is_empty runs
+run-then : (text : List ℕ) (from end : ℕ) (elements : Piece) (n : ℕ) (b : Bool) (runs : List Run)
+    → IsRunOf text from (record { elements = elements; count = n; is_last = b }) → b ≡ is_empty runs
     → AreRunsOf text (elements.end + 1) end runs
     → drop from text ≡ piece_text text elements ++ (array_rest (map (run_text text) runs) ++ drop end text)
-run-then text from end elements true [] s ends more =
-    piece-then text from 93 elements s ∙ ap (λ n. piece_text text elements ++ 93 ∷ drop n text) more
-run-then text from end elements true (r ∷ rs) s ends more = absurd cc
-run-then text from end elements false [] s ends more = absurd cc
-run-then text from end elements false (r ∷ rs) s ends more =
+run-then text from end elements n true [] s ends more =
+    piece-then text from 93 elements s ∙ ap (λ m. piece_text text elements ++ 93 ∷ drop m text) more
+run-then text from end elements n true (r ∷ rs) s ends more = absurd cc
+run-then text from end elements n false [] s ends more = absurd cc
+run-then text from end elements n false (r ∷ rs) s ends more =
     piece-then text from 44 elements s
     ∙ ap (λ l. piece_text text elements ++ 44 ∷ l)
-    (run-then text (elements.end + 1) end r.elements r.is_last rs more.0 more.1 more.2
+    (run-then text (elements.end + 1) end r.elements r.count r.is_last rs more.0 more.1 more.2
     ∙ sym (append_assoc (run_text text r) (array_rest (map (run_text text) rs)) (drop end text)))
 
 pub runs-forward : (text : List ℕ) (from end : ℕ) (runs : List Run) → AreRunsOf text from end runs → from ≤ end
@@ -53,7 +53,7 @@ cut-off text xs from end forward e =
 pub cut_runs_are_the_text_shown : CutRunsAreTheText
 cut_runs_are_the_text_shown text from end run runs r =
     cut-off text _ from end (runs-forward text from end (run ∷ runs) r)
-    (run-then text from end run.elements run.is_last runs r.0 r.1 r.2
+    (run-then text from end run.elements run.count run.is_last runs r.0 r.1 r.2
     ∙ sym (append_assoc (run_text text run) (array_rest (map (run_text text) runs)) (drop end text)))
 
 name-then : (text : List ℕ) (from : ℕ) (member : Member) (rest : List ℕ) → IsMemberOf text from member

@@ -21,7 +21,7 @@ use Rattle.fb_pieces.proofs.laws.ReadTextClosesItsStrings.{text-closed}
 use Rattle.fb_pieces.proofs.laws.BlanksHaveNoLexemes.{blanks_change_nothing_shown}
 
 -- the text before and behind what stands in brackets
-around : (text inside : List ℕ) (bracket at end : ℕ) → slice_get text at ≡ Some bracket → at + 1 ≤ end
+pub around : (text inside : List ℕ) (bracket at end : ℕ) → slice_get text at ≡ Some bracket → at + 1 ≤ end
     → slice_range text (at + 1) end ≡ inside → text ≡ take at text ++ ((bracket ∷ inside) ++ drop end text)
 around text inside bracket at end opens forward is =
     let next : suc at ≡ at + 1 = omega arith in

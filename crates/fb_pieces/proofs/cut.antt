@@ -1,0 +1,2 @@
+-- What the proofs of src/cut.rt use.
+pub mod PiecesFollowOneAnother

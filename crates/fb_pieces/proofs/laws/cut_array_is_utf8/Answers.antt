@@ -1,0 +1,5 @@
+use Rattle.fb_pieces.proofs.laws.PiecesMakeUtf8.{cut_array_is_utf8_shown}
+use Rattle.fb_pieces.proofs.laws.cut_array_is_utf8.Goals as goal
+
+pub returns : goal.returns
+returns c = cut_array_is_utf8_shown
