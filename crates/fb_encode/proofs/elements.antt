@@ -1,1 +1,2 @@
 pub mod ElementsAreNoted
+pub mod InlineVectorIsNoted

@@ -2,3 +2,8 @@ pub mod Encoded
 pub mod TreesNoted
 pub mod StoredAs
 pub mod SlotsRead
+pub mod TextsRead
+pub mod RootsNoted
+pub mod TextsEncoded
+pub mod MembersRead
+pub mod SlotTexts

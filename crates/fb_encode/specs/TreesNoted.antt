@@ -1,5 +1,5 @@
 -- What a tree adds to a tape while it is read: the value that it gives waits there, and its cells are spent.
-use Rattle.std.specs.Prelude.{ℕ, ◌≡◌, ◌≤◌, true, Bool, List, Option, None, Some, Ok, Err, length, slice_get}
+use Rattle.std.specs.Prelude.{ℕ, ◌≡◌, ◌≤◌, ◌++◌, true, Bool, List, Option, None, Some, Ok, Err, length, slice_get}
 use Rattle.std.specs.Prelude.{if◌then◌else◌}
 use Rattle.serde_json.specs.Data.{Data}
 use Rattle.fb_schema.specs.Schema.{DeclaredField}
@@ -11,9 +11,9 @@ use Rattle.fb_value.specs.Entries.{EntryFits, entry_room}
 use Rattle.fb_value.specs.Fits.{Fits}
 use Rattle.fb_value.specs.Room.{room, parts_room}
 use Rattle.fb_value.specs.View.{parts_in}
-use Rattle.fb_tape.specs.NamedParts.{apart_of, as_list, elements_apart, entry_apart}
+use Rattle.fb_tape.specs.NamedParts.{NamedPart, apart_of, as_list, elements_apart, entry_apart}
 use Rattle.fb_tape.specs.OpenFields.{OpenField}
-use Rattle.fb_tape.specs.Tapes.{Taped}
+use Rattle.fb_tape.specs.Tapes.{IsUnfinished, Taped, Waits}
 use Rattle.fb_json.specs.declared.faults.Place.{Place}
 use Rattle.fb_json.specs.Meant.{Meaner, meant, unless_null, used_meant}
 use Rattle.fb_json.specs.Outcome.{Counted}
@@ -41,14 +41,30 @@ pub record IsEntryNoted (L : LaidSchema) (k : ℕ) (f : Slot) (given : Counted (
   pub adds : AddsParts a b (as_list (entry_apart f entry)) (entry_room L f entry)
   pub fields : AddsFields L k f entry before now
 
--- The values that a vector's elements are given wait, one behind the other.
-pub record AreElementsNoted (L : LaidSchema) (kind : StoredKind) (given : Counted (List Datum)) (count : ℕ)
-    (a b : Taped) (rest : ℕ) : Type 0 where
+-- The values that a vector's elements are given are on the tape in this way, and so many cells are left.
+pub record AreElementsAdded (L : LaidSchema) (kind : StoredKind) (AddsAll : Taped → Taped → List Datum → Type 0)
+    (given : Counted (List Datum)) (count : ℕ) (a b : Taped) (rest : ℕ) : Type 0 where
   pub elements : List Datum
   pub given_is : given ≡ Ok (elements, rest)
   pub count_is : length elements ≡ count
   pub fits : EachElementFits L kind elements
-  pub adds : AddsParts a b (elements_apart kind elements) (parts_room L kind (parts_in elements))
+  pub adds : AddsAll a b elements
+
+-- What these elements name waits, one behind the other.
+abbrev pub AddsTargets : LaidSchema → StoredKind → Taped → Taped → List Datum → Type 0
+AddsTargets L kind a b ds = AddsParts a b (elements_apart kind ds) (parts_room L kind (parts_in ds))
+
+-- What the values name that a vector's elements are given waits.
+abbrev pub AreElementsNoted : LaidSchema → StoredKind → Counted (List Datum) → ℕ → Taped → Taped → ℕ → Type 0
+AreElementsNoted L kind given count a b rest = AreElementsAdded L kind (AddsTargets L kind) given count a b rest
+
+-- These numbers or structs stand behind those of the vector that isn't finished, and what waited waits.
+pub record AddsInline (L : LaidSchema) (kind : StoredKind) (a b : Taped) (ds : List Datum) : Type 0 where
+  pub unfinished : (count : ℕ) (before : List Datum) → IsUnfinished L kind count before a.unfinished
+      → IsUnfinished L kind count (before ++ ds) b.unfinished
+  pub waits : (others : List NamedPart) → Waits a others → Waits b others
+  pub room : b.room ≡ a.room
+  pub layout : b.layout ≡ a.layout
 
 -- what the member of a slot gives, if it has one that isn't null
 abbrev pub member_meant : LaidSchema → Bool → Option Data → Option Meaner

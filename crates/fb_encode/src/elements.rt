@@ -1,12 +1,12 @@
 //! Vectors of numbers and structs.
-ghost use Rattle.std.specs.Prelude.{◌≡◌, ◌≤◌, [], IfErr, IfOk, false};
+ghost use Rattle.std.specs.Prelude.{◌≡◌, ◌≤◌, [], IfErr, IfOk, false, length};
 ghost use Rattle.serde_json.specs.View.{items_view};
 ghost use Rattle.fb_layout.specs.Laid.{align_of, one_of, stored_kind, vector_of};
 ghost use Rattle.fb_layout.specs.Widths.{greatest};
 ghost use Rattle.fb_json.specs.Meant.{items_meant};
 ghost use Rattle.fb_json.specs.Outcome.{Fails};
 ghost use Rattle.fb_build.specs.Fields.{IsElement, is_reference};
-ghost use Rattle.fb_encode.specs.TreesNoted.{IsNoted, vector_given};
+ghost use Rattle.fb_encode.specs.TreesNoted.{AddsInline, AreElementsAdded, IsNoted, vector_given};
 
 use fb_json::{JsonFault, Place, Source, element_of};
 use fb_schema::Kind;
@@ -36,12 +36,36 @@ pub(crate) fn note_elements(
         (items_view elements.now) kind place levels left)) }
 {
     tape.open_vector(kind, elements.len())?;
+    let left = push_elements(source, tape, elements, kind, place, levels, left)?;
+    tape.close_vector(kind, elements.len())?;
+    Ok(left)
+}
+
+/// Adds numbers or structs to the vector that was begun, and returns the cells that are left.
+pub(crate) fn push_elements(
+    source: Source,
+    tape: &mut Tape<'_>,
+    elements: &[Json],
+    kind: Kind,
+    place: Place,
+    levels: u8,
+    left: u32,
+) -> Result<u32, JsonFault>
+    requires layout { tape.old.layout ≡ source.layout.now }
+    requires inline { is_reference (one_of (stored_kind source.layout.now.schema kind)) ≡ false }
+    requires element { IsElement source.layout.now (stored_kind source.layout.now.schema kind) }
+    ensures added { let L = source.entry.layout.now in let stored = stored_kind L.schema kind in
+        IfOk result (AreElementsAdded L stored (AddsInline L stored)
+        (items_meant L source.entry.unknown (items_view elements.now) kind place levels left) (length elements.now)
+        tape.old tape.new) }
+    ensures refused { IfErr result (λ f. Fails f (items_meant source.entry.layout.now source.entry.unknown
+        (items_view elements.now) kind place levels left)) }
+{
     let mut left = left;
     for element in elements {
         let (value, rest) = element_of(source, element, kind, place, levels, left)?;
         tape.push_element(kind, &value)?;
         left = rest;
     }
-    tape.close_vector(kind, elements.len())?;
     Ok(left)
 }

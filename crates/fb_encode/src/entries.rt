@@ -35,7 +35,7 @@ pub(crate) struct SlotRead<'s> {
 
 impl SlotRead<'_> {
     /// Where the slot's faults are.
-    fn place(self) -> Place
+    pub(crate) fn place(self) -> Place
         ensures { result ≡ slot_place self.entry.owner.0 self.entry.number }
     {
         Place {

@@ -11,3 +11,14 @@ pub enum EncodeFault {
     #[error(transparent)]
     Build(BuildFault),
 }
+
+/// Why a JSON text gives no buffer.
+#[derive(Clone, Copy, Debug, PartialEq, Eq, Drop)]
+pub enum TextFault {
+    /// It isn't JSON.
+    BadJson,
+    /// Memory ran out while it was read.
+    Memory,
+    /// What it means is refused.
+    Encode(EncodeFault),
+}

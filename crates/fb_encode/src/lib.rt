@@ -1,12 +1,20 @@
-//! From a tree of JSON straight to a buffer.
+//! From a JSON text, or its tree, straight to a buffer.
 #![tactic(auto)]
 
 mod elements;
 mod entries;
+mod excerpts;
 mod faults;
+mod numbers;
+mod objects;
 mod parts;
+mod reader;
+mod slot_texts;
 mod tables;
+mod texts;
 mod trees;
+mod vectors;
 
-pub use faults::EncodeFault;
+pub use faults::{EncodeFault, TextFault};
+pub use texts::{encode_owned_text, encode_text};
 pub use trees::encode_tree;

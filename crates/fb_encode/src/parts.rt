@@ -96,7 +96,7 @@ fn note_target(
 
 /// Notes what the elements of a vector name, and returns the cells that are left.
 #[cycle(notes)]
-fn note_targets(
+pub(crate) fn note_targets(
     source: Source,
     noting: &mut Noting<'_>,
     elements: &[Json],

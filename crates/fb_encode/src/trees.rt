@@ -1,16 +1,19 @@
 //! Buffers of trees.
 ghost use Rattle.std.specs.Prelude.{◌≡◌, ◌⊎◌, IfErr, IfOk};
+ghost use Rattle.std.specs.Prelude.{Bool};
+ghost use Rattle.serde_json.specs.Data.{Data};
 ghost use Rattle.serde_json.specs.View.{view as tree_view};
+ghost use Rattle.fb_value.specs.Bounds.{Bounds};
 ghost use Rattle.fb_value.specs.Datum.{Datum};
-ghost use Rattle.fb_json.specs.Means.{Means};
 ghost use Rattle.fb_json.specs.Refuses.{IsFirst, MayLackMemory};
 ghost use Rattle.fb_build.specs.NotedRoots.{NotesRoot};
 ghost use Rattle.fb_encode.specs.Encoded.{EncodeRefused, IsEncoded};
+ghost use Rattle.fb_encode.specs.RootsNoted.{IsRootNoted};
 
 use crate::faults::EncodeFault;
 use crate::parts::note_object;
 use fb_build::{Noting, lay_root};
-use fb_json::{JsonFault, Place, Source, first_fault_refuses, meant_fits, only_what_is_meant};
+use fb_json::{JsonFault, Place, Source, first_fault_refuses, only_what_is_meant};
 use fb_layout::Layout;
 use fb_tape::Tape;
 use fb_value::Limits;
@@ -18,9 +21,13 @@ use serde_json::Value as Json;
 use std::alloc::Global;
 
 /// A tape on which the value is noted that a tree means under the root table.
-fn note_root<'l>(source: Source<'l>, tree: &Json, limits: Limits) -> Result<Tape<'l>, JsonFault>
-    ensures noted { let L = source.entry.layout.now in IfOk result (λ t. (d : Datum)
-        × NotesRoot L t d × Means L limits source.entry.unknown (tree_view tree.now) d) }
+pub(crate) fn note_root<'l>(
+    source: Source<'l>,
+    tree: &Json,
+    limits: Limits,
+) -> Result<Tape<'l>, JsonFault>
+    ensures noted { IfOk result
+        (IsRootNoted source.entry.layout.now limits source.entry.unknown (tree_view tree.now)) }
     ensures first { IfErr result (λ f. (f ≡ JsonFault.Memory)
         ⊎ IsFirst source.entry.layout.now limits source.entry.unknown (tree_view tree.now) f) }
     ensures memory { IfErr result (MayLackMemory limits (tree_view tree.now)) }
@@ -39,6 +46,24 @@ fn note_root<'l>(source: Source<'l>, tree: &Json, limits: Limits) -> Result<Tape
     Ok(tape)
 }
 
+/// The bytes of the value that is noted on a tape, as the root's.
+pub(crate) fn lay_noted<'l>(
+    alloc: Global,
+    layout: &'l Layout,
+    tape: Tape<'l>,
+) -> Result<Vec<u8>, EncodeFault>
+    requires { (d : Datum) × NotesRoot layout.now tape d }
+    ensures encoded { (most : Bounds) (unknown : Bool) (t : Data) → IsRootNoted layout.now most unknown t tape.entry
+        → IfOk result (λ b. IsEncoded layout.now most unknown t b.items) }
+    ensures refused { (most : Bounds) (unknown : Bool) (t : Data) → IsRootNoted layout.now most unknown t tape.entry
+        → IfErr result (EncodeRefused layout.now most unknown t) }
+{
+    match lay_root(alloc, layout, tape) {
+        Ok(bytes) => Ok(bytes),
+        Err(fault) => Err(EncodeFault::Build(fault)),
+    }
+}
+
 /// The bytes that encode the value that a tree means under a layout, as the root table's.
 ///
 /// The tree is given away: its value is noted on a tape, and then the tree is dropped. Memory for the bytes is taken
@@ -55,7 +80,6 @@ pub fn encode_tree(
     ensures refused { IfErr result (EncodeRefused layout.now limits unknown (tree_view tree)) }
 {
     first_fault_refuses();
-    meant_fits(layout, &tree);
     let source = Source {
         alloc,
         layout,
@@ -66,8 +90,5 @@ pub fn encode_tree(
         Err(fault) => return Err(EncodeFault::Json(fault)),
     };
     drop(tree);
-    match lay_root(alloc, layout, tape) {
-        Ok(bytes) => Ok(bytes),
-        Err(fault) => Err(EncodeFault::Build(fault)),
-    }
+    lay_noted(alloc, layout, tape)
 }

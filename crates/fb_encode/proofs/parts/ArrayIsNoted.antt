@@ -21,7 +21,7 @@ use Rattle.fb_json.proofs.slots.OneSlotOrFieldMore.{counted, fails_by}
 use Rattle.fb_encode.proofs.parts.TreesByTheirKind.{vector_by}
 use Rattle.fb_encode.specs.TreesNoted.{vector_given}
 
-bound : (r : Counted (List Datum)) → (r >>= λ xs. Ok (a_vector (parts_in xs.0), xs.1)) ≡ vector_given r
+pub bound : (r : Counted (List Datum)) → (r >>= λ xs. Ok (a_vector (parts_in xs.0), xs.1)) ≡ vector_given r
 bound (Ok xs) = refl
 bound (Err e) = refl
 

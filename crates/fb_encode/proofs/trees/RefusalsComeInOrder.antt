@@ -16,7 +16,7 @@ use Rattle.fb_encode.specs.Encoded.{BreaksARule, EncodeRefused, TreeRefused}
 use Rattle.fb_encode.specs.declared.faults.EncodeFault.TheVariants.{Build}
 
 module _ (L : LaidSchema) (most : Bounds) (unknown : Bool) (t : Data) where
-  breaks : FirstFaultRefuses → (f : JsonFault) → IsFirst L most unknown t f → BreaksARule L most unknown t f
+  pub breaks : FirstFaultRefuses → (f : JsonFault) → IsFirst L most unknown t f → BreaksARule L most unknown t f
   breaks law f first =
       let both = law L most unknown t f first in record { refuses = both.0; first = first; none = both.1 }
 

@@ -5,6 +5,7 @@ use Rattle.serde_json.specs.Data.{Data}
 use Rattle.fb_schema.specs.declared.kinds.Kind.TheVariants.{Table}
 use Rattle.fb_schema.specs.declared.kinds.Shape.TheVariants.{One}
 use Rattle.fb_layout.specs.Laid.{LaidSchema, one_of, table_kind}
+use Rattle.fb_layout.specs.WellMade.{IsWellMade}
 use Rattle.fb_value.specs.Bounds.{Bounds}
 use Rattle.fb_value.specs.Datum.{Datum, a_number, a_text, a_vector, a_struct, a_table, a_member, an_unknown}
 use Rattle.fb_value.specs.Datum.{SlotEntries}
@@ -13,12 +14,14 @@ use Rattle.fb_value.specs.Fits.{Fits}
 use Rattle.fb_value.specs.Places.{table_part}
 use Rattle.fb_value.specs.Room.{room}
 use Rattle.fb_value.specs.View.{entries_in}
+use Rattle.fb_value.proofs.types.NestingIsBoundedByDepth.{root_fits}
 use Rattle.fb_tape.specs.Tapes.{Taped, Waits}
 use Rattle.fb_json.specs.Laws.{OnlyWhatIsMeant}
 use Rattle.fb_json.specs.Means.{Means, MeansAs}
 use Rattle.fb_json.specs.Meant.{meant, type_place}
 use Rattle.fb_json.specs.Refuses.{root_meant}
 use Rattle.fb_build.specs.NotedRoots.{NotesRoot}
+use Rattle.fb_encode.specs.RootsNoted.{IsRootNoted}
 use Rattle.fb_encode.specs.TreesNoted.{IsNoted}
 
 -- the entries of a table as a list
@@ -53,7 +56,7 @@ module _ (L : LaidSchema) (most : Bounds) (unknown : Bool) (t : Data) (root leve
   module _ (a b : Taped) (rest : ℕ) (layout : a.layout ≡ L) (none : Waits a []) (empty : a.room ≡ 0)
       (h : IsNoted L (one_of (table_kind root))
       (meant L unknown t (One (Table (record { 0 = root }))) (type_place root) levels left) a b rest) where
-    pub root_notes : NotesRoot L b h.value
+    root_notes : NotesRoot L b h.value
     root_notes =
         let table = is_table L root h.value h.fits in
         let same = h.adds.layout ∙ layout in
@@ -79,7 +82,7 @@ module _ (L : LaidSchema) (most : Bounds) (unknown : Bool) (t : Data) (root leve
           );
         }
 
-    pub root_means : OnlyWhatIsMeant → Means L most unknown t h.value
+    root_means : OnlyWhatIsMeant → Means L most unknown t h.value
     root_means law =
         let good = law L unknown t (One (Table (record { 0 = root }))) (type_place root) levels left (h.value, rest)
         h.given_is in (
@@ -87,3 +90,11 @@ module _ (L : LaidSchema) (most : Bounds) (unknown : Bool) (t : Data) (root leve
           omega (arith, good.2, deep),
           omega (arith, good.1, many),
         )
+
+    pub root_noted : OnlyWhatIsMeant → IsWellMade L → IsRootNoted L most unknown t b
+    root_noted law made = record {
+      value = h.value;
+      noted = root_notes;
+      means = root_means law;
+      fits = (root_fits L h.value made).1 (subst (λ (n : ℕ). Fits L (one_of (table_kind n)) h.value) is h.fits);
+    }

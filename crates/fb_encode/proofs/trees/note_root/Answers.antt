@@ -3,7 +3,7 @@ use Rattle.std.proofs.lemmas.Result.{err_from_is_err_and}
 use Rattle.serde_json.specs.View.{view as tree_view}
 use Rattle.fb_schema.specs.Schema.{DeclaredSchema}
 use Rattle.fb_json.proofs.slots.OneSlotOrFieldMore.{failed}
-use Rattle.fb_encode.proofs.trees.RootIsNoted.{at_root, root_means, root_notes}
+use Rattle.fb_encode.proofs.trees.RootIsNoted.{at_root, root_noted}
 use Rattle.fb_encode.proofs.trees.note_root.Goals as goal
 
 pub returns-in_err-_left-clause-first : goal.returns-in_err-_left-clause-first
@@ -26,12 +26,7 @@ returns-clause-noted c =
     let t = tree_view c.args.tree.now in
     let root = c.root-root.ensures ∙ ap (λ (s : DeclaredSchema). s.root) c.schema.ensures.schema in
     let made = c.new-noting.ensures in
-    let noted = c.in_ok-_left.ensures.noted in (
-      noted.value,
-      root_notes L c.args.limits c.args.source.unknown t c.root-root.result.0 c.most_depth-levels.result
-          c.most_cells-cells.result root c.most_depth-levels.ensures.exact c.most_cells-cells.ensures _ _ _ made.layout
-          made.waits made.room noted,
-      root_means L c.args.limits c.args.source.unknown t c.root-root.result.0 c.most_depth-levels.result
-          c.most_cells-cells.result root c.most_depth-levels.ensures.exact c.most_cells-cells.ensures _ _ _ made.layout
-          made.waits made.room noted c.only_what_is_meant.ensures,
-    )
+    let noted = c.in_ok-_left.ensures.noted in
+    root_noted L c.args.limits c.args.source.unknown t c.root-root.result.0 c.most_depth-levels.result
+    c.most_cells-cells.result root c.most_depth-levels.ensures.exact c.most_cells-cells.ensures _ _ _ made.layout
+    made.waits made.room noted c.only_what_is_meant.ensures c.schema.ensures.made

@@ -1,14 +1,12 @@
-use Rattle.std.proofs.Common.{◌≡◌, ◌≤◌, ◌+◌, List, length, drop}
+use Rattle.std.proofs.Common.{◌≡◌, List, length, drop}
 use Rattle.serde_json.specs.View.{items_view}
 use Rattle.fb_layout.specs.Laid.{stored_kind}
 use Rattle.fb_value.specs.Datum.{Datum}
-use Rattle.fb_value.specs.Room.{vector_room}
-use Rattle.fb_tape.specs.NamedParts.{NamedPart}
-use Rattle.fb_tape.specs.Tapes.{IsUnfinished, Waits}
 use Rattle.fb_json.specs.Meant.{items_meant}
 use Rattle.fb_json.proofs.slots.OneSlotOrFieldMore.{after}
 use Rattle.fb_build.specs.OneByOne.{EachElementFits}
-use Rattle.fb_encode.proofs.elements.note_elements.Given as goal
+use Rattle.fb_encode.specs.TreesNoted.{AddsInline}
+use Rattle.fb_encode.proofs.elements.push_elements.Given as goal
 
 abbrev pub invariant-loop-element : goal.invariant-loop-element
 invariant-loop-element l = record {
@@ -19,12 +17,5 @@ invariant-loop-element l = record {
       l.place l.levels l.left);
   count : length elements ≡ l.element-index;
   fits : EachElementFits l.source.layout.now (stored_kind l.source.layout.now.schema l.kind) elements;
-  waits : (others : List NamedPart) → Waits l.fn.tape others → Waits l.tape others;
-  unfinished : l.fn.tape.room
-      + vector_room l.source.layout.now (stored_kind l.source.layout.now.schema l.kind) (length l.elements)
-      ≤ 2147483647
-      → IsUnfinished l.source.layout.now (stored_kind l.source.layout.now.schema l.kind) (length l.elements) elements
-      l.tape.unfinished;
-  room : l.tape.room ≡ l.fn.tape.room;
-  layout : l.tape.layout ≡ l.source.layout.now;
+  adds : AddsInline l.source.layout.now (stored_kind l.source.layout.now.schema l.kind) l.fn.tape l.tape elements;
 }

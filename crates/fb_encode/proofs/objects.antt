@@ -1,0 +1,5 @@
+pub mod BracketedTextIsNotNull
+pub mod SlotsAreFound
+pub mod CutObjectIsRead
+pub mod NextSlotIsNoted
+pub mod TextIsOfItsSlot

@@ -1,0 +1,115 @@
+-- The next slot is noted: it has no text, or one that isn't null.
+use Rattle.std.proofs.Common.{◌≡◌, ◌≢◌, ◌∙◌, ◌++◌, ◌∷◌, [], ℕ, Bool, true, false, List, Option, None, Some, Result, Ok}
+use Rattle.std.proofs.Common.{Err, OnOk, refl, sym}
+use Rattle.serde_json.specs.Data.{Data, null, boolean, number, string, array, object}
+use Rattle.fb_schema.specs.declared.kinds.Kind.TheVariants.{Scalar, Enum, Struct, Table, Union, Code, Text}
+use Rattle.fb_schema.specs.declared.kinds.Shape.{Shape}
+use Rattle.fb_schema.specs.declared.kinds.Shape.TheVariants.{One, Many}
+use Rattle.fb_schema.specs.Schema.{DeclaredField, DeclaredSchema, Name}
+use Rattle.fb_schema.specs.WellDeclared.{MarksFit}
+use Rattle.fb_layout.specs.Laid.{LaidSchema, slot_of, stored_shape}
+use Rattle.fb_value.specs.Datum.{Datum}
+use Rattle.fb_tape.specs.OpenFields.{OpenField, reference_field}
+use Rattle.fb_tape.specs.Tapes.{Taped}
+use Rattle.fb_json.specs.declared.faults.JsonFault.{JsonFault}
+use Rattle.fb_json.specs.declared.faults.Place.{Place}
+use Rattle.fb_json.specs.Meant.{Look, code_after, entry_meant, is_null, meant, used_meant}
+use Rattle.fb_json.specs.Outcome.{◌>>=◌, Fails}
+use Rattle.fb_json.specs.SlotMembers.{is_of_union}
+use Rattle.fb_json.proofs.slots.EntryIsWhatTheLookUpFinds.{entry_some}
+use Rattle.fb_json.proofs.slots.OneSlotOrFieldMore.{fails_by}
+use Rattle.fb_encode.specs.TreesNoted.{IsEntryNoted, IsNoted, IsPart}
+use Rattle.fb_encode.proofs.entries.PresentEntryIsNoted.{part_plain, plain_given, plain_refused, reference_noted}
+use Rattle.fb_encode.proofs.entries.SlotStoresNothing.{given_nothing, nothing_noted, unused_nothing}
+use Rattle.fb_encode.proofs.tables.SlotsAreNoted.{entry_by}
+
+pub on_ok : {A E : Type 0} (r : Result A E) (P : Type 0) → P → OnOk r P
+on_ok (Ok x) P holds = holds
+on_ok (Err e) P holds = tt
+
+-- where a slot has a text, it is in use
+pub used_by : (b : Bool) {A : Type 0} (o : Option A) (x : A) → (b ≡ true → o ≡ None) → o ≡ Some x → b ≡ false
+used_by true o x old is =
+    let both : None ≡ Some x = sym (old refl) ∙ is in
+    cc
+used_by false o x old is = refl
+
+code_old : (S : DeclaredSchema) (look : Look) (at : Place) (code : ℕ) (name : Name) (shape : Shape)
+    → code_after S look at code true name shape ≡ Ok code
+unfolding code_after
+code_old S look at code name shape = refl
+
+code_plain : (S : DeclaredSchema) (look : Look) (at : Place) (code : ℕ) (b : Bool) (name : Name) (shape : Shape)
+    → is_of_union shape ≡ false → code_after S look at code b name shape ≡ Ok code
+unfolding code_after
+code_plain S look at code true name shape plain = refl
+code_plain S look at code false name (One (Code u)) plain = cc
+code_plain S look at code false name (One (Union u)) plain = refl
+code_plain S look at code false name (One (Scalar base)) plain = refl
+code_plain S look at code false name (One (Enum id)) plain = refl
+code_plain S look at code false name (One (Struct id)) plain = refl
+code_plain S look at code false name (One (Table id)) plain = refl
+code_plain S look at code false name (One Text) plain = refl
+code_plain S look at code false name (Many kind) plain = refl
+
+not_null : (t : Data) → t ≢ null → is_null t ≡ false
+not_null null apart = absurd (apart refl)
+not_null (boolean b) apart = refl
+not_null (number n) apart = refl
+not_null (string s) apart = refl
+not_null (array ds) apart = refl
+not_null (object ms) apart = refl
+
+module _ (L : LaidSchema) (f : DeclaredField) (seen : Look) (k code levels left : ℕ) (at : Place) where
+  abbrev NextIs : Taped → Taped → List OpenField → List OpenField → ℕ → Type 0
+  NextIs a b before now rest =
+      (code_after L.schema seen at code f.deprecated f.name f.shape ≡ Ok code)
+      × IsEntryNoted L k (slot_of L.schema f) (entry_meant L seen f at code levels left) a b before now rest
+
+  -- a deprecated slot
+  pub old_next : f.deprecated ≡ true → (a : Taped) (opens : List OpenField) → a.unfinished ≡ []
+      → NextIs a a opens opens left
+  unfolding entry_meant
+  old_next old a opens whole =
+      let given : entry_meant L seen f at code levels left ≡ Ok (None, left) = rw old refl in (
+        rw old (code_old L.schema seen at code f.name f.shape),
+        nothing_noted L k (slot_of L.schema f) _ None left a opens whole given (unused_nothing L f old),
+      )
+
+  -- a slot without a member
+  pub absent_next : MarksFit L.schema f f.shape → (unknown : Bool) → seen f.name ≡ None
+      → code_after L.schema seen at code f.deprecated f.name f.shape ≡ Ok code → (x : Option Datum)
+      → entry_meant L seen f at code levels left ≡ Ok (x, left) → (a : Taped) (opens : List OpenField)
+      → a.unfinished ≡ [] → NextIs a a opens opens left
+  absent_next marks unknown none told x given a opens whole =
+      let nothing = given_nothing L f marks unknown code at levels left x left
+      (sym (entry_by L unknown seen f None at code levels left none) ∙ given) in
+      (told, nothing_noted L k (slot_of L.schema f) _ x left a opens whole given nothing)
+
+  -- a slot of a reference's shape, whose member isn't null
+  module _ (used : f.deprecated ≡ false) (part : IsPart L (stored_shape L.schema f.shape)) (unknown : Bool) (t : Data)
+      (apart : t ≢ null) (found : seen f.name ≡ Some (t, meant L unknown t)) where
+    told_plain : code_after L.schema seen at code f.deprecated f.name f.shape ≡ Ok code
+    told_plain = code_plain L.schema seen at code f.deprecated f.name f.shape (part_plain L f.shape part)
+
+    entry_is : entry_meant L seen f at code levels left
+        ≡ used_meant L f code (Some (meant L unknown t)) at levels left f.shape
+    entry_is =
+        entry_some L seen f at code levels left used t (meant L unknown t) found ∙ (rw (not_null t apart) refl)
+
+    pub reference_next : (a b : Taped) (before now : List OpenField) (rest : ℕ)
+        → IsNoted L (stored_shape L.schema f.shape) (meant L unknown t f.shape at levels left) a b rest
+        → now ≡ before ++ (reference_field k ∷ []) → NextIs a b before now rest
+    reference_next a b before now rest noted pushed = (
+      told_plain,
+      reference_noted L k f used _ a b before now rest (meant L unknown t f.shape at levels left) part
+          (λ d h. entry_is ∙ plain_given L f code (meant L unknown t) at levels left (part_plain L f.shape part) d rest
+          h) noted pushed,
+    )
+
+    pub reference_fails : (e : JsonFault) → Fails e (meant L unknown t f.shape at levels left)
+        → Fails e (code_after L.schema seen at code f.deprecated f.name f.shape
+        >>= λ c. entry_meant L seen f at c levels left)
+    reference_fails e fails =
+        fails_by e _ _ (λ h. rw told_plain (entry_is ∙ h))
+        (plain_refused L f code (meant L unknown t) at levels left (part_plain L f.shape part) e fails)

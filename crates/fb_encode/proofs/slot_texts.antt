@@ -1,0 +1,6 @@
+pub mod PiecesAreRead
+pub mod MembersAreInTheText
+pub mod NamedSlotIsFound
+pub mod OneMemberMore
+pub mod TextsAreAtTheirSlots
+pub mod NextMemberIsPut

@@ -1,0 +1,78 @@
+use Rattle.std.proofs.Common.{◌≡◌, ◌≤◌, ◌∙◌, ◌+◌, ◌-◌, ℕ, List, ap, sym, subst, arith, length, map, false, Option}
+use Rattle.std.proofs.Common.{IfSome, None, Some}
+use Rattle.std.proofs.Common.{option_copied, option_map}
+use Rattle.std.proofs.lemmas.List.{length-map, take_all}
+use Rattle.fb_schema.specs.Schema.{body_at, slots_in}
+use Rattle.fb_schema.specs.Seen.{field_seen}
+use Rattle.fb_pieces.specs.declared.cut.Member.{Member}
+use Rattle.fb_pieces.specs.CutTexts.{member_texts}
+use Rattle.fb_encode.specs.declared.reader.Excerpt.{Excerpt}
+use Rattle.fb_encode.specs.MembersRead.{AreNamesRead, AreValuesRead}
+use Rattle.fb_encode.specs.TextsRead.{IsRead}
+use Rattle.fb_encode.proofs.slot_texts.TextsAreAtTheirSlots.{none_put}
+use Rattle.fb_encode.proofs.slot_texts.MembersAreInTheText.{member_within}
+use Rattle.fb_encode.proofs.slot_texts.NextMemberIsPut.{next_in_brackets, next_put}
+use Rattle.fb_encode.proofs.slot_texts.texts_by_slot.Goals as goal
+
+abbrev none : Member
+none = record { name = record { start = 0; end = 0 }; value = record { start = 0; end = 0 }; is_last = false }
+
+pub loop-member-init : goal.loop-member-init
+loop-member-init c =
+    let S = c.args.source.layout.now.schema in
+    let t = c.args.owner.0 in
+    let long : length c.args.slots.now ≡ length (slots_in (body_at S t)) =
+    sym (length-map c.args.slots.now field_seen) ∙ ap length c.requires.slots in
+    rw c.in_ok-texts.ensures (none_put S t c.args.source.unknown _ (length c.args.slots.now) long)
+
+pub piece_of-name-requires-clause-within : goal.piece_of-name-requires-clause-within
+piece_of-name-requires-clause-within c =
+    (member_within c.args.excerpt.text.now (c.requires.cut.at + 1) c.requires.cut.end c.args.members.now
+    c.requires.cut.cut c.loop-member.member-index none c.loop-member-test.true).0
+
+pub piece_of-value-requires-clause-within : goal.piece_of-value-requires-clause-within
+piece_of-value-requires-clause-within c =
+    (member_within c.args.excerpt.text.now (c.requires.cut.at + 1) c.requires.cut.end c.args.members.now
+    c.requires.cut.cut c.loop-member.member-index none c.loop-member-test.true).1
+
+few : (o : Option Excerpt) (b : ℕ) → b ≤ 127 → IfSome o (λ e. e.brackets ≡ b - 1) → IfSome o (λ e. e.brackets ≤ 127)
+few None b low is = tt
+few (Some e) b low is = omega (arith, low, is)
+
+pub pass_by_text-requires : goal.pass_by_text-requires
+pass_by_text-requires c =
+    let S = c.args.source.layout.now.schema in
+    let t = c.args.owner.0 in
+    few c.put_text-over.result c.args.excerpt.brackets c.requires.brackets
+    (rw c.put_text-over.ensures.over (next_in_brackets S t c.schema-schema.ensures.made.declared c.args.source.unknown
+    (c.args.excerpt.brackets - 1) c.loop-member.texts.items c.loop-member.known c.args.excerpt.text.now
+    c.args.members.now c.loop-member.member-index none c.loop-member-test.true c.loop-member.invariant
+    c.piece_of-name.result c.piece_of-value.result c.piece_of-name.ensures.text c.piece_of-name.ensures.brackets
+    c.piece_of-value.ensures.text c.piece_of-value.ensures.brackets c.in_ok-field.ensures.name
+    (option_map field_seen (option_copied c.in_ok-field.field)) c.in_ok-field.ensures.field))
+
+pub loop-member-preserved : goal.loop-member-preserved
+loop-member-preserved c =
+    let S = c.args.source.layout.now.schema in
+    let t = c.args.owner.0 in
+    let over = subst (λ (o : Option Excerpt). IfSome o (λ e. IsRead e.brackets e.text.now))
+    c.put_text-over.ensures.over c.in_ok-pass_by_text.ensures in
+    rw (c.put_text-over.ensures.texts, c.known_with-known.ensures)
+    (next_put S t c.schema-schema.ensures.made.declared c.args.source.unknown
+    (c.args.excerpt.brackets - 1) c.loop-member.texts.items c.loop-member.known c.args.excerpt.text.now
+    c.args.members.now c.loop-member.member-index none c.loop-member-test.true c.loop-member.invariant
+    c.piece_of-name.result c.piece_of-value.result c.piece_of-name.ensures.text c.piece_of-name.ensures.brackets
+    c.piece_of-value.ensures.text c.piece_of-value.ensures.brackets c.in_ok-field.ensures.name
+    (option_map field_seen (option_copied c.in_ok-field.field)) c.in_ok-field.ensures.field over)
+
+pub returns-clause-names : goal.returns-clause-names
+returns-clause-names c =
+    let all = take_all c.loop-member.member-index c.args.members.now (omega (arith, c.loop-member-test.false)) in
+    subst (λ (ms : List Member). AreNamesRead (c.args.excerpt.brackets - 1)
+    (map (member_texts c.args.excerpt.text.now) ms)) all c.loop-member.invariant.names
+
+pub returns-clause-values : goal.returns-clause-values
+returns-clause-values c read =
+    let all = take_all c.loop-member.member-index c.args.members.now (omega (arith, c.loop-member-test.false)) in
+    subst (λ (ms : List Member). AreValuesRead (c.args.excerpt.brackets - 1)
+    (map (member_texts c.args.excerpt.text.now) ms)) all (c.loop-member.invariant.values read)

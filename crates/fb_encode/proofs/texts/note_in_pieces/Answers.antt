@@ -1,0 +1,31 @@
+use Rattle.std.proofs.Common.{◌∙◌, ap, subst}
+use Rattle.fb_schema.specs.Schema.{DeclaredSchema}
+use Rattle.fb_value.specs.Datum.{Datum}
+use Rattle.fb_json.specs.Outcome.{Counted, Fails}
+use Rattle.fb_encode.proofs.trees.RootIsNoted.{at_root, root_noted}
+use Rattle.fb_encode.proofs.texts.FirstFaultIsRefused.{text_refused}
+use Rattle.fb_encode.proofs.texts.note_in_pieces.Goals as goal
+
+pub returns-in-Ok-Ok-clause-noted : goal.returns-in-Ok-Ok-clause-noted
+returns-in-Ok-Ok-clause-noted c =
+    let L = c.args.source.layout.now in
+    let root = c.root-root.ensures ∙ ap (λ (s : DeclaredSchema). s.root) c.schema.ensures.schema in
+    let made = c.new.ensures in
+    let found = rw c.in-Ok-Ok.field-0-is at c.in-Ok-Ok.ensures.noted in (
+      found.0,
+      found.1,
+      root_noted L c.args.limits c.args.source.unknown found.0 c.root-root.result.0 c.most_depth-levels.result
+          c.most_cells-cells.result root c.most_depth-levels.ensures.exact c.most_cells-cells.ensures _ _ _ made.layout
+          made.waits made.room found.2 c.only_what_is_meant.ensures c.schema.ensures.made,
+    )
+
+pub returns-in-Ok-Err-clause-refused : goal.returns-in-Ok-Err-clause-refused
+returns-in-Ok-Err-clause-refused c =
+    let L = c.args.source.layout.now in
+    let root = c.root-root.ensures ∙ ap (λ (s : DeclaredSchema). s.root) c.schema.ensures.schema in
+    let found = rw c.in-Ok-Err.field-0-is at c.in-Ok-Err.ensures.noted in
+    let same = at_root L c.args.limits c.args.source.unknown found.0 c.root-root.result.0 c.most_depth-levels.result
+    c.most_cells-cells.result root c.most_depth-levels.ensures.exact c.most_cells-cells.ensures in
+    rw c.first_fault.ensures (text_refused L c.args.limits c.args.source.unknown c.args.json.now found.0 found.1
+    c.first_fault_refuses.ensures c.in-Ok-Err.fault
+    (subst (λ (r : Counted Datum). Fails c.in-Ok-Err.fault r) same found.2))

@@ -1,0 +1,4 @@
+pub mod RunsAreRead
+pub mod ElementsFollow
+pub mod RunsAreNoted
+pub mod VectorIsNoted

@@ -1,0 +1,89 @@
+-- What is read of a run of a vector's elements, and of all runs.
+use Rattle.std.proofs.Common.{◌≡◌, ◌∙◌, ◌+◌, ◌-◌, ◌≤◌, ◌<◌, ◌++◌, ◌∷◌, [], ℕ, zero, suc, List, Some, length}
+use Rattle.std.proofs.Common.{sym, ap, subst, get_or, arith, IsUtf8}
+use Rattle.std.proofs.lemmas.Option.{slice_get_within}
+use Rattle.simdutf8.proofs.StepsLemmas.{IsUtf8-after_ascii, IsUtf8-append_ascii, IsAscii-replicate}
+use Rattle.serde_json.specs.Data.{Data, array, Items, no_items, item}
+use Rattle.serde_json.specs.Read.{read}
+use Rattle.serde_json.specs.View.{items_view}
+use Rattle.serde_json.specs.declared.value.Value.{Value as Json}
+use Rattle.fb_pieces.specs.declared.cut.Run.{Run}
+use Rattle.fb_pieces.specs.ArrayOfElements.{ElementsMakeTheArray}
+use Rattle.fb_pieces.specs.ArrayOfRuns.{ReadsRun, ReadRuns}
+use Rattle.fb_pieces.specs.CutTexts.{AreRunsOf}
+use Rattle.fb_pieces.specs.InBrackets.{TextIsReadWithoutBrackets, in_arrays, in_brackets}
+use Rattle.fb_pieces.specs.ReadByPieces.{IsCutIntoRuns}
+use Rattle.fb_pieces.specs.Reads.{read_at}
+use Rattle.fb_pieces.specs.Texts.{array_text}
+use Rattle.fb_encode.proofs.reader.TextInBrackets.{brackets_more, read_without}
+use Rattle.fb_encode.specs.TextsRead.{IsReadAs, IsRunReadAs}
+
+-- the text between two brackets
+pub utf8_between : (e : List ℕ) → IsUtf8 e → IsUtf8 (array_text e [])
+utf8_between e utf8 =
+    let before = (IsUtf8-append_ascii e (93 ∷ []) (IsAscii-replicate 1 93 (omega arith))).1 utf8 in
+    (IsUtf8-after_ascii (91 ∷ []) (e ++ (93 ∷ [])) (IsAscii-replicate 1 91 (omega arith))).1 before
+
+pub utf8_of_run : (brackets : ℕ) (e : List ℕ) (ds : Items) → IsRunReadAs brackets e ds → IsUtf8 e
+utf8_of_run brackets e no_items h = absurd h
+utf8_of_run brackets e (item d ds) h =
+    let behind = (IsUtf8-after_ascii (91 ∷ []) (e ++ (93 ∷ [])) (IsAscii-replicate 1 91 (omega arith))).0 h.utf8 in
+    (IsUtf8-append_ascii e (93 ∷ []) (IsAscii-replicate 1 93 (omega arith))).0 behind
+
+-- an element that is read alone is a run
+pub run_of_element : ElementsMakeTheArray → (brackets : ℕ) (e : List ℕ) (t : Data) → 0 < brackets
+    → IsReadAs (brackets - 1) e t → IsRunReadAs brackets e (item t no_items)
+run_of_element law brackets e t some h =
+    let same : suc (brackets - 1) ≡ brackets = omega arith in
+    record {
+      utf8 = utf8_between e h.utf8;
+      read = subst (λ (n : ℕ). read_at n (array_text e []) ≡ Some (array (item t no_items))) same
+          (law (brackets - 1) e [] (item t no_items) (h.read, tt));
+    }
+
+-- a run whose elements are read at once
+pub run_of_trees : TextIsReadWithoutBrackets → (brackets : ℕ) (e : List ℕ) (trees : List Json) → brackets ≤ 127
+    → IsUtf8 e → read (in_brackets ((127 - brackets) + 1) e) ≡ Some (in_arrays (127 - brackets)
+    (array (items_view trees))) → 0 < length trees → IsRunReadAs brackets e (items_view trees)
+run_of_trees law brackets e [] low utf8 is some = absurd (omega (arith, some))
+run_of_trees law brackets e (v ∷ vs) low utf8 is some =
+    let n = 127 - brackets in
+    record {
+      utf8 = utf8_between e utf8;
+      read = read_without law brackets (array_text e []) (array (items_view (v ∷ vs))) low
+          (ap read (sym (brackets_more n e)) ∙ is);
+    }
+
+-- as the law of an array's runs has it
+pub reads_run : (brackets : ℕ) (e : List ℕ) (ds : Items) → 0 < brackets → IsRunReadAs brackets e ds
+    → ReadsRun (brackets - 1) e ds
+reads_run brackets e no_items some h = absurd h
+reads_run brackets e (item d ds) some h =
+    let same : brackets ≡ suc (brackets - 1) = omega arith in
+    record {
+      some = λ none. (let bad : item d ds ≡ no_items = none in cc);
+      read = subst (λ (n : ℕ). read_at n (array_text e []) ≡ Some (array (item d ds))) same h.read;
+    }
+
+-- one run more
+pub runs_more : (levels : ℕ) (es : List (List ℕ)) (rs : List Items) (e : List ℕ) (r : Items) → ReadRuns levels es rs
+    → ReadsRun levels e r → ReadRuns levels (es ++ (e ∷ [])) (rs ++ (r ∷ []))
+runs_more levels [] [] e r before more = (more, tt)
+runs_more levels [] (s ∷ rs) e r before more = absurd before
+runs_more levels (f ∷ es) [] e r before more = absurd before
+runs_more levels (f ∷ es) (s ∷ rs) e r before more = (before.0, runs_more levels es rs e r before.1 more)
+
+-- each run lies within the text
+runs_within : (text : List ℕ) (from end : ℕ) (runs : List Run) → AreRunsOf text from end runs → (i : ℕ) (d : Run)
+    → i < length runs → let run = get_or runs i d in
+    (run.elements.start ≤ run.elements.end) × (run.elements.end ≤ length text)
+runs_within text from end [] are i d low = absurd (omega (arith, low))
+runs_within text from end (run ∷ runs) are zero d low =
+    let within = slice_get_within text run.elements.end _ are.0.before in
+    (omega (arith, are.0.starts, are.0.ends), omega (arith, within))
+runs_within text from end (run ∷ runs) are (suc i) d low =
+    runs_within text (run.elements.end + 1) end runs are.2 i d (omega (arith, low))
+
+pub run_within : (text : List ℕ) (runs : List Run) → IsCutIntoRuns text runs → (i : ℕ) (d : Run) → i < length runs
+    → let run = get_or runs i d in (run.elements.start ≤ run.elements.end) × (run.elements.end ≤ length text)
+run_within text runs cut i d low = runs_within text (cut.at + 1) cut.end runs cut.cut i d low

@@ -1,0 +1,145 @@
+-- A vector whose runs are read and noted is read and noted.
+use Rattle.std.proofs.Common.{◌≡◌, ◌∙◌, ◌+◌, ◌-◌, ◌≤◌, ◌<◌, ◌++◌, ◌∷◌, [], ℕ, suc, Bool, List, Some, Result, Ok, Err}
+use Rattle.std.proofs.Common.{length, false, map, take, refl, sym, ap, subst, arith, IsUtf8}
+use Rattle.std.proofs.lemmas.List.{take_all}
+use Rattle.std.specs.List.{All}
+use Rattle.serde_json.specs.Data.{array, Items}
+use Rattle.fb_schema.specs.declared.kinds.Kind.{Kind}
+use Rattle.fb_schema.specs.declared.kinds.Shape.TheVariants.{Many}
+use Rattle.fb_layout.specs.Laid.{LaidSchema, one_of, stored_kind, vector_of}
+use Rattle.fb_value.specs.Datum.{Datum, a_vector}
+use Rattle.fb_value.specs.Room.{vector_room}
+use Rattle.fb_value.specs.View.{parts_in}
+use Rattle.fb_value.specs.UpTo.{at_most_usize}
+use Rattle.fb_value.specs.Places.{vector_part}
+use Rattle.fb_tape.specs.NamedParts.{NamedPart, elements_apart}
+use Rattle.fb_tape.specs.Tapes.{Taped, Waits}
+use Rattle.fb_json.specs.declared.faults.JsonFault.{JsonFault}
+use Rattle.fb_json.specs.declared.faults.Place.{Place}
+use Rattle.fb_json.specs.Meant.{count, items_meant, meant, vector_meant}
+use Rattle.fb_json.specs.Outcome.{◌>>=◌, Counted, Fails, spent}
+use Rattle.fb_build.specs.Fields.{IsElement, is_reference}
+use Rattle.fb_build.specs.Items.{ItemsKnown}
+use Rattle.fb_build.proofs.noted.OneMoreFits.{counted, elements_fit}
+use Rattle.fb_build.proofs.noted.PartsFollow.{elements_known}
+use Rattle.fb_pieces.specs.declared.cut.Run.{Run}
+use Rattle.fb_pieces.specs.ArrayOfRuns.{ReadRuns, joined}
+use Rattle.fb_pieces.specs.CutTexts.{run_text}
+use Rattle.fb_pieces.specs.CutTextsAreUtf8.{CutArrayIsUtf8}
+use Rattle.fb_pieces.specs.ReadByPieces.{CutArrayIsRead, IsCutIntoRuns}
+use Rattle.fb_pieces.specs.Reads.{read_at}
+use Rattle.fb_encode.proofs.elements.InlineVectorIsNoted.{Begins, Closes, inline_vector_noted}
+use Rattle.fb_encode.proofs.parts.ArrayIsNoted.{bound, vector_refused}
+use Rattle.fb_encode.proofs.vectors.ElementsFollow.{given_of}
+use Rattle.fb_encode.proofs.vectors.RunsAreNoted.{AreRunsNoted}
+use Rattle.fb_encode.specs.TextsRead.{IsNotedOr, IsReadAs}
+use Rattle.fb_encode.specs.TreesNoted.{AddsInline, AddsTargets, AreElementsAdded, IsNoted, vector_given}
+
+all_bound : (s : Result ℕ JsonFault) (items : ℕ → Counted (List Datum))
+    → (s >>= λ left. items left >>= λ xs. Ok (a_vector (parts_in xs.0), xs.1))
+    ≡ vector_given (s >>= λ left. items left)
+all_bound (Err e) items = refl
+all_bound (Ok n) items = bound (items n)
+
+read_of : (brackets : ℕ) (text : List ℕ) (runs : List Run) (rs : List Items) → CutArrayIsRead → CutArrayIsUtf8
+    → IsCutIntoRuns text runs → 0 < brackets → 0 < count (joined rs)
+    → ReadRuns (brackets - 1) (map (run_text text) runs) rs → All IsUtf8 (map (run_text text) runs)
+    → IsReadAs brackets text (array (joined rs))
+read_of brackets text [] [] law utf8_law cut some elements read utf8 = absurd (omega (arith, elements))
+read_of brackets text [] (r ∷ rs) law utf8_law cut some elements read utf8 = absurd read
+read_of brackets text (run ∷ runs) rs law utf8_law cut some elements read utf8 =
+    let same : suc (brackets - 1) ≡ brackets = omega arith in
+    record {
+      utf8 = utf8_law text run runs cut utf8;
+      read = subst (λ (n : ℕ). read_at n text ≡ Some (array (joined rs))) same
+          (law (brackets - 1) text run runs rs cut read);
+    }
+
+-- under a layout, a vector of so many references waits in the place of what its elements name
+abbrev pub Refers : Kind → ℕ → Taped → Taped → LaidSchema → Type 0
+Refers kind total b c L = (others : List NamedPart) (ds : List Datum) → total ≡ length ds
+    → ItemsKnown L (stored_kind L.schema kind) ds
+    → Waits b (others ++ elements_apart (stored_kind L.schema kind) ds) → Waits c (others ++ (record {
+      target = vector_part (stored_kind L.schema kind);
+      value = a_vector (parts_in ds);
+    } ∷ []))
+
+-- what an array gives
+module _ (L : LaidSchema) (unknown : Bool) (kind : Kind) (at : Place) (levels left total : ℕ) where
+  array_meant : (ds : Items) → total ≡ count ds → meant L unknown (array ds) (Many kind) at levels left
+      ≡ vector_given (given_of L unknown kind at levels ds (spent (1 + total) at left))
+  unfolding vector_meant
+  array_meant ds is =
+      all_bound (spent (1 + count ds) at left) (λ n. items_meant L unknown ds kind at levels n)
+      ∙ ap (λ (n : ℕ). vector_given (given_of L unknown kind at levels ds (spent (1 + n) at left))) (sym is)
+
+module _ (L : LaidSchema) (AddsAll : Taped → Taped → List Datum → Type 0) (unknown : Bool) (kind : Kind) (at : Place)
+    (levels left brackets : ℕ) (text : List ℕ) (total : ℕ) (runs : List Run) (a b : Taped) where
+  abbrev pub Noted : Result ℕ JsonFault → Type 0
+  Noted found =
+      AreRunsNoted L AddsAll unknown kind at levels (spent (1 + total) at left) brackets text runs a b found total
+
+  -- the loop over the runs is at its end
+  pub all_noted : (i : ℕ) (found : Result ℕ JsonFault) (so_far : ℕ) → length runs ≤ i → so_far ≡ total
+      → AreRunsNoted L AddsAll unknown kind at levels (spent (1 + total) at left) brackets text (take i runs) a b
+      found so_far
+      → Noted found
+  all_noted i found so_far past is h =
+      let all : take i runs ≡ runs = take_all i runs past in
+      rw all at (rw is at h)
+
+  pub runs_read : (found : Result ℕ JsonFault) → CutArrayIsRead → CutArrayIsUtf8 → IsCutIntoRuns text runs
+      → 0 < brackets → 0 < total → (h : Noted found) → IsReadAs brackets text (array (joined h.items))
+  runs_read found law utf8_law cut some elements h =
+      read_of brackets text runs h.items law utf8_law cut some (omega (arith, elements, h.count_is)) h.read h.utf8
+
+  pub vector_fails : (c d : Taped) (f : JsonFault) (found : Result ℕ JsonFault) → found ≡ Err f → (h : Noted found)
+      → IsNotedOr L (vector_of (stored_kind L.schema kind))
+      (meant L unknown (array (joined h.items)) (Many kind) at levels left) c d found
+  vector_fails c d f (Ok n) is h = cc
+  vector_fails c d f (Err g) is h =
+      subst (λ (r : Counted Datum). Fails g r)
+      (sym (array_meant L unknown kind at levels left total (joined h.items) h.count_is))
+      (vector_refused (given_of L unknown kind at levels (joined h.items) (spent (1 + total) at left)) g h.noted)
+
+module _ (L : LaidSchema) (unknown : Bool) (kind : Kind) (at : Place) (levels left brackets : ℕ) (text : List ℕ)
+    (total : ℕ) (runs : List Run) (a b : Taped) (c : Taped) (rest : ℕ)
+    (element : IsElement L (stored_kind L.schema kind)) where
+  pub vector_noted : Refers kind total b c L
+      → c.room ≡ at_most_usize (b.room + vector_room L (stored_kind L.schema kind) total) → c.layout ≡ b.layout
+      → c.unfinished ≡ [] → (h : Noted L (AddsTargets L (stored_kind L.schema kind)) unknown kind at levels left
+      brackets text total runs a b (Ok rest)) → IsNoted L (vector_of (stored_kind L.schema kind))
+      (meant L unknown (array (joined h.items)) (Many kind) at levels left) a c rest
+  vector_noted pushed room layout whole h =
+      let k = stored_kind L.schema kind in
+      let ds = h.noted.elements in
+      let fit = elements_fit L k ds h.noted.fits in
+      let long : total ≡ length ds = omega (arith, h.count_is, h.noted.count_is) in
+      record {
+        value = a_vector (parts_in ds);
+        given_is = array_meant L unknown kind at levels left total (joined h.items) h.count_is
+            ∙ ap vector_given h.noted.given_is;
+        fits = fit.0;
+        whole = fit.1;
+        adds = record {
+          waits = λ others w. pushed others ds long (elements_known L k ds element h.noted.fits)
+              (h.noted.adds.waits others w);
+          sum = omega (arith, h.noted.adds.sum, room, ap (vector_room L k) (counted ds ∙ sym long));
+          layout = layout ∙ h.noted.adds.layout;
+          whole = whole;
+        };
+      }
+
+  -- a vector of numbers or structs, which was begun on the tape a before
+  pub inline_noted : (before : Taped) → is_reference (one_of (stored_kind L.schema kind)) ≡ false
+      → Begins kind total before a L → Closes kind total b c L
+      → (h : Noted L (AddsInline L (stored_kind L.schema kind)) unknown kind at levels left brackets text total runs a b
+      (Ok rest)) → IsNoted L (vector_of (stored_kind L.schema kind))
+      (meant L unknown (array (joined h.items)) (Many kind) at levels left) before c rest
+  inline_noted before inline begins closes h =
+      let k = stored_kind L.schema kind in
+      let given = given_of L unknown kind at levels (joined h.items) (spent (1 + total) at left) in
+      let noted = subst (λ (n : ℕ). AreElementsAdded L k (AddsInline L k) given n a b rest) (sym h.count_is) h.noted in
+      subst (λ (r : Counted Datum). IsNoted L (vector_of k) r before c rest)
+      (sym (array_meant L unknown kind at levels left total (joined h.items) h.count_is))
+      (inline_vector_noted L kind given total before a b c rest element inline begins noted closes)

@@ -1,0 +1,40 @@
+-- What bytes a JSON text gives.
+-- From the FlatBuffers documentation, "JSON parsing": the JSON is read whole before a schema gives it a meaning.
+use Rattle.std.specs.Prelude.{ℕ, List, Bool, ⊤}
+use Rattle.serde_json.specs.Data.{Data}
+use Rattle.fb_layout.specs.Laid.{LaidSchema}
+use Rattle.fb_value.specs.Bounds.{Bounds}
+use Rattle.fb_value.specs.Num.{Bytes}
+use Rattle.fb_tape.specs.Tapes.{Taped}
+use Rattle.fb_json.specs.declared.faults.JsonFault.{JsonFault}
+use Rattle.fb_json.specs.declared.faults.JsonFault.TheVariants as the_json
+use Rattle.fb_encode.specs.Encoded.{EncodeRefused, IsEncoded}
+use Rattle.fb_encode.specs.RootsNoted.{IsRootNoted}
+use Rattle.fb_encode.specs.TextsRead.{IsRead, IsReadAs}
+use Rattle.fb_encode.specs.declared.faults.EncodeFault.TheVariants.{Json}
+use Rattle.fb_encode.specs.declared.faults.TextFault.{TextFault}
+use Rattle.fb_encode.specs.declared.faults.TextFault.TheVariants.{BadJson, Encode}
+use Rattle.fb_encode.specs.declared.faults.TextFault.TheVariants as the_text
+
+-- the text is JSON, of this tree
+abbrev pub IsJsonOf : List ℕ → Data → Type 0
+IsJsonOf json t = IsReadAs 127 json t
+
+-- The bytes are a buffer of the tree that the text is read as.
+abbrev pub IsTextEncoded : LaidSchema → Bounds → Bool → List ℕ → Bytes → Type 0
+IsTextEncoded L most unknown json b = (t : Data) × IsJsonOf json t × IsEncoded L most unknown t b
+
+-- The text isn't JSON; or its tree is refused; or memory ran out while it was read.
+abbrev pub TextRefused : LaidSchema → Bounds → Bool → List ℕ → TextFault → Type 0
+TextRefused L most unknown json BadJson = ¬ IsRead 127 json
+TextRefused L most unknown json the_text.Memory = ⊤
+TextRefused L most unknown json (Encode f) = (t : Data) × IsJsonOf json t × EncodeRefused L most unknown t f
+
+-- The value that the text means is noted on the tape, as the root's.
+abbrev pub IsTextNoted : LaidSchema → Bounds → Bool → List ℕ → Taped → Type 0
+IsTextNoted L most unknown json tape = (t : Data) × IsJsonOf json t × IsRootNoted L most unknown t tape
+
+-- The first fault of a text that is read piece by piece, where nobody knows yet whether the root is an object.
+abbrev pub first_fault : JsonFault → TextFault
+first_fault the_json.Memory = the_text.Memory
+first_fault f = Encode (Json f)

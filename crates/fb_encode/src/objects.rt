@@ -1,0 +1,272 @@
+//! Tables of an excerpt that is long: their members are read one by one.
+ghost use Rattle.std.specs.Prelude.{◌≡◌, ◌≢◌, ◌≤◌, ◌<◌, ◌-◌, ◌||◌, [], ℕ, Bool, Err, IfErr, IfOk, IfSome, None, Ok};
+ghost use Rattle.std.specs.Prelude.{OnOk};
+ghost use Rattle.std.specs.Prelude.{Some, false, length, true};
+ghost use Rattle.serde_json.specs.Data.{Data, Members, null};
+ghost use Rattle.fb_schema.specs.declared.kinds.Kind.TheVariants.{Table};
+ghost use Rattle.fb_schema.specs.declared.kinds.Shape.TheVariants.{One};
+ghost use Rattle.fb_schema.specs.Schema.{body_at};
+ghost use Rattle.fb_schema.specs.Seen.{field_seen};
+ghost use Rattle.fb_schema.specs.WellDeclared.{MarksFit};
+ghost use Rattle.fb_layout.specs.Laid.{LaidSchema, one_of, table_kind, stored_shape};
+ghost use Rattle.fb_layout.specs.Seen.{slot_seen};
+ghost use Rattle.fb_json.specs.Meant.{Look, if_known, meant, names_known, table_meant, type_place};
+ghost use Rattle.fb_json.specs.SlotMembers.{looked_up};
+ghost use Rattle.fb_pieces.specs.Reads.{read_at};
+ghost use Rattle.fb_pieces.specs.ReadByPieces.{IsCutIntoMembers};
+ghost use Rattle.fb_encode.specs.declared.entries.Stored.TheVariants.{Reference};
+ghost use Rattle.fb_encode.specs.SlotTexts.{IsNextNoted, IsSlotNotedOr, text_found};
+ghost use Rattle.fb_encode.specs.StoredAs.{IsStoredAs};
+ghost use Rattle.fb_encode.specs.TextsRead.{IsNotedOr, IsRead, IsReadAs};
+ghost use Rattle.fb_encode.specs.TreesNoted.{IsPart, IsSlot};
+
+use crate::entries::{SlotRead, note_slot};
+use crate::excerpts::{TextWalk, note_at_once, note_excerpt};
+use crate::reader::{Excerpt, MOST_BRACKETS, Unread, innermost};
+use crate::slot_texts::{SlotTexts, pass_by_text, texts_by_slot};
+use fb_json::{JsonFault, Place, Source, code_of_slot, is_absent};
+use fb_pieces::{
+    Member, cut_object, cut_object_is_read, cut_object_is_utf8, leading_blanks,
+    text_is_read_without_brackets,
+};
+use fb_schema::{Kind, Shape, TypeId};
+use serde_json::Value as Json;
+use std::alloc::{AllocError, Global};
+
+/// What is left behind a slot: the union code that was told last, and the cells.
+#[derive(Clone, Copy)]
+struct Behind {
+    code: u8,
+    left: u32,
+}
+
+/// The members of an object's text, if it can be cut and has some.
+fn members_of(alloc: Global, text: &[u8]) -> Result<Option<Vec<Member>>, AllocError>
+    ensures cut { IfOk result (λ cut. IfSome cut (λ members. IsCutIntoMembers text.now members.items)) }
+    ensures some { IfOk result (λ cut. IfSome cut (λ members. 0 < length members.items)) }
+{
+    let Some(members) = cut_object(alloc, text)? else {
+        return Ok(None);
+    };
+    if members.is_empty() {
+        return Ok(None);
+    }
+    Ok(Some(members))
+}
+
+/// What is left before the first slot of a table.
+fn before_slots(
+    known: Result<(), JsonFault>,
+    place: Place,
+    levels: u8,
+    left: u32,
+) -> Result<Behind, JsonFault>
+    ensures levels { OnOk result (0 < levels) }
+    ensures cells { OnOk result (0 < left) }
+    ensures known { OnOk result (known ≡ Ok tt) }
+    ensures rest { IfOk result (λ first. first.left ≡ left - 1) }
+    ensures code { IfOk result (λ first. first.code ≡ 0) }
+    ensures refused { (L : LaidSchema) (unknown : Bool) (ms : Members) (seen : Look) (t : ℕ)
+        → known ≡ if_known (unknown || names_known (body_at L.schema t) ms) (type_place t)
+        → IfErr result (λ f. table_meant L unknown ms seen t place levels left ≡ Err f) }
+{
+    if levels == 0 {
+        return Err(JsonFault::TooDeep(place));
+    }
+    if left == 0 {
+        return Err(JsonFault::TooManyCells(place));
+    }
+    known?;
+    Ok(Behind {
+        code: 0,
+        left: left - 1,
+    })
+}
+
+/// Notes a table, and returns the cells that are left, or the first fault of the excerpt.
+#[cycle(reads)]
+pub(crate) fn note_members(
+    source: Source,
+    walk: &mut TextWalk<'_>,
+    excerpt: Excerpt<'_>,
+    owner: TypeId,
+    place: Place,
+    levels: u8,
+    left: u32,
+) -> Result<Result<u32, JsonFault>, Unread>
+    requires layout { walk.old.noting.tape.layout ≡ source.layout.now }
+    requires whole { walk.old.noting.tape.unfinished ≡ [] }
+    requires part { IsPart source.layout.now (stored_shape source.layout.now.schema (One (Table owner))) }
+    requires some { 0 < excerpt.brackets }
+    requires brackets { excerpt.brackets ≤ 127 }
+    ensures noted { let L = source.entry.layout.now in IfOk result (λ found. (t : Data)
+        × IsReadAs excerpt.entry.brackets excerpt.entry.text.now t
+        × IsNotedOr L (one_of (table_kind owner.0))
+        (meant L source.entry.unknown t (One (Table owner)) place levels left)
+        walk.old.noting.tape walk.new.noting.tape found) }
+    ensures opened { IfOk result (λ found. OnOk found (walk.new.noting.opened ≡ walk.old.noting.opened)) }
+{
+    let Some(members) = members_of(source.alloc, excerpt.text)? else {
+        let shape = Shape::One(Kind::Table(owner));
+        return note_at_once(source, walk, excerpt, shape, place, levels, left);
+    };
+    let _schema = source.layout.schema(); // its contract: the layout is well made
+    let slots = source.layout.slots_of(owner);
+    let SlotTexts { texts, known } = texts_by_slot(
+        source,
+        &mut walk.reader,
+        excerpt,
+        owner,
+        slots,
+        members.as_slice(),
+    )?;
+    cut_object_is_read();
+    cut_object_is_utf8();
+    let first = walk.noting.opened.len();
+    let mut found = before_slots(known, place, levels, left);
+    for (k, field) in slots.iter().enumerate() {
+        let slot = SlotRead {
+            owner,
+            number: k as u16,
+            field,
+            code: 0,
+        };
+        found = note_next(source, walk, slot, texts[k], found, levels)?;
+    }
+    let behind = match found {
+        Ok(behind) => behind,
+        Err(fault) => return Ok(Err(fault)),
+    };
+    let noting = &mut walk.noting;
+    noting.tape.close_table(owner, &noting.opened, first)?;
+    noting.opened.truncate(first);
+    Ok(Ok(behind.left))
+}
+
+/// Notes the next slot of a table behind what was found before: what is found now. Behind a fault its text is only
+/// read.
+#[cycle(reads)]
+fn note_next(
+    source: Source,
+    walk: &mut TextWalk<'_>,
+    slot: SlotRead<'_>,
+    text: Option<Excerpt<'_>>,
+    found: Result<Behind, JsonFault>,
+    levels: u8,
+) -> Result<Result<Behind, JsonFault>, Unread>
+    requires layout { OnOk found (walk.old.noting.tape.layout ≡ source.layout.now) }
+    requires whole { OnOk found (walk.old.noting.tape.unfinished ≡ []) }
+    requires levels { OnOk found (0 < levels) }
+    requires slot { IsSlot source.layout.now slot.owner.0 slot.number (slot_seen source.layout.now slot.field.now) }
+    requires marks { MarksFit source.layout.now.schema (field_seen slot.field.now) slot.field.now.shape }
+    requires brackets { IfSome text (λ e. e.brackets ≤ 127) }
+    requires old { slot.field.now.deprecated ≡ true → text ≡ None }
+    ensures read { OnOk result (IfSome text.entry (λ e. IsRead e.brackets e.text.now)) }
+    ensures noted { let L = source.entry.layout.now in (seen : Look) → (slot.entry.field.now.deprecated ≡ false
+        → seen (field_seen slot.entry.field.now).name ≡ text_found L source.entry.unknown text.entry)
+        → IfOk result (IsNextNoted L seen slot.entry (levels - 1) found walk.old.noting walk.new.noting) }
+{
+    let _schema = source.layout.schema(); // its contract: the layout is well made
+    let behind = match found {
+        Ok(behind) => behind,
+        Err(fault) => {
+            pass_by_text(&mut walk.reader, text)?;
+            return Ok(Err(fault));
+        }
+    };
+    let Some(text) = text else {
+        if slot.field.deprecated || is_absent(slot.field, None) {
+            return Ok(Ok(behind));
+        }
+        return note_tree(source, walk, slot, None, behind, levels);
+    };
+    if walk.reader.is_long(text) && is_in_pieces(slot.field.shape) && is_bracketed(text.text) {
+        return note_reference(source, walk, slot, text, behind, levels);
+    }
+    text_is_read_without_brackets();
+    let read = walk.reader.read(text)?;
+    let tree = innermost(&read, MOST_BRACKETS - text.brackets)?;
+    note_tree(source, walk, slot, Some(tree), behind, levels)
+}
+
+/// Whether what a slot of this shape names may be read in pieces.
+fn is_in_pieces(shape: Shape) -> bool
+    ensures { result ≡ true → IsStoredAs shape Reference }
+{
+    matches!(shape, Shape::Many(_) | Shape::One(Kind::Table(_)))
+}
+
+/// Whether a text begins with a bracket or brace, behind blanks.
+fn is_bracketed(text: &[u8]) -> bool
+    ensures { result ≡ true → (brackets : ℕ) → read_at brackets text.now ≢ Some null }
+{
+    let at = leading_blanks(text);
+    at < text.len() && (text[at] == b'[' || text[at] == b'{')
+}
+
+/// Notes a slot whose member is a tree, or which has none.
+fn note_tree(
+    source: Source,
+    walk: &mut TextWalk<'_>,
+    slot: SlotRead<'_>,
+    tree: Option<&Json>,
+    behind: Behind,
+    levels: u8,
+) -> Result<Result<Behind, JsonFault>, Unread>
+    requires layout { walk.old.noting.tape.layout ≡ source.layout.now }
+    requires whole { walk.old.noting.tape.unfinished ≡ [] }
+    requires levels { 0 < levels }
+    requires slot { IsSlot source.layout.now slot.owner.0 slot.number (slot_seen source.layout.now slot.field.now) }
+    requires marks { MarksFit source.layout.now.schema (field_seen slot.field.now) slot.field.now.shape }
+    ensures noted { let L = source.entry.layout.now in (seen : Look) → seen (field_seen slot.entry.field.now).name
+        ≡ looked_up L source.entry.unknown tree.entry
+        → IfOk result (IsSlotNotedOr L seen slot.entry (levels - 1) behind walk.old.noting walk.new.noting) }
+{
+    let place = slot.place();
+    let code = match code_of_slot(source, slot.field, tree, place, behind.code) {
+        Ok(code) => code,
+        Err(fault) => return Ok(Err(fault)),
+    };
+    let slot = SlotRead { code, ..slot };
+    let noting = &mut walk.noting;
+    match note_slot(source, noting, slot, tree, levels - 1, behind.left) {
+        Ok(left) => Ok(Ok(Behind { code, left })),
+        Err(JsonFault::Memory) => Err(Unread::Memory),
+        Err(fault) => Ok(Err(fault)),
+    }
+}
+
+/// Notes a slot whose member is long, and is read in pieces.
+#[cycle(reads)]
+fn note_reference(
+    source: Source,
+    walk: &mut TextWalk<'_>,
+    slot: SlotRead<'_>,
+    text: Excerpt<'_>,
+    behind: Behind,
+    levels: u8,
+) -> Result<Result<Behind, JsonFault>, Unread>
+    requires layout { walk.old.noting.tape.layout ≡ source.layout.now }
+    requires whole { walk.old.noting.tape.unfinished ≡ [] }
+    requires levels { 0 < levels }
+    requires used { slot.field.now.deprecated ≡ false }
+    requires part { IsPart source.layout.now (stored_shape source.layout.now.schema slot.field.now.shape) }
+    requires brackets { text.brackets ≤ 127 }
+    requires bracketed { (brackets : ℕ) → read_at brackets text.text.now ≢ Some null }
+    ensures read { OnOk result (IsRead text.entry.brackets text.entry.text.now) }
+    ensures noted { let L = source.entry.layout.now in (seen : Look) → seen (field_seen slot.entry.field.now).name
+        ≡ text_found L source.entry.unknown (Some text.entry)
+        → IfOk result (IsSlotNotedOr L seen slot.entry (levels - 1) behind walk.old.noting walk.new.noting) }
+{
+    let (place, shape) = (slot.place(), slot.field.shape);
+    match note_excerpt(source, walk, text, shape, place, levels - 1, behind.left)? {
+        Ok(left) => {
+            walk.noting.opened.push_reference(slot.number)?;
+            Ok(Ok(Behind {
+                code: behind.code,
+                left,
+            }))
+        }
+        Err(fault) => Ok(Err(fault)),
+    }
+}

@@ -1,0 +1,149 @@
+//! What reads a JSON text piece by piece.
+ghost use Rattle.std.specs.Prelude.{◌≡◌, ◌-◌, ◌≤◌, ◌<◌, IfOk, OnOk, IsUtf8, Some, length, true};
+ghost use Rattle.serde_json.specs.Data.{array};
+ghost use Rattle.serde_json.specs.Read.{read};
+ghost use Rattle.serde_json.specs.View.{items_view, view as tree_view};
+ghost use Rattle.fb_pieces.specs.InBrackets.{in_arrays, in_brackets};
+ghost use Rattle.fb_encode.specs.TextsRead.{IsRead};
+
+use fb_pieces::text_is_read_without_brackets;
+use serde_json::Value as Json;
+use std::alloc::{AllocError, Global};
+
+/// The brackets that may be open at once in a JSON text.
+pub(crate) const MOST_BRACKETS: u8 = 127;
+
+/// Why a text wasn't read piece by piece.
+#[derive(Clone, Copy)]
+pub(crate) enum Unread {
+    /// A piece can't be read on its own: whether the text can be read is seen by reading it at once.
+    Piece,
+    /// Memory ran out.
+    Memory,
+}
+
+impl From<AllocError> for Unread {
+    fn from(_error: AllocError) -> Unread {
+        Unread::Memory
+    }
+}
+
+/// A text within a JSON text, in which so many brackets may be open at once.
+#[derive(Clone, Copy)]
+pub(crate) struct Excerpt<'t> {
+    pub(crate) text: &'t [u8],
+    pub(crate) brackets: u8,
+}
+
+/// Reads excerpts in brackets of their own, as many as are open around each in the whole text: so each may nest as deep
+/// as it may there.
+#[derive(Drop)]
+pub(crate) struct Reader {
+    alloc: Global,
+    bracketed: Vec<u8>,
+    /// The most bytes of an excerpt that is read at once.
+    most: usize,
+}
+
+impl Reader {
+    pub(crate) fn new(alloc: Global, most: usize) -> Reader {
+        Reader {
+            alloc,
+            bracketed: Vec::new(alloc),
+            most,
+        }
+    }
+
+    /// The most bytes of an excerpt that is read at once, where it can be cut.
+    pub(crate) fn most(&self) -> usize {
+        self.most
+    }
+
+    /// Whether an excerpt is cut, if it can be.
+    pub(crate) fn is_long(&self, excerpt: Excerpt<'_>) -> bool
+        ensures { result ≡ true → 0 < excerpt.entry.brackets }
+    {
+        excerpt.text.len() > self.most && excerpt.brackets > 0
+    }
+
+    /// Puts a text into so many brackets.
+    fn put_in_brackets(&mut self, text: &[u8], brackets: u8) -> Result<(), AllocError>
+        ensures { OnOk result (self.new.bracketed.items ≡ in_brackets brackets text.now) }
+    {
+        self.bracketed.clear();
+        for _ in 0..brackets {
+            self.bracketed.push(b'[')?;
+        }
+        self.bracketed.extend_from_slice(text)?;
+        for _ in 0..brackets {
+            self.bracketed.push(b']')?;
+        }
+        Ok(())
+    }
+
+    /// The tree of a text in so many brackets.
+    pub(crate) fn read_in_brackets(&mut self, text: &[u8], brackets: u8) -> Result<Json, Unread>
+        ensures utf8 { OnOk result (IsUtf8 text.now) }
+        ensures tree { IfOk result (λ tree. read (in_brackets brackets text.now) ≡ Some (tree_view tree)) }
+    {
+        self.put_in_brackets(text, brackets)?;
+        match Json::from_slice(self.alloc, self.bracketed.as_slice()) {
+            Ok(tree) => Ok(tree),
+            Err(error) if error.is_memory() => Err(Unread::Memory),
+            Err(_) => Err(Unread::Piece),
+        }
+    }
+
+    /// The tree of an excerpt, in the brackets in which it is read.
+    pub(crate) fn read(&mut self, excerpt: Excerpt<'_>) -> Result<Json, Unread>
+        requires { excerpt.brackets ≤ 127 }
+        ensures utf8 { OnOk result (IsUtf8 excerpt.entry.text.now) }
+        ensures tree { IfOk result (λ tree.
+            read (in_brackets (127 - excerpt.entry.brackets) excerpt.entry.text.now) ≡ Some (tree_view tree)) }
+    {
+        self.read_in_brackets(excerpt.text, MOST_BRACKETS - excerpt.brackets)
+    }
+
+    /// Reads an excerpt, and drops what was read.
+    pub(crate) fn pass_by(&mut self, excerpt: Excerpt<'_>) -> Result<(), Unread>
+        requires { excerpt.brackets ≤ 127 }
+        ensures { OnOk result (IsRead excerpt.entry.brackets excerpt.entry.text.now) }
+    {
+        text_is_read_without_brackets();
+        let read = self.read(excerpt)?;
+        let _tree = innermost(&read, MOST_BRACKETS - excerpt.brackets)?;
+        Ok(())
+    }
+}
+
+/// The tree in so many arrays, of which each has one element.
+pub(crate) fn innermost(tree: &Json, arrays: u8) -> Result<&Json, Unread>
+    ensures { IfOk result (λ inner. tree_view tree.now ≡ in_arrays arrays (tree_view inner.now)) }
+{
+    let mut inner = tree;
+    for _ in 0..arrays {
+        let Some(elements) = inner.as_array() else {
+            return Err(Unread::Piece);
+        };
+        if elements.len() != 1 {
+            return Err(Unread::Piece);
+        }
+        inner = &elements[0];
+    }
+    Ok(inner)
+}
+
+/// The elements of the array in so many arrays, of which each has one element.
+pub(crate) fn innermost_elements(tree: &Json, arrays: u8) -> Result<&[Json], Unread>
+    ensures are { IfOk result (λ elements.
+        tree_view tree.now ≡ in_arrays arrays (array (items_view elements.now))) }
+    ensures some { IfOk result (λ elements. 0 < length elements.now) }
+{
+    let Some(elements) = innermost(tree, arrays)?.as_array() else {
+        return Err(Unread::Piece);
+    };
+    if elements.is_empty() {
+        return Err(Unread::Piece);
+    }
+    Ok(elements)
+}

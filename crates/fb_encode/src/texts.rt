@@ -1,0 +1,183 @@
+//! Buffers of JSON texts.
+ghost use Rattle.std.specs.Prelude.{◌≡◌, ℕ, Bool, IfErr, IfOk, IfSome, List};
+ghost use Rattle.fb_value.specs.Bounds.{Bounds};
+ghost use Rattle.fb_value.specs.Datum.{Datum};
+ghost use Rattle.fb_build.specs.NotedRoots.{NotesRoot};
+ghost use Rattle.fb_encode.specs.TextsEncoded.{IsTextEncoded, IsTextNoted, TextRefused, first_fault};
+
+use crate::excerpts::{TextWalk, note_excerpt};
+use crate::faults::{EncodeFault, TextFault};
+use crate::reader::{Excerpt, MOST_BRACKETS, Reader, Unread};
+use crate::trees::{lay_noted, note_root};
+use fb_build::Noting;
+use fb_json::{JsonFault, Place, Source, first_fault_refuses, only_what_is_meant};
+use fb_layout::Layout;
+use fb_schema::{Kind, Shape};
+use fb_tape::Tape;
+use fb_value::Limits;
+use serde_json::Value as Json;
+use std::alloc::Global;
+
+/// The fault of a text whose first fault this is.
+fn first_fault(fault: JsonFault) -> TextFault
+    ensures { result ≡ first_fault fault }
+{
+    match fault {
+        JsonFault::Memory => TextFault::Memory,
+        _ => TextFault::Encode(EncodeFault::Json(fault)),
+    }
+}
+
+/// A tape on which the value is noted that a text means, which is read in pieces. None where a piece can't be read on
+/// its own.
+fn note_in_pieces<'l>(
+    source: Source<'l>,
+    json: &[u8],
+    limits: Limits,
+    piece: usize,
+) -> Option<Result<Tape<'l>, TextFault>>
+    ensures noted { IfSome result (λ r. IfOk r
+        (IsTextNoted source.entry.layout.now limits source.entry.unknown json.now)) }
+    ensures refused { IfSome result (λ r. IfErr r
+        (TextRefused source.entry.layout.now limits source.entry.unknown json.now)) }
+{
+    only_what_is_meant();
+    first_fault_refuses();
+    let root = source.layout.schema().root();
+    let place = Place {
+        owner: root,
+        slot: None,
+    };
+    let excerpt = Excerpt {
+        text: json,
+        brackets: MOST_BRACKETS,
+    };
+    let mut walk = TextWalk {
+        noting: Noting::new(source.alloc, source.layout),
+        reader: Reader::new(source.alloc, piece),
+    };
+    let shape = Shape::One(Kind::Table(root));
+    let levels = limits.most_depth();
+    let cells = limits.most_cells();
+    match note_excerpt(source, &mut walk, excerpt, shape, place, levels, cells) {
+        Ok(Ok(_left)) => {
+            let TextWalk { noting, .. } = walk;
+            let Noting { tape, .. } = noting;
+            Some(Ok(tape))
+        }
+        Ok(Err(fault)) => Some(Err(first_fault(fault))),
+        Err(Unread::Memory) => Some(Err(TextFault::Memory)),
+        Err(Unread::Piece) => None,
+    }
+}
+
+/// The same of a text that is read at once.
+fn note_at_once<'l>(source: Source<'l>, json: &[u8], limits: Limits) -> Result<Tape<'l>, TextFault>
+    ensures noted { IfOk result (IsTextNoted source.entry.layout.now limits source.entry.unknown json.now) }
+    ensures refused { IfErr result (TextRefused source.entry.layout.now limits source.entry.unknown json.now) }
+{
+    first_fault_refuses();
+    let tree = match Json::from_slice(source.alloc, json) {
+        Ok(tree) => tree,
+        Err(error) => {
+            return Err(if error.is_memory() {
+                TextFault::Memory
+            } else {
+                TextFault::BadJson
+            });
+        }
+    };
+    match note_root(source, &tree, limits) {
+        Ok(tape) => Ok(tape),
+        Err(fault) => Err(TextFault::Encode(EncodeFault::Json(fault))),
+    }
+}
+
+/// A tape on which the value is noted that a text means.
+fn note_text<'l>(
+    source: Source<'l>,
+    json: &[u8],
+    limits: Limits,
+    piece: usize,
+) -> Result<Tape<'l>, TextFault>
+    ensures noted { IfOk result (IsTextNoted source.entry.layout.now limits source.entry.unknown json.now) }
+    ensures refused { IfErr result (TextRefused source.entry.layout.now limits source.entry.unknown json.now) }
+{
+    if json.len() > piece {
+        if let Some(noted) = note_in_pieces(source, json, limits, piece) {
+            return noted;
+        }
+    }
+    note_at_once(source, json, limits)
+}
+
+/// The buffer of a text whose value is noted.
+fn lay_text<'l>(
+    alloc: Global,
+    layout: &'l Layout,
+    noted: Result<Tape<'l>, TextFault>,
+) -> Result<Vec<u8>, TextFault>
+    requires { IfOk noted (λ tape. (d : Datum) × NotesRoot layout.now tape d) }
+    ensures encoded { (most : Bounds) (unknown : Bool) (json : List ℕ)
+        → IfOk noted.entry (IsTextNoted layout.now most unknown json)
+        → IfOk result (λ b. IsTextEncoded layout.now most unknown json b.items) }
+    ensures refused { (most : Bounds) (unknown : Bool) (json : List ℕ)
+        → IfOk noted.entry (IsTextNoted layout.now most unknown json)
+        → IfErr noted.entry (TextRefused layout.now most unknown json)
+        → IfErr result (TextRefused layout.now most unknown json) }
+{
+    let tape = match noted {
+        Ok(tape) => tape,
+        Err(fault) => return Err(fault),
+    };
+    match lay_noted(alloc, layout, tape) {
+        Ok(bytes) => Ok(bytes),
+        Err(fault) => Err(TextFault::Encode(fault)),
+    }
+}
+
+/// The bytes that encode the value that a JSON text means under a layout, as the root table's.
+///
+/// A text of more than `piece` bytes is read in pieces of some `piece` bytes, and each is dropped before the next is
+/// read. Which they are changes nothing of the result. The error is that of the text, then that of its first fault, and
+/// then that of the value's size.
+pub fn encode_text(
+    alloc: Global,
+    layout: &Layout,
+    json: &[u8],
+    limits: Limits,
+    unknown: bool,
+    piece: usize,
+) -> Result<Vec<u8>, TextFault>
+    ensures encoded { IfOk result (λ b. IsTextEncoded layout.now limits unknown json.now b.items) }
+    ensures refused { IfErr result (TextRefused layout.now limits unknown json.now) }
+{
+    let source = Source {
+        alloc,
+        layout,
+        unknown,
+    };
+    lay_text(alloc, layout, note_text(source, json, limits, piece))
+}
+
+/// The same of a JSON text that is given away, and dropped before memory for the buffer is taken.
+pub fn encode_owned_text(
+    alloc: Global,
+    layout: &Layout,
+    json: Vec<u8>,
+    limits: Limits,
+    unknown: bool,
+    piece: usize,
+) -> Result<Vec<u8>, TextFault>
+    ensures encoded { IfOk result (λ b. IsTextEncoded layout.now limits unknown json.items b.items) }
+    ensures refused { IfErr result (TextRefused layout.now limits unknown json.items) }
+{
+    let source = Source {
+        alloc,
+        layout,
+        unknown,
+    };
+    let noted = note_text(source, json.as_slice(), limits, piece);
+    drop(json);
+    lay_text(alloc, layout, noted)
+}
