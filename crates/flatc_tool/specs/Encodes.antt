@@ -1,9 +1,12 @@
 -- How a refusal to encode is told.
-use Rattle.fb_encode.specs.declared.faults.EncodeFault.{EncodeFault}
 use Rattle.fb_encode.specs.declared.faults.EncodeFault.TheVariants as the_fault
+use Rattle.fb_encode.specs.declared.faults.TextFault.{TextFault}
+use Rattle.fb_encode.specs.declared.faults.TextFault.TheVariants as the_text
 use Rattle.fb_faults.specs.declared.faults.ToolFault.{ToolFault}
-use Rattle.fb_faults.specs.declared.faults.ToolFault.TheVariants.{Json, Build}
+use Rattle.fb_faults.specs.declared.faults.ToolFault.TheVariants.{BadJson, Json, Build, Memory}
 
-abbrev pub encode_fault : EncodeFault → ToolFault
-encode_fault (the_fault.Json f) = Json f
-encode_fault (the_fault.Build f) = Build f
+abbrev pub encode_fault : TextFault → ToolFault
+encode_fault the_text.BadJson = BadJson
+encode_fault the_text.Memory = Memory
+encode_fault (the_text.Encode (the_fault.Json f)) = Json f
+encode_fault (the_text.Encode (the_fault.Build f)) = Build f
