@@ -3,8 +3,8 @@
 # is refused, whether copies of the version and of figures are right, and the built program: with words and files, with
 # what is done to OUT, with standard streams for paths, with many files in one call, at a terminal, where memory, pipes
 # and stack run out, what it explains, that explaining changes nothing else, how costs grow, and how much memory it
-# takes beside a parse; the calls with growths refused, some thousand damaged buffers, and the library for C with its
-# examples. The last line counts all of it: 'N passed, M failed'.
+# takes; the calls with growths refused, some thousand damaged buffers, some thousand JSON texts in pieces, and the
+# library for C with its examples. The last line counts all of it: 'N passed, M failed'.
 set -uo pipefail
 cd "$(dirname "$0")/.."
 program=crates/flatc/out/flatc
@@ -35,7 +35,7 @@ python3 tools/mutations.py --not-compiled | tee "$logs/not-compiled" || status=1
 for part in command outputs streams batches terminal hostile explain told_alike costs; do
     python3 "tests/$part.py" "$program" | tee "$logs/$part" || status=1
 done
-for part in growths soak; do
+for part in growths soak pieces; do
     python3 "tests/$part.py" "$hostile" | tee "$logs/$part" || status=1
 done
 python3 tests/memory.py "$program" "$parser" | tee "$logs/memory" || status=1

@@ -33,6 +33,7 @@ CALLS = {
     "carry": {0},
     "encode": {114, 80, 41},
     "encode_owned": {114, 80, 41},
+    "encode_pieces": {114, 41},
     "decode": {84},
     "to_binary": SCHEMA | {114, 80, 41},
     "to_json": SCHEMA | {84},

@@ -2,12 +2,13 @@
 
 A part of tests/soak.py, outside the gate.
 """
+import json
 import os
 import subprocess
 import time
 from array import array
 
-from harness import ONE, write
+from harness import ONE, ROOT, content, write
 
 LONGEST = 2_147_483_647
 # Structs of 256 bytes: each level has two of the one before, the first two numbers of eight bytes.
@@ -122,9 +123,32 @@ def long_text(tests, program):
     tests.tell("the text of many numbers", good)
 
 
+def many_monsters(tests, program):
+    """A JSON text of 1 GB of monsters, on lines of their own: it takes less than 4 GB."""
+    folder = os.path.join(ROOT, "examples")
+    schema = content(os.path.join(folder, "monster.fbs"))
+    write("horde.fbs", schema.replace(b"root_type Monster;", b"table Horde { monsters:[Monster]; } root_type Horde;"))
+    # blanks count for no cells, of which there may be 100 million
+    monster = json.dumps(json.loads(content(os.path.join(folder, "monster.json"))), indent=8).encode()
+    count = 1_000_000_000 // len(monster)
+    with open("horde.json", "wb") as file:
+        file.write(b'{"monsters":[' + monster)
+        for _ in range(count - 1):
+            file.write(b"," + monster)
+        file.write(b"]}")
+    found = measured(program, ["binary", "horde.fbs", "horde.json", "horde.bin"])
+    tell(tests, "binary of 1 GB of monsters", found, (0, b"", b""))
+    tests.tell("the memory of 1 GB of monsters", found[-1] < 4_000, f"{found[-1]} MB")
+    piped = {"stdout": subprocess.PIPE}
+    found = measured(program, ["check", "horde.fbs", "horde.bin"], **piped)
+    tell(tests, "check of the monsters", found, (0, b"ok\n", b""))
+    os.remove("horde.json")
+    os.remove("horde.bin")
+
+
 def sizes(program):
     def part(tests):
-        for one in (long_files, long_vector, long_text):
+        for one in (long_files, long_vector, long_text, many_monsters):
             one(tests, program)
 
     return part

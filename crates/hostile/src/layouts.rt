@@ -4,10 +4,13 @@ use crate::diagnoses::{try_breaches, try_json_path, try_path};
 use crate::examples::Example;
 use crate::meanings::limits;
 use crate::values::{is_printed_as, try_value_call};
+use fb_encode::{EncodeFault, TextFault, encode_text};
 use fb_json::value_of;
 use fb_layout::Layout;
 use fb_read::{Entries, read};
-use flatc_tool::{DecodeOptions, EncodeOptions, decode, encode, encode_owned, schema_of};
+use flatc_tool::{
+    DecodeOptions, EncodeOptions, ToolFault, decode, encode, encode_owned, schema_of,
+};
 use serde_json::Value as Json;
 
 fn try_encode(rt: &HostRuntime, example: &Example, layout: &Layout, arms: bool) -> Outcome {
@@ -32,6 +35,20 @@ fn try_owned(rt: &HostRuntime, example: &Example, layout: &Layout, arms: bool) -
     match answer {
         Ok(bytes) => Outcome::of(bytes.as_slice() == example.bytes),
         Err(fault) => Outcome::of_refusal(fault.number()),
+    }
+}
+
+/// An example's buffer, whose text is read in pieces of a few bytes.
+fn try_pieces(rt: &HostRuntime, example: &Example, layout: &Layout, arms: bool) -> Outcome {
+    let limits = limits();
+    arm(rt, arms);
+    let answer = encode_text(rt.alloc(), layout, example.json, limits, false, 8);
+    disarm(rt, arms);
+    match answer {
+        Ok(bytes) => Outcome::of(bytes.as_slice() == example.bytes),
+        Err(TextFault::Memory) => Outcome::of_refusal(ToolFault::Memory.number()),
+        Err(TextFault::Encode(EncodeFault::Build(fault))) => Outcome::of_refusal(fault.number()),
+        Err(_) => Outcome::Wrong,
     }
 }
 
@@ -82,6 +99,7 @@ fn try_under(
     match call {
         "encode" => Some(try_encode(rt, example, layout, arms)),
         "encode_owned" => Some(try_owned(rt, example, layout, arms)),
+        "encode_pieces" => Some(try_pieces(rt, example, layout, arms)),
         "decode" => Some(try_decode(rt, example, layout, arms)),
         "read" => Some(try_read(rt, example, layout, arms)),
         "value_of" => Some(try_value_of(rt, example, layout, arms)),

@@ -1,6 +1,7 @@
 //! `hostile CALL EXAMPLE` makes one call of the crates, while growths of the heap may be refused;
 //! `hostile soak` damages buffers under schemas that it reads; `hostile deep CALL LEVELS` makes a call
-//! on what is nested deep; without words each call is made once on each example.
+//! on what is nested deep; `hostile pieces` reads JSON texts in pieces and at once; without words each
+//! call is made once on each example.
 #![tactic(auto)]
 
 mod arming;
@@ -13,6 +14,7 @@ mod jobs;
 mod layouts;
 mod meanings;
 mod memoryless;
+mod pieces;
 mod schemas;
 mod soak;
 mod values;
@@ -24,6 +26,7 @@ use crate::diagnoses::try_explain;
 use crate::examples::{EXAMPLES, Example};
 use crate::jobs::try_job;
 use crate::layouts::try_layout_call;
+use crate::pieces::tell_pieces;
 use crate::schemas::try_schema_call;
 use crate::soak::soak;
 use std::process::ExitCode;
@@ -43,6 +46,7 @@ const CALLS: &[&str] = &[
     "carry",
     "encode",
     "encode_owned",
+    "encode_pieces",
     "decode",
     "to_binary",
     "to_json",
@@ -134,6 +138,10 @@ fn run(rt: &HostRuntime, words: &[String]) -> io::Result<bool> {
             Ok(levels) => go_deep(rt, call.as_str(), levels),
             Err(_) => Ok(false),
         },
+        [word] if word.as_str() == "pieces" => {
+            tell_pieces(rt)?;
+            Ok(true)
+        }
         _ => {
             soak(rt)?;
             Ok(true)
