@@ -53,7 +53,7 @@ pub(crate) fn note_number_runs(
     } = elements;
     cut_array_is_read();
     cut_array_is_utf8();
-    let Some(cut) = cut_array(source.alloc, excerpt.text, walk.reader.most())? else {
+    let Some(cut) = cut_array(source.alloc, excerpt.text, excerpt.at, &walk.reader.cuts)? else {
         return note_at_once(
             source,
             walk,

@@ -26,7 +26,7 @@ use crate::reader::{Excerpt, MOST_BRACKETS, Unread, innermost};
 use crate::slot_texts::{SlotTexts, pass_by_text, texts_by_slot};
 use fb_json::{JsonFault, Place, Source, code_of_slot, is_absent};
 use fb_pieces::{
-    Member, cut_object, cut_object_is_read, cut_object_is_utf8, leading_blanks,
+    Cuts, Member, cut_object, cut_object_is_read, cut_object_is_utf8, leading_blanks,
     text_is_read_without_brackets,
 };
 use fb_schema::{Kind, Shape, TypeId};
@@ -41,11 +41,16 @@ struct Behind {
 }
 
 /// The members of an object's text, if it can be cut and has some.
-fn members_of(alloc: Global, text: &[u8]) -> Result<Option<Vec<Member>>, AllocError>
-    ensures cut { IfOk result (λ cut. IfSome cut (λ members. IsCutIntoMembers text.now members.items)) }
+fn members_of(
+    alloc: Global,
+    excerpt: Excerpt<'_>,
+    cuts: &Cuts,
+) -> Result<Option<Vec<Member>>, AllocError>
+    ensures cut { IfOk result (λ cut. IfSome cut (λ members.
+        IsCutIntoMembers excerpt.entry.text.now members.items)) }
     ensures some { IfOk result (λ cut. IfSome cut (λ members. 0 < length members.items)) }
 {
-    let Some(members) = cut_object(alloc, text)? else {
+    let Some(members) = cut_object(alloc, excerpt.text, excerpt.at, cuts)? else {
         return Ok(None);
     };
     if members.is_empty() {
@@ -106,7 +111,7 @@ pub(crate) fn note_members(
         walk.old.noting.tape walk.new.noting.tape found) }
     ensures opened { IfOk result (λ found. OnOk found (walk.new.noting.opened ≡ walk.old.noting.opened)) }
 {
-    let Some(members) = members_of(source.alloc, excerpt.text)? else {
+    let Some(members) = members_of(source.alloc, excerpt, &walk.reader.cuts)? else {
         let shape = Shape::One(Kind::Table(owner));
         return note_at_once(source, walk, excerpt, shape, place, levels, left);
     };

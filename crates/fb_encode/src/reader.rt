@@ -6,7 +6,7 @@ ghost use Rattle.serde_json.specs.View.{items_view, view as tree_view};
 ghost use Rattle.fb_pieces.specs.InBrackets.{in_arrays, in_brackets};
 ghost use Rattle.fb_encode.specs.TextsRead.{IsRead};
 
-use fb_pieces::text_is_read_without_brackets;
+use fb_pieces::{Cuts, text_is_read_without_brackets};
 use serde_json::Value as Json;
 use std::alloc::{AllocError, Global};
 
@@ -33,6 +33,8 @@ impl From<AllocError> for Unread {
 pub(crate) struct Excerpt<'t> {
     pub(crate) text: &'t [u8],
     pub(crate) brackets: u8,
+    /// Where it begins in the whole text.
+    pub(crate) at: usize,
 }
 
 /// Reads excerpts in brackets of their own, as many as are open around each in the whole text: so each may nest as deep
@@ -43,15 +45,19 @@ pub(crate) struct Reader {
     bracketed: Vec<u8>,
     /// The most bytes of an excerpt that is read at once.
     most: usize,
+    /// Where the whole text may be cut.
+    pub(crate) cuts: Cuts,
 }
 
 impl Reader {
-    pub(crate) fn new(alloc: Global, most: usize) -> Reader {
-        Reader {
+    /// What reads excerpts of a JSON text.
+    pub(crate) fn over(alloc: Global, json: &[u8], most: usize) -> Result<Reader, AllocError> {
+        Ok(Reader {
             alloc,
             bracketed: Vec::new(alloc),
             most,
-        }
+            cuts: Cuts::of(alloc, json, most)?,
+        })
     }
 
     /// The most bytes of an excerpt that is read at once, where it can be cut.

@@ -82,6 +82,7 @@ fn piece_of<'t>(excerpt: Excerpt<'t>, piece: Piece) -> Excerpt<'t>
     Excerpt {
         text: &excerpt.text[piece.start..piece.end],
         brackets: excerpt.brackets - 1,
+        at: excerpt.at.saturating_add(piece.start),
     }
 }
 

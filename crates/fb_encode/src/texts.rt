@@ -51,10 +51,14 @@ fn note_in_pieces<'l>(
     let excerpt = Excerpt {
         text: json,
         brackets: MOST_BRACKETS,
+        at: 0,
+    };
+    let Ok(reader) = Reader::over(source.alloc, json, piece) else {
+        return Some(Err(TextFault::Memory));
     };
     let mut walk = TextWalk {
         noting: Noting::new(source.alloc, source.layout),
-        reader: Reader::new(source.alloc, piece),
+        reader,
     };
     let shape = Shape::One(Kind::Table(root));
     let levels = limits.most_depth();

@@ -88,7 +88,7 @@ pub(crate) fn note_runs(
     } = elements;
     cut_array_is_read();
     cut_array_is_utf8();
-    let Some(cut) = cut_array(source.alloc, excerpt.text, walk.reader.most())? else {
+    let Some(cut) = cut_array(source.alloc, excerpt.text, excerpt.at, &walk.reader.cuts)? else {
         return note_at_once(
             source,
             walk,
@@ -151,6 +151,7 @@ fn note_run(
         let excerpt = Excerpt {
             text,
             brackets: array.brackets - 1,
+            at: array.at.saturating_add(run.elements.start),
         };
         return note_element(source, walk, excerpt, elements, found);
     }

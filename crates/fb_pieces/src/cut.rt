@@ -1,4 +1,4 @@
-//! Proposes where to cut a JSON text: the members of an object's text, and runs of the elements of an array's.
+//! Cuts a JSON text: the members of an object's text, and runs of the elements of an array's.
 //!
 //! Strings, escapes, brackets, commas and colons are all that is looked at. Whether a text may be cut there is decided
 //! by reading the pieces.
@@ -7,6 +7,7 @@ ghost use Rattle.fb_pieces.specs.Cuts.{IsMemberOf, IsRunOf};
 ghost use Rattle.fb_pieces.specs.ReadByPieces.{IsCutIntoMembers, IsCutIntoRuns, OpensAt};
 
 use crate::blanks::{are_blanks, leading_blanks};
+use crate::cuts::Cuts;
 use crate::walk::{BLOCK, Walk, block_at};
 use std::alloc::{AllocError, Global};
 
@@ -34,18 +35,25 @@ pub struct Member {
     pub is_last: bool,
 }
 
-/// The runs of an array's text: as many elements as have at most `most` bytes together, or one that has more. None
-/// where the text isn't an array's.
-pub fn cut_array(alloc: Global, text: &[u8], most: usize) -> Result<Option<Vec<Run>>, AllocError>
+/// The runs of an array's text that has cuts. None where the text isn't an array's, or it has none.
+pub fn cut_array(
+    alloc: Global,
+    text: &[u8],
+    at: usize,
+    cuts: &Cuts,
+) -> Result<Option<Vec<Run>>, AllocError>
     ensures { IfOk result (λ cut. IfSome cut (λ runs. IsCutIntoRuns text.now runs.items)) }
 {
     let Some(opening) = opening(text, b'[') else {
         return Ok(None);
     };
-    let mut runs = Vec::new(alloc);
+    let Some(ends) = cuts.runs_of(at.saturating_add(opening)) else {
+        return Ok(None);
+    };
+    let mut runs = Vec::with_capacity(alloc, ends.len())?;
     let mut from = opening + 1;
-    for _ in from..text.len() {
-        let Some(run) = next_run(text, from, most) else {
+    for end in ends {
+        let Some(run) = run_before(text, from, end.at.saturating_sub(at), end.count) else {
             return Ok(None);
         };
         runs.push(run)?;
@@ -62,7 +70,12 @@ pub fn cut_array(alloc: Global, text: &[u8], most: usize) -> Result<Option<Vec<R
 }
 
 /// The members of an object's text. None where the text isn't an object's, or that of one without members.
-pub fn cut_object(alloc: Global, text: &[u8]) -> Result<Option<Vec<Member>>, AllocError>
+pub fn cut_object(
+    alloc: Global,
+    text: &[u8],
+    at: usize,
+    cuts: &Cuts,
+) -> Result<Option<Vec<Member>>, AllocError>
     ensures { IfOk result (λ cut. IfSome cut (λ members. IsCutIntoMembers text.now members.items)) }
 {
     let Some(opening) = opening(text, b'{') else {
@@ -71,7 +84,7 @@ pub fn cut_object(alloc: Global, text: &[u8]) -> Result<Option<Vec<Member>>, All
     let mut members = Vec::new(alloc);
     let mut from = opening + 1;
     for _ in from..text.len() {
-        let Some(member) = next_member(text, from) else {
+        let Some(member) = next_member(text, from, at, cuts) else {
             return Ok(None);
         };
         members.push(member)?;
@@ -99,47 +112,6 @@ fn opening(text: &[u8], bracket: u8) -> Option<usize>
     }
 }
 
-/// The run of an array's elements that begins at `from`: as many as have at most `most` bytes together, or one that has
-/// more. None where neither a comma nor the array's bracket comes.
-pub fn next_run(text: &[u8], from: usize, most: usize) -> Option<Run>
-    ensures run { IfSome result (λ run. IsRunOf text.now from run) }
-{
-    let mut walk = Walk::START;
-    let mut comma = None;
-    let mut count = 0;
-    for at in (from..text.len()).step_by(BLOCK) {
-        let outside = walk.outside(block_at(text, at), b',');
-        let room = most.saturating_sub(at - from);
-        let near = outside.wanted & lowest(room.saturating_add(1));
-        if near != 0 {
-            comma = Some(at + (BLOCK - 1 - near.leading_zeros() as usize));
-            count += near.count_ones() as usize;
-        }
-        match outside.end {
-            Some(bit) if bit <= room => return run_before(
-                text,
-                from,
-                at.saturating_add(bit),
-                count + 1,
-            ),
-            None if room >= BLOCK => continue,
-            _ => {}
-        }
-        if let Some(end) = comma {
-            return run_before(text, from, end, count);
-        }
-        if let Some(bit) = outside.first() {
-            return run_before(text, from, at.saturating_add(bit), 1);
-        }
-    }
-    None
-}
-
-/// The lowest bits, so many.
-fn lowest(count: usize) -> u64 {
-    !u64::MAX.checked_shl(count.min(BLOCK) as u32).unwrap_or(0)
-}
-
 /// The run of so many elements that ends before a comma or the array's bracket.
 fn run_before(text: &[u8], from: usize, end: usize, count: usize) -> Option<Run>
     ensures run { IfSome result (λ run. IsRunOf text.now from run) }
@@ -160,11 +132,11 @@ fn run_before(text: &[u8], from: usize, end: usize, count: usize) -> Option<Run>
 }
 
 /// The member of an object that begins at `from`. None where no colon comes, or neither a comma nor the object's brace.
-pub fn next_member(text: &[u8], from: usize) -> Option<Member>
+fn next_member(text: &[u8], from: usize, at: usize, cuts: &Cuts) -> Option<Member>
     ensures { IfSome result (λ member. IsMemberOf text.now from member) }
 {
     let colon = separator(text, from, b':')?;
-    let end = separator(text, colon + 1, b',')?;
+    let end = value_end(text, colon + 1, at, cuts)?;
     let name = Piece {
         start: from,
         end: colon,
@@ -185,6 +157,23 @@ pub fn next_member(text: &[u8], from: usize) -> Option<Member>
             is_last: true,
         }),
         _ => None,
+    }
+}
+
+/// What ends the value of a member: a comma, or the object's brace.
+fn value_end(text: &[u8], from: usize, at: usize, cuts: &Cuts) -> Option<usize>
+    ensures { IfSome result (λ end. (from ≤ end) × (end < length text.now)) }
+{
+    let start = from.checked_add(leading_blanks(text.get(from..)?))?;
+    let Some(closing) = cuts.closing_of(at.saturating_add(start)) else {
+        return separator(text, from, b',');
+    };
+    let behind = closing.saturating_sub(at).checked_add(1)?;
+    let end = behind.checked_add(leading_blanks(text.get(behind..)?))?;
+    if end >= from && end < text.len() {
+        Some(end)
+    } else {
+        None
     }
 }
 

@@ -1,89 +1,71 @@
 //! Texts by hand, and the pieces into which they are cut: `|` is behind each piece but the last, `.` behind the last,
-//! and `?` is where none is found.
-use crate::{Piece, cut_array, cut_object, leading_blanks, next_member, next_run};
+//! and `?` is where a text isn't cut.
+use crate::{Cuts, Piece, cut_array, cut_object, leading_blanks};
 use std::alloc::{AllocError, Global};
 use std::test::Fail;
 
-// Arrays behind their bracket, cut behind each element.
+// Arrays, cut behind each element.
 const ELEMENTS: &[(&str, &str)] = &[
-    ("1]", "1."),
-    ("1,2,3]", "1|2|3."),
-    (" 1 , 2\n]", " 1 | 2\n."),
-    ("]", "."),
-    (" ]", " ."),
-    ("1,]", "1|."),
-    (",]", "|."),
-    ("[1,2],[[],[3]]]", "[1,2]|[[],[3]]."),
-    ("{\"a\":[1],\"b\":{}},{}]", "{\"a\":[1],\"b\":{}}|{}."),
-    ("\"]\",\",\",\"[{\"]", "\"]\"|\",\"|\"[{\"."),
-    ("\"\\\"],\",1]", "\"\\\"],\"|1."),
-    ("\"\\\\\",\"]\"]", "\"\\\\\"|\"]\"."),
-    ("\"\\\\\\\",\",2]", "\"\\\\\\\",\"|2."),
-    ("1,2", "1|?"),
-    ("1,\"2]", "1|?"),
-    ("1,[2]", "1|?"),
-    ("1}", "?"),
+    ("[1]", "1."),
+    ("[1,2,3]", "1|2|3."),
+    ("[ 1 , 2\n]", " 1 | 2\n."),
+    ("[]", "."),
+    ("[ ]", " ."),
+    ("[1,]", "1|."),
+    ("[,]", "|."),
+    ("[[1,2],[[],[3]]]", "[1,2]|[[],[3]]."),
+    ("[{\"a\":[1],\"b\":{}},{}]", "{\"a\":[1],\"b\":{}}|{}."),
+    ("[\"]\",\",\",\"[{\"]", "\"]\"|\",\"|\"[{\"."),
+    ("[\"\\\"],\",1]", "\"\\\"],\"|1."),
+    ("[\"\\\\\",\"]\"]", "\"\\\\\"|\"]\"."),
+    ("[\"\\\\\\\",\",2]", "\"\\\\\\\",\"|2."),
+    ("[1,2", "?"),
+    ("[1,\"2]", "?"),
+    ("[1,[2]", "?"),
+    ("[1}", "?"),
+    ("[1] ,2]", "?"),
+    ("{\"a\":1}", "?"),
+    ("1]", "?"),
+    ("[", "?"),
     ("", "?"),
-    ("1] ,2]", "1."),
 ];
 
-// Objects behind their brace.
-const MEMBERS: &[(&str, &str)] = &[
-    ("\"a\":1}", "\"a\"=1."),
-    (" \"a\" : 1 , \"b\" : 2 }", " \"a\" = 1 | \"b\" = 2 ."),
-    (
-        "\"a\":[1,2],\"b\":{\"c\":[]}}",
-        "\"a\"=[1,2]|\"b\"={\"c\":[]}.",
-    ),
-    ("\":}\":\",\\\"}\",\"\":0}", "\":}\"=\",\\\"}\"|\"\"=0."),
-    ("}", "?"),
-    ("\"a\"}", "?"),
-    ("\"a\",\"b\":1}", "\"a\",\"b\"=1."),
-    ("\"a\":1]", "?"),
-    ("\"a\":1", "?"),
-    ("\"a\":1,", "\"a\"=1|?"),
-];
-
-// Arrays of which a run has at most five bytes.
-const RUNS: &[(&str, &str)] = &[
-    ("1]", "1."),
-    ("123,4]", "123,4."),
-    ("1234,5]", "1234|5."),
-    ("1,2,3,4,5,6]", "1,2,3|4,5,6."),
-    ("[1,2,3,4],[5],[6],7]", "[1,2,3,4]|[5]|[6],7."),
-    ("1,2,[3,4,5]]", "1,2|[3,4,5]."),
-];
-
-// Whole texts: the runs of an array, of at most five bytes, with how many elements they seem to have.
-const CUT_ARRAYS: &[(&str, &str, &[usize])] = &[
-    ("[1]", "1.", &[1]),
+// Arrays of which a run has at most five bytes, with how many elements the runs seem to have. What has no more than
+// five bytes isn't cut.
+const RUNS: &[(&str, &str, &[usize])] = &[
+    ("[123]", "?", &[]),
+    ("[1234]", "1234.", &[1]),
     ("[1,2,3,4]", "1,2,3|4.", &[3, 1]),
     ("[ 1 ,22]\r\n\t ", " 1 |22.", &[1, 1]),
     ("[1,22,333]", "1,22|333.", &[2, 1]),
+    ("[123,4]", "123,4.", &[2]),
+    ("[1234,5]", "1234|5.", &[1, 1]),
+    ("[1,2,3,4,5,6]", "1,2,3|4,5,6.", &[3, 3]),
+    ("[1,2,[3,4,5]]", "1,2|[3,4,5].", &[2, 1]),
+    ("[1,2,[3,4,5],6]", "1,2|[3,4,5]|6.", &[2, 1, 1]),
     ("[[1,2,3],[],[4],5]", "[1,2,3]|[]|[4],5.", &[1, 1, 2]),
+    ("[[1,2,3,4],[5],[6],7]", "[1,2,3,4]|[5]|[6],7.", &[1, 1, 2]),
     ("[\"],\",\"[\"]", "\"],\"|\"[\".", &[1, 1]),
-    ("[]", ".", &[1]),
-    ("[1,]", "1,.", &[2]),
-    ("[1] 2", "?", &[]),
-    ("[1]]", "?", &[]),
-    ("[1],", "?", &[]),
-    ("[1,2", "?", &[]),
+    ("[1,2,3] 4", "?", &[]),
+    ("[1,2,3]]", "?", &[]),
+    ("[1,2,3],", "?", &[]),
     ("[12345,6", "?", &[]),
-    ("[1}", "?", &[]),
-    ("{\"a\":1}", "?", &[]),
-    ("1]", "?", &[]),
-    ("[", "?", &[]),
-    ("", "?", &[]),
 ];
 
-// Whole texts: the members of an object.
-const CUT_OBJECTS: &[(&str, &str)] = &[
+// The members of objects, whatever is long.
+const OBJECTS: &[(&str, &str)] = &[
     ("{\"a\":1}", "\"a\"=1."),
     (
         "{ \"a\" : 1 , \"b\" : [2,3] }\r\n\t ",
         " \"a\" = 1 | \"b\" = [2,3] .",
     ),
+    (
+        "{\"a\":[1,2],\"b\":{\"c\":[]}}",
+        "\"a\"=[1,2]|\"b\"={\"c\":[]}.",
+    ),
+    ("{\":}\":\",\\\"}\",\"\":0}", "\":}\"=\",\\\"}\"|\"\"=0."),
     ("{\"}\":\"}\",\"\":{}}", "\"}\"=\"}\"|\"\"={}."),
+    ("{\"a\",\"b\":1}", "\"a\",\"b\"=1."),
     ("{}", "?"),
     ("{ }", "?"),
     ("{\"a\":1} 2", "?"),
@@ -91,6 +73,7 @@ const CUT_OBJECTS: &[(&str, &str)] = &[
     ("{\"a\":1},", "?"),
     ("{\"a\":1,}", "?"),
     ("{\"a\":1", "?"),
+    ("{\"a\":[1,2,3]", "?"),
     ("{\"a\":1]", "?"),
     ("{\"a\"}", "?"),
     ("[1]", "?"),
@@ -124,41 +107,6 @@ fn push_piece(
     Ok(())
 }
 
-fn shown_runs(alloc: Global, text: &[u8], most: usize) -> Result<Vec<u8>, AllocError> {
-    let mut shown = Vec::new(alloc);
-    let mut from = 0;
-    for _ in 0..=text.len() {
-        let Some(run) = next_run(text, from, most) else {
-            shown.push(b'?')?;
-            break;
-        };
-        push_piece(&mut shown, text, run.elements, mark(run.is_last))?;
-        if run.is_last {
-            break;
-        }
-        from = run.elements.end + 1;
-    }
-    Ok(shown)
-}
-
-fn shown_members(alloc: Global, text: &[u8]) -> Result<Vec<u8>, AllocError> {
-    let mut shown = Vec::new(alloc);
-    let mut from = 0;
-    for _ in 0..=text.len() {
-        let Some(member) = next_member(text, from) else {
-            shown.push(b'?')?;
-            break;
-        };
-        push_piece(&mut shown, text, member.name, b'=')?;
-        push_piece(&mut shown, text, member.value, mark(member.is_last))?;
-        if member.is_last {
-            break;
-        }
-        from = member.value.end + 1;
-    }
-    Ok(shown)
-}
-
 fn shown_array(
     alloc: Global,
     text: &[u8],
@@ -166,7 +114,8 @@ fn shown_array(
 ) -> Result<(Vec<u8>, Vec<usize>), AllocError> {
     let mut shown = Vec::new(alloc);
     let mut counts = Vec::new(alloc);
-    let Some(runs) = cut_array(alloc, text, most)? else {
+    let cuts = Cuts::of(alloc, text, most)?;
+    let Some(runs) = cut_array(alloc, text, 0, &cuts)? else {
         shown.push(b'?')?;
         return Ok((shown, counts));
     };
@@ -177,9 +126,10 @@ fn shown_array(
     Ok((shown, counts))
 }
 
-fn shown_object(alloc: Global, text: &[u8]) -> Result<Vec<u8>, AllocError> {
+fn shown_object(alloc: Global, text: &[u8], most: usize) -> Result<Vec<u8>, AllocError> {
     let mut shown = Vec::new(alloc);
-    let Some(members) = cut_object(alloc, text)? else {
+    let cuts = Cuts::of(alloc, text, most)?;
+    let Some(members) = cut_object(alloc, text, 0, &cuts)? else {
         shown.push(b'?')?;
         return Ok(shown);
     };
@@ -205,36 +155,10 @@ fn arrays_are_cut_behind_each_element(rt: HostRuntime) -> Result<(), Fail> {
     for (text, pieces) in ELEMENTS {
         for blanks in 0..66 {
             let padded = behind_blanks(rt.alloc(), blanks, text)?;
-            let wanted = behind_blanks(
-                rt.alloc(),
-                if *pieces == "?" { 0 } else { blanks },
-                pieces,
-            )?;
-            let shown = shown_runs(rt.alloc(), padded.as_slice(), 0)?;
+            let (shown, _) = shown_array(rt.alloc(), padded.as_slice(), 0)?;
             assert_eq!(rt;
                 shown.as_slice(),
-                wanted.as_slice(),
-                "{text} behind {blanks} blanks"
-            );
-        }
-    }
-    Ok(())
-}
-
-#[test]
-fn objects_are_cut_behind_each_name_and_value(rt: HostRuntime) -> Result<(), Fail> {
-    for (text, pieces) in MEMBERS {
-        for blanks in 0..66 {
-            let padded = behind_blanks(rt.alloc(), blanks, text)?;
-            let wanted = behind_blanks(
-                rt.alloc(),
-                if *pieces == "?" { 0 } else { blanks },
-                pieces,
-            )?;
-            let shown = shown_members(rt.alloc(), padded.as_slice())?;
-            assert_eq!(rt;
-                shown.as_slice(),
-                wanted.as_slice(),
+                pieces.as_bytes(),
                 "{text} behind {blanks} blanks"
             );
         }
@@ -244,16 +168,7 @@ fn objects_are_cut_behind_each_name_and_value(rt: HostRuntime) -> Result<(), Fai
 
 #[test]
 fn runs_are_no_longer_than_asked(rt: HostRuntime) -> Result<(), Fail> {
-    for (text, pieces) in RUNS {
-        let shown = shown_runs(rt.alloc(), text.as_bytes(), 5)?;
-        assert_eq!(rt; shown.as_slice(), pieces.as_bytes(), "{text}");
-    }
-    Ok(())
-}
-
-#[test]
-fn whole_arrays_are_cut_into_runs(rt: HostRuntime) -> Result<(), Fail> {
-    for (text, pieces, counts) in CUT_ARRAYS {
+    for (text, pieces, counts) in RUNS {
         for blanks in 0..66 {
             let padded = behind_blanks(rt.alloc(), blanks, text)?;
             let (shown, found) = shown_array(rt.alloc(), padded.as_slice(), 5)?;
@@ -269,18 +184,36 @@ fn whole_arrays_are_cut_into_runs(rt: HostRuntime) -> Result<(), Fail> {
 }
 
 #[test]
-fn whole_objects_are_cut_into_members(rt: HostRuntime) -> Result<(), Fail> {
-    for (text, pieces) in CUT_OBJECTS {
+fn objects_are_cut_behind_each_name_and_value(rt: HostRuntime) -> Result<(), Fail> {
+    for (text, pieces) in OBJECTS {
         for blanks in 0..66 {
             let padded = behind_blanks(rt.alloc(), blanks, text)?;
-            let shown = shown_object(rt.alloc(), padded.as_slice())?;
-            assert_eq!(rt;
-                shown.as_slice(),
-                pieces.as_bytes(),
-                "{text} behind {blanks} blanks"
-            );
+            for most in [0, 5, 1_000] {
+                let shown = shown_object(rt.alloc(), padded.as_slice(), most)?;
+                assert_eq!(rt;
+                    shown.as_slice(),
+                    pieces.as_bytes(),
+                    "{text} behind {blanks} blanks, {most}"
+                );
+            }
         }
     }
+    Ok(())
+}
+
+#[test]
+fn a_text_within_another_is_cut_where_it_is(rt: HostRuntime) -> Result<(), Fail> {
+    let whole = b"{\"a\":[1,2],\"b\": [\"x\",[3,4]] }";
+    let cuts = Cuts::of(rt.alloc(), whole, 0)?;
+    let (at, end) = (15, 28);
+    let mut shown = Vec::new(rt.alloc());
+    for run in cut_array(rt.alloc(), &whole[at..end], at, &cuts)?
+        .iter()
+        .flatten()
+    {
+        push_piece(&mut shown, &whole[at..end], run.elements, mark(run.is_last))?;
+    }
+    assert_eq!(rt; shown.as_slice(), b"\"x\"|[3,4].".as_slice());
     Ok(())
 }
 
@@ -295,6 +228,24 @@ fn elements_of_several_blocks_are_counted(rt: HostRuntime) -> Result<(), Fail> {
     for (most, counts) in COUNTS {
         let (_, found) = shown_array(rt.alloc(), text.as_slice(), *most)?;
         assert_eq!(rt; found.as_slice(), *counts, "{most}");
+    }
+    Ok(())
+}
+
+#[test]
+fn what_is_nested_deeper_than_json_may_be_has_no_cuts(rt: HostRuntime) -> Result<(), Fail> {
+    for (levels, count) in [(126, 2), (127, 0)] {
+        let mut text = Vec::new(rt.alloc());
+        text.extend_from_slice(b"[1,")?;
+        for _ in 0..levels {
+            text.push(b'[')?;
+        }
+        for _ in 0..levels {
+            text.push(b']')?;
+        }
+        text.push(b']')?;
+        let (_, found) = shown_array(rt.alloc(), text.as_slice(), 0)?;
+        assert_eq!(rt; found.len(), count, "{levels}");
     }
     Ok(())
 }

@@ -16,6 +16,26 @@ pub(crate) struct Walk {
     pub(crate) open: usize,
 }
 
+/// What of a block is outside strings, as bits.
+#[derive(Clone, Copy)]
+pub(crate) struct Marks {
+    pub(crate) opening: u64,
+    pub(crate) closing: u64,
+    pub(crate) commas: u64,
+}
+
+impl Marks {
+    const NONE: Marks = Marks {
+        opening: 0,
+        closing: 0,
+        commas: 0,
+    };
+
+    pub(crate) fn is_empty(self) -> bool {
+        self.opening | self.closing | self.commas == 0
+    }
+}
+
 /// What a block has outside the brackets that are opened from the walk's start on, as bits.
 #[derive(Clone, Copy)]
 pub(crate) struct Outside {
@@ -35,6 +55,11 @@ impl Outside {
             self.end
         }
     }
+}
+
+/// The lowest bits, so many.
+pub(crate) fn lowest(count: usize) -> u64 {
+    !u64::MAX.checked_shl(count.min(BLOCK) as u32).unwrap_or(0)
 }
 
 fn equal_to(block: u8x64, byte: u8) -> u64 {
@@ -74,10 +99,33 @@ impl Walk {
     /// The bytes of a block that are in strings, their opening quotes counted.
     #[inline(always)]
     fn strings(&mut self, block: u8x64) -> u64 {
-        let quotes = equal_to(block, b'"') & !self.escaped(equal_to(block, b'\\'));
-        let inside = prefix_xor(quotes) ^ 0u64.wrapping_sub(self.in_string as u64);
+        let mut quotes = equal_to(block, b'"');
+        let backslashes = equal_to(block, b'\\');
+        if backslashes != 0 || self.is_escaped {
+            quotes &= !self.escaped(backslashes);
+        }
+        let before = 0u64.wrapping_sub(self.in_string as u64);
+        if quotes == 0 {
+            return before;
+        }
+        let inside = prefix_xor(quotes) ^ before;
         self.in_string = inside >> 63 == 1;
         inside
+    }
+
+    /// Goes over a block: what of it is outside strings, if anything is.
+    #[inline(always)]
+    pub(crate) fn marks(&mut self, block: u8x64) -> Marks {
+        let outside = !self.strings(block);
+        if outside == 0 {
+            return Marks::NONE;
+        }
+        let curly = block | u8x64::splat(0x20);
+        Marks {
+            opening: equal_to(curly, b'{') & outside,
+            closing: equal_to(curly, b'}') & outside,
+            commas: equal_to(block, b',') & outside,
+        }
     }
 
     /// Goes over a block, up to the byte that closes a bracket which was open before the walk.

@@ -9,18 +9,19 @@ returns-then-run c =
     elim c.if-are_blanks.branch [
       | then-are_blanks w ↦ rw w.result-is (record {
         at = c.in-Some.opening;
-        end = c.in-Some-next_run.run'.elements.end + 1;
+        end = c.in-Some-run_before.run'.elements.end + 1;
         before = c.in-Some.ensures;
         cut = rw c.in_ok-push.ensures.items
-            (runs_with_last c.args.text.now (c.in-Some.opening + 1) c.loop.from c.loop.runs.items
-            c.in-Some-next_run.run' c.loop.invariant c.in-Some-next_run.ensures.run c.if-run.true);
+            (runs_with_last c.args.text.now (c.in-Some.opening + 1) c.loop-end.from c.loop-end.runs.items
+            c.in-Some-run_before.run' c.loop-end.invariant c.in-Some-run_before.ensures.run c.if-run.true);
         after = rw take_rest at (sym c.are_blanks.ensures ∙ w.if-are_blanks.true);
       })
       | else-are_blanks w ↦ rw w.result-is tt
     ]
 
-pub loop-preserved : goal.loop-preserved
-loop-preserved c =
+pub loop-end-preserved : goal.loop-end-preserved
+loop-end-preserved c =
     rw c.in_ok-push.ensures.items
-    (runs_before_push c.args.text.now (c.in-Some.opening + 1) c.loop.from c.loop.runs.items c.in-Some-next_run.run'
-    c.loop.invariant c.in-Some-next_run.ensures.run c.if-run.false)
+    (runs_before_push c.args.text.now (c.in-Some.opening + 1) c.loop-end.from c.loop-end.runs.items
+    c.in-Some-run_before.run'
+    c.loop-end.invariant c.in-Some-run_before.ensures.run c.if-run.false)

@@ -1,0 +1,97 @@
+//! Where a long JSON text may be cut.
+use crate::cutter::{Cutter, Next};
+use crate::walk::{BLOCK, Walk, block_at};
+use std::alloc::{AllocError, Global};
+use std::collections::BTreeMap;
+
+/// Where a run of an array's elements ends, and how many it seems to have.
+#[derive(Clone, Copy)]
+pub(crate) struct RunEnd {
+    pub(crate) at: usize,
+    pub(crate) count: usize,
+}
+
+/// An array or object: its closing bracket, and which of the runs that were noted are its own.
+#[derive(Clone, Copy)]
+struct Noted {
+    closing: usize,
+    first: usize,
+    behind: usize,
+}
+
+/// Where a text may be cut: its long arrays, with runs of their elements, and its long objects. What has a quarter of
+/// that length is noted without runs, so that it can be passed over.
+#[derive(Drop)]
+pub struct Cuts {
+    parts: BTreeMap<usize, Noted>,
+    runs: Vec<RunEnd>,
+}
+
+impl Cuts {
+    /// The cuts of a text, by one walk over it. Long is what has more than `most` bytes. A run is as many elements as
+    /// have at most `most` bytes together, or one that has more.
+    pub fn of(alloc: Global, text: &[u8], most: usize) -> Result<Cuts, AllocError> {
+        let mut cutter = Cutter::new(alloc, most);
+        let mut walk = Walk::START;
+        let mut at = 0;
+        // Within a long array the walk goes over some `most` bytes again, once for each that is open.
+        for _ in 0..text.len().saturating_mul(4) {
+            if at >= text.len() {
+                break;
+            }
+            let marks = walk.marks(block_at(text, at));
+            if marks.is_empty() {
+                at = at.saturating_add(BLOCK);
+                continue;
+            }
+            match cutter.pass(text, at, marks)? {
+                Next::Block => at = at.saturating_add(BLOCK),
+                Next::Back(behind) => {
+                    at = behind;
+                    walk = Walk::START;
+                }
+                Next::Nothing => return Ok(Cuts::none(alloc)),
+            }
+        }
+        Ok(cutter.into_cuts())
+    }
+
+    /// No cuts.
+    pub(crate) fn none(alloc: Global) -> Cuts {
+        Cuts {
+            parts: BTreeMap::new(alloc),
+            runs: Vec::new(alloc),
+        }
+    }
+
+    /// Notes an array or object with these runs.
+    pub(crate) fn push(
+        &mut self,
+        start: usize,
+        closing: usize,
+        runs: &[RunEnd],
+    ) -> Result<(), AllocError> {
+        let first = self.runs.len();
+        self.runs.extend_from_slice(runs)?;
+        let noted = Noted {
+            closing,
+            first,
+            behind: self.runs.len(),
+        };
+        match self.parts.insert(start, noted) {
+            Ok(_before) => Ok(()),
+            Err(_pair) => Err(AllocError),
+        }
+    }
+
+    /// The runs of the array that begins there, if it is noted: none at all where it is short.
+    pub(crate) fn runs_of(&self, start: usize) -> Option<&[RunEnd]> {
+        let noted = self.parts.get(&start)?;
+        self.runs.get(noted.first..noted.behind)
+    }
+
+    /// The closing bracket of the array or object that begins there, if that is noted.
+    pub(crate) fn closing_of(&self, start: usize) -> Option<usize> {
+        Some(self.parts.get(&start)?.closing)
+    }
+}

@@ -1,0 +1,280 @@
+//! What notes the cuts of a text, block by block.
+use crate::cuts::{Cuts, RunEnd};
+use crate::walk::{BLOCK, Marks, lowest};
+use std::alloc::{AllocError, Global};
+
+/// The brackets that may be open at once in a JSON text.
+const MOST_OPEN: usize = 127;
+
+/// How a walk goes on behind a block.
+#[derive(Clone, Copy)]
+pub(crate) enum Next {
+    /// With the next block.
+    Block,
+    /// From here, behind the bracket of an array that has turned out to be long: its commas weren't looked at.
+    Back(usize),
+    /// Not at all, since `serde_json` would refuse the text.
+    Nothing,
+}
+
+/// A long array or object that isn't closed yet.
+#[derive(Clone, Copy)]
+struct Open {
+    is_array: bool,
+    start: usize,
+    /// Where its last run begins.
+    from: usize,
+    /// The last comma at which that run may end.
+    comma: Option<usize>,
+    /// How many elements it has up to that comma.
+    count: usize,
+    /// How many runs of the arrays around it are waiting.
+    waiting: usize,
+}
+
+/// What is open, the runs of open arrays, and what has been noted.
+#[derive(Drop)]
+pub(crate) struct Cutter {
+    most: usize,
+    /// How many brackets are open, and where they are.
+    depth: usize,
+    starts: [usize; MOST_OPEN],
+    /// Those of them that are known to be long, which are the outermost.
+    open: Vec<Open>,
+    waiting: Vec<RunEnd>,
+    cuts: Cuts,
+}
+
+impl Cutter {
+    pub(crate) fn new(alloc: Global, most: usize) -> Cutter {
+        Cutter {
+            most,
+            depth: 0,
+            starts: [0; MOST_OPEN],
+            open: Vec::new(alloc),
+            waiting: Vec::new(alloc),
+            cuts: Cuts::none(alloc),
+        }
+    }
+
+    pub(crate) fn into_cuts(self) -> Cuts {
+        let Cutter { cuts, .. } = self;
+        cuts
+    }
+
+    /// Goes over the block at this place.
+    #[inline(always)]
+    pub(crate) fn pass(
+        &mut self,
+        text: &[u8],
+        at: usize,
+        marks: Marks,
+    ) -> Result<Next, AllocError> {
+        if self.depth > self.open.len() && self.is_long(at) {
+            if let Some(back) = self.open_long(text, at)? {
+                return Ok(Next::Back(back));
+            }
+        }
+        let mut behind = u64::MAX;
+        let mut rest = marks.opening | marks.closing;
+        for _ in 0..rest.count_ones() {
+            let bracket = rest & rest.wrapping_neg();
+            let before = bracket.wrapping_sub(1);
+            let place = at.wrapping_add(bracket.trailing_zeros() as usize);
+            let commas = marks.commas & behind & before;
+            if commas != 0 && self.depth == self.open.len() {
+                self.pass_commas(at, commas)?;
+            }
+            let next = if marks.opening & bracket != 0 {
+                self.enter(place)
+            } else {
+                self.leave(text, place)?
+            };
+            if !matches!(next, Next::Block) {
+                return Ok(next);
+            }
+            behind = !(bracket | before);
+            rest ^= bracket;
+        }
+        let commas = marks.commas & behind;
+        if commas != 0 && self.depth == self.open.len() {
+            self.pass_commas(at, commas)?;
+        }
+        Ok(Next::Block)
+    }
+
+    #[inline(always)]
+    fn enter(&mut self, place: usize) -> Next {
+        let Some(start) = self.starts.get_mut(self.depth) else {
+            return Next::Nothing;
+        };
+        *start = place;
+        self.depth = self.depth.wrapping_add(1);
+        Next::Block
+    }
+
+    #[inline(always)]
+    fn leave(&mut self, text: &[u8], place: usize) -> Result<Next, AllocError> {
+        let Some(depth) = self.depth.checked_sub(1) else {
+            return Ok(Next::Nothing);
+        };
+        let start = self.starts.get(depth).copied().unwrap_or(0);
+        let length = place.wrapping_sub(start);
+        if length >= self.most {
+            if let Some(back) = self.open_long(text, place)? {
+                return Ok(Next::Back(back));
+            }
+            self.close(place)?;
+        } else if length >= self.most / 4 {
+            self.cuts.push(start, place, &[])?;
+        }
+        self.depth = depth;
+        Ok(Next::Block)
+    }
+
+    /// Whether the outermost of what isn't known to be long is long at this place.
+    #[inline(always)]
+    fn is_long(&self, place: usize) -> bool {
+        match self.starts.get(self.open.len()) {
+            Some(start) => place.wrapping_sub(*start) >= self.most,
+            None => false,
+        }
+    }
+
+    /// Notes what is open and has turned out to be long at this place, from the outermost on, up to an array: it gives
+    /// the place behind that one's bracket.
+    fn open_long(&mut self, text: &[u8], place: usize) -> Result<Option<usize>, AllocError> {
+        for level in self.open.len()..self.depth {
+            let start = self.starts.get(level).copied().unwrap_or(0);
+            if place.wrapping_sub(start) < self.most {
+                return Ok(None);
+            }
+            let from = start.saturating_add(1);
+            let is_array = text.get(start) == Some(&b'[');
+            self.open.push(Open {
+                is_array,
+                start,
+                from,
+                comma: None,
+                count: 0,
+                waiting: self.waiting.len(),
+            })?;
+            if is_array {
+                self.depth = self.open.len();
+                return Ok(Some(from));
+            }
+        }
+        Ok(None)
+    }
+
+    /// Notes the innermost long array or object, which ends here.
+    fn close(&mut self, closing: usize) -> Result<(), AllocError> {
+        let Some(open) = self.open.pop() else {
+            return Ok(());
+        };
+        let mut count = open.count;
+        if let Some(comma) = open.comma {
+            if closing.saturating_sub(open.from) > self.most {
+                self.waiting.push(RunEnd { at: comma, count })?;
+                count = 0;
+            }
+        }
+        self.waiting.push(RunEnd {
+            at: closing,
+            count: count.saturating_add(1),
+        })?;
+        let runs = self.waiting.get(open.waiting..).unwrap_or(&[]);
+        self.cuts.push(open.start, closing, runs)?;
+        self.waiting.truncate(open.waiting);
+        Ok(())
+    }
+
+    /// Goes over commas of a block that are right within the innermost of what is known to be long.
+    fn pass_commas(&mut self, at: usize, commas: u64) -> Result<(), AllocError> {
+        let Some(open) = self.open.last_mut() else {
+            return Ok(());
+        };
+        if !open.is_array || open.pass_all(at, commas, self.most) {
+            return Ok(());
+        }
+        self.cut_runs(at, commas)
+    }
+
+    /// Goes over commas of the innermost long array, at some of which its runs have to end.
+    fn cut_runs(&mut self, at: usize, commas: u64) -> Result<(), AllocError> {
+        let Some(open) = self.open.last_mut() else {
+            return Ok(());
+        };
+        let mut rest = commas;
+        for _ in 0..2 * BLOCK {
+            rest = open.pass_near(at, rest, self.most);
+            if rest == 0 {
+                break;
+            }
+            let (run, behind) = open.cut(at, rest);
+            self.waiting.push(run)?;
+            rest = behind;
+        }
+        Ok(())
+    }
+}
+
+impl Open {
+    /// Passes all commas of a block, if the run may end at each.
+    #[inline(always)]
+    fn pass_all(&mut self, at: usize, commas: u64, most: usize) -> bool {
+        let last = at.wrapping_add(BLOCK - 1 - commas.leading_zeros().min(63) as usize);
+        if last.wrapping_sub(self.from) > most {
+            return false;
+        }
+        self.comma = Some(last);
+        let count = if commas & commas.wrapping_sub(1) == 0 {
+            1
+        } else {
+            commas.count_ones() as usize
+        };
+        self.count = self.count.wrapping_add(count);
+        true
+    }
+
+    /// Passes the commas at which the run may end, and gives the others.
+    #[inline(always)]
+    fn pass_near(&mut self, at: usize, commas: u64, most: usize) -> u64 {
+        let last = self.from.saturating_add(most);
+        let Some(room) = last.checked_sub(at) else {
+            return commas;
+        };
+        let near = commas & lowest(room.saturating_add(1));
+        if near == 0 {
+            return commas;
+        }
+        let bit = BLOCK - 1 - near.leading_zeros() as usize;
+        self.comma = Some(at.saturating_add(bit));
+        self.count = self.count.saturating_add(near.count_ones() as usize);
+        commas & !near
+    }
+
+    /// Ends the run at the last comma at which it may end, or at the first of these, and gives the commas behind it.
+    fn cut(&mut self, at: usize, commas: u64) -> (RunEnd, u64) {
+        let (run, rest) = match self.comma {
+            Some(comma) => (
+                RunEnd {
+                    at: comma,
+                    count: self.count,
+                },
+                commas,
+            ),
+            None => (
+                RunEnd {
+                    at: at.saturating_add(commas.trailing_zeros() as usize),
+                    count: 1,
+                },
+                commas & commas.wrapping_sub(1),
+            ),
+        };
+        self.from = run.at.saturating_add(1);
+        self.comma = None;
+        self.count = 0;
+        (run, rest)
+    }
+}
