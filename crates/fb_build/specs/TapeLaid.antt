@@ -23,11 +23,11 @@ notes_bytes notes = sum_by own_size notes
 abbrev pub op_bytes : Op → List NotedField → ℕ
 op_bytes (Data align size) notes = size
 op_bytes (References count) notes = 0
-op_bytes (Table fields align number) notes = notes_bytes notes
+op_bytes (Table align fields number) notes = notes_bytes notes
 
 -- a table's vtable
 abbrev pub op_vtable : List Bytes → Op → Bytes
-op_vtable vtables (Table fields align number) = unwrap_or (slice_get vtables number) []
+op_vtable vtables (Table align fields number) = unwrap_or (slice_get vtables number) []
 op_vtable vtables _ = []
 
 -- an operation of a tape may be laid
@@ -78,11 +78,11 @@ pub record SomeLay (t : Taped) : Type 0 where
 
 -- ---- counted, and not laid
 
--- An alignment isn't 0, data have a count, and a table's vtable is there.
+-- Data have a count, and a table's vtable is there.
 abbrev pub MayCount : List Bytes → Op → Type 0
-MayCount vtables (Data align size) = (0 < align) × (4 ≤ size)
+MayCount vtables (Data align size) = 4 ≤ size
 MayCount vtables (References count) = Unit {0}
-MayCount vtables (Table fields align number) = (0 < align) × (number < length vtables)
+MayCount vtables (Table align fields number) = number < length vtables
 
 -- So many bytes are laid and so many vtables have come, and with the rooms of the operations that are left these are
 -- `most` at most.

@@ -33,7 +33,7 @@ pub record AreWaiting (L : LaidSchema) (vtables : List Bytes) (ps : List NamedPa
 
 -- a table's vtable
 abbrev pub HasVtable : List Bytes → Op → Bytes → Type 0
-HasVtable vtables (Table fields align number) vtable = slice_get vtables number ≡ Some vtable
+HasVtable vtables (Table align fields number) vtable = slice_get vtables number ≡ Some vtable
 HasVtable vtables _ vtable = Unit {0}
 
 -- Where the parts ps wait, an operation may be laid, after which the parts qs wait.

@@ -1,6 +1,7 @@
 //! Lays the operations of a tape, one after the other.
 ghost use Rattle.std.specs.Prelude.{[], ◌∷◌, ◌≡◌, ◌≤◌, ◌<◌, ◌+◌, ◌-◌, ◌++◌, ◌^◌, length, take, max};
 ghost use Rattle.std.specs.Vec.{vec_capacity};
+ghost use Rattle.fb_tape.specs.Alignments.{aligned_to};
 ghost use Rattle.fb_tape.specs.declared.ops.Op.TheVariants.{Data, References, Table};
 ghost use Rattle.fb_build.specs.Lengths.{data_end, references_end, fields_end, table_end};
 ghost use Rattle.fb_build.specs.NotesLaid.{notes_size};
@@ -10,7 +11,7 @@ use crate::tail::Tail;
 use crate::taped_fields::{lay_fields, references_in};
 use crate::taped_vtables::close_table;
 use crate::{taped_data, taped_references};
-use fb_tape::NotedField;
+use fb_tape::{Alignment, NotedField};
 
 /// What is laid of a tape: the tail, the end-counts of the parts that wait, and those of the vtables that have come.
 #[derive(Drop)]
@@ -35,15 +36,15 @@ fn wait(waiting: &mut Vec<u32>, taken: usize, end: usize)
 }
 
 /// Lays a text, or a vector of numbers or structs.
-pub(crate) fn lay_data(laying: &mut Laying, align: usize, bytes: &[u8])
+pub(crate) fn lay_data(laying: &mut Laying, align: Alignment, bytes: &[u8])
     requires ready { MayLayNext (Data align (length bytes.now)) [] [] bytes.now laying.old }
     requires reserved { length laying.old.waiting.items < vec_capacity laying.old.waiting }
     ensures laid { Steps (Data align (length bytes.now)) [] [] bytes.now laying.old laying.new }
     ensures long { length laying.new.tail.bytes
-        ≡ data_end align (length bytes.now) (length laying.old.tail.bytes) }
-    ensures most { laying.new.tail.most ≡ max laying.old.tail.most align }
+        ≡ data_end (aligned_to align) (length bytes.now) (length laying.old.tail.bytes) }
+    ensures most { laying.new.tail.most ≡ max laying.old.tail.most (aligned_to align) }
 {
-    taped_data::lay_data(&mut laying.tail, align, bytes);
+    taped_data::lay_data(&mut laying.tail, align.bytes(), bytes);
     let end = laying.tail.count();
     wait(&mut laying.waiting, 0, end);
 }
@@ -65,26 +66,26 @@ pub(crate) fn lay_references(laying: &mut Laying, count: usize)
 /// Lays a table, whose references are to the parts that were laid last, and its vtable where that is the next to come.
 pub(crate) fn lay_table(
     laying: &mut Laying,
-    align: usize,
+    align: Alignment,
     number: usize,
     vtable: &[u8],
     notes: &[NotedField],
     bytes: &[u8],
 )
-    requires ready { MayLayNext (Table (length notes.now) align number) vtable.now notes.now bytes.now laying.old }
+    requires ready { MayLayNext (Table align (length notes.now) number) vtable.now notes.now bytes.now laying.old }
     requires reserved { length laying.old.waiting.items < vec_capacity laying.old.waiting }
     requires places { number ≡ length laying.old.places.items
         → length laying.old.places.items < vec_capacity laying.old.places }
-    ensures laid { Steps (Table (length notes.now) align number) vtable.now notes.now bytes.now laying.old laying.new }
+    ensures laid { Steps (Table align (length notes.now) number) vtable.now notes.now bytes.now laying.old laying.new }
     ensures long { length laying.new.tail.bytes
         ≡ table_end (length vtable.now) number (length laying.old.places.items)
-        (fields_end align (notes_size notes.now) (length laying.old.tail.bytes)) }
-    ensures most { laying.new.tail.most ≡ max (max laying.old.tail.most align) 4 }
+        (fields_end (aligned_to align) (notes_size notes.now) (length laying.old.tail.bytes)) }
+    ensures most { laying.new.tail.most ≡ max (max laying.old.tail.most (aligned_to align)) 4 }
 {
     let taken = references_in(notes);
     let first = laying.waiting.len() - taken;
     let waiting = &laying.waiting[first..];
-    let _start = lay_fields(&mut laying.tail, align, notes, bytes, waiting);
+    let _start = lay_fields(&mut laying.tail, align.bytes(), notes, bytes, waiting);
     let end = close_table(&mut laying.tail, &mut laying.places, number, vtable);
     let _end = laying.tail.count(); // its contract: what is laid is short
     wait(&mut laying.waiting, taken, end);

@@ -53,12 +53,12 @@ fn op_end(tape: &Tape, known: usize, op: Op, notes: &[NotedField], laid: usize) 
     ensures exact { result ≡ op_end tape.now.vtables known op notes.now laid }
 {
     match op {
-        Op::Data { align, size } => data_end(align as usize, size as usize, laid),
+        Op::Data { align, size } => data_end(align.bytes(), size as usize, laid),
         Op::References { count } => data_end(4, 4 + count as usize * 4, laid),
         Op::Table { align, vtable, .. } => {
             let number = vtable as usize;
             let size = tape.vtable(number).len();
-            table_end(align as usize, size_in(notes), size, number < known, laid)
+            table_end(align.bytes(), size_in(notes), size, number < known, laid)
         }
     }
 }
@@ -106,9 +106,9 @@ fn op_most(op: Op, most: usize) -> usize
     ensures least { most ≤ result }
 {
     match op {
-        Op::Data { align, .. } => most.max(align as usize),
+        Op::Data { align, .. } => most.max(align.bytes()),
         Op::References { .. } => most.max(4),
-        Op::Table { align, .. } => most.max(align as usize).max(4),
+        Op::Table { align, .. } => most.max(align.bytes()).max(4),
     }
 }
 

@@ -66,18 +66,11 @@ fn lay_op(laying: &mut Laying, tape: &Tape, op: Op, notes: &[NotedField], bytes:
     ensures most { laying.new.tail.most ≡ op_most op laying.old.tail.most }
 {
     match op {
-        Op::Data { align, .. } => lay_data(laying, align as usize, bytes),
+        Op::Data { align, .. } => lay_data(laying, align, bytes),
         Op::References { count } => lay_references(laying, count as usize),
         Op::Table { align, vtable, .. } => {
             let number = vtable as usize;
-            lay_table(
-                laying,
-                align as usize,
-                number,
-                tape.vtable(number),
-                notes,
-                bytes,
-            );
+            lay_table(laying, align, number, tape.vtable(number), notes, bytes);
         }
     }
 }

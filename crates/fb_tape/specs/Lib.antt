@@ -1,3 +1,4 @@
+pub mod Alignments
 pub mod StoredFields
 pub mod Taken
 pub mod InlineBytes

@@ -15,6 +15,7 @@ use Rattle.fb_value.specs.Num.{Bytes}
 use Rattle.fb_value.specs.Places.{table_part, text_part, vector_part}
 use Rattle.fb_value.specs.Room.{table_room}
 use Rattle.fb_value.specs.View.{parts_in, entries_in}
+use Rattle.fb_tape.specs.Alignments.{aligned_to}
 use Rattle.fb_tape.specs.InlineBytes.{AreInlineBytes}
 use Rattle.fb_tape.specs.LayingOrder.{laying_order}
 use Rattle.fb_tape.specs.NamedParts.{NamedPart, elements_apart, entries_apart}
@@ -115,21 +116,21 @@ pub record LaysTable (L : LaidSchema) (vtables : List Bytes) (fields align vtabl
 
 abbrev pub Lays : LaidSchema → List Bytes → Op → ℕ → List NamedPart → List NotedField → Bytes → List NamedPart → Type 0
 Lays L vtables (Data align size) room ps notes bytes qs =
-    (notes ≡ []) × LaysData L align size room ps bytes qs
+    (notes ≡ []) × LaysData L (aligned_to align) size room ps bytes qs
 Lays L vtables (References count) room ps notes bytes qs =
     (notes ≡ []) × (bytes ≡ []) × LaysReferences L count room ps qs
-Lays L vtables (Table fields align vtable) room ps notes bytes qs =
-    LaysTable L vtables fields align vtable room ps notes bytes qs
+Lays L vtables (Table align fields vtable) room ps notes bytes qs =
+    LaysTable L vtables fields (aligned_to align) vtable room ps notes bytes qs
 
 -- ---- operations one after the other
 
 -- Vtables are numbered as they come: a table's is one of the n that came before, or the next.
 abbrev pub IsInTurn : ℕ → Op → Type 0
-IsInTurn n (Table fields align vtable) = vtable ≤ n
+IsInTurn n (Table align fields vtable) = vtable ≤ n
 IsInTurn n _ = Unit {0}
 
 abbrev pub known_after : ℕ → Op → ℕ
-known_after n (Table fields align vtable) = max n (suc vtable)
+known_after n (Table align fields vtable) = max n (suc vtable)
 known_after n _ = n
 
 -- The operation is first, with what is noted for it, and `others` holds of the others: of the vtables that came, of the

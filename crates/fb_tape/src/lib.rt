@@ -9,5 +9,5 @@ mod stored_tables;
 mod tape;
 
 pub use open_fields::OpenFields;
-pub use ops::{NotedField, Op};
+pub use ops::{Alignment, NotedField, Op};
 pub use tape::Tape;

@@ -1,4 +1,31 @@
 //! The operations of a tape.
+ghost use Rattle.std.specs.Prelude.{◌≡◌, ◌≤◌};
+ghost use Rattle.fb_tape.specs.Alignments.{aligned_to};
+
+/// An alignment, a power of two that is 256 at most, in one byte: one less than it is.
+#[derive(Clone, Copy)]
+pub struct Alignment {
+    less_one: u8,
+}
+
+impl Alignment {
+    pub(crate) fn of(number: u16) -> Alignment
+        requires some { 1 ≤ number }
+        requires few { number ≤ 256 }
+        ensures { aligned_to result ≡ number }
+    {
+        Alignment {
+            less_one: (number - 1) as u8,
+        }
+    }
+
+    /// How many bytes it is.
+    pub fn bytes(self) -> usize
+        ensures { result ≡ aligned_to self }
+    {
+        self.less_one as usize + 1
+    }
+}
 
 /// What is laid next. An operation that refers to parts takes them from those that wait, of which it knows the count;
 /// the part that it lays waits in turn.
@@ -7,7 +34,7 @@ pub enum Op {
     /// A text, or a vector of numbers or structs: the tape's next bytes, of which the first four are the count.
     Data {
         /// What the bytes behind the count are aligned to.
-        align: u16,
+        align: Alignment,
         size: u32,
     },
     /// A vector of references to the parts that were laid last.
@@ -16,9 +43,9 @@ pub enum Op {
     },
     /// A table with the tape's next fields, whose references are to the parts that were laid last.
     Table {
-        fields: u16,
         /// What the end of its fields is aligned to.
-        align: u16,
+        align: Alignment,
+        fields: u16,
         vtable: u32,
     },
 }
@@ -31,6 +58,6 @@ pub enum NotedField {
     Inline(u16),
 }
 
-const _: () = prove!(size_of::<Op>() <= 12);
+const _: () = prove!(size_of::<Op>() == 8);
 
 const _: () = prove!(size_of::<NotedField>() == 4);

@@ -24,7 +24,7 @@ ghost use Rattle.fb_tape.specs.declared.ops.Op.TheVariants.{Data};
 use crate::inline_bytes::push_inline;
 use crate::known_vtables::KnownVtables;
 use crate::open_fields::OpenFields;
-use crate::ops::{NotedField, Op};
+use crate::ops::{Alignment, NotedField, Op};
 use crate::stored_tables::{Offsets, note_table, start_align};
 use byteorder::{ByteOrder, LittleEndian};
 use fb_layout::Layout;
@@ -187,7 +187,7 @@ impl<'l> Tape<'l> {
         self.push_count(text.len())?;
         self.push_bytes(text.as_bytes())?;
         self.push_bytes(&[0])?;
-        self.finish_data(4)
+        self.finish_data(Alignment::of(4))
     }
 
     /// Begins a vector of numbers or structs, whose elements come next.
@@ -253,11 +253,11 @@ impl<'l> Tape<'l> {
             return Ok(());
         }
         let align = layout.align_of(kind).max(4) as u16;
-        self.finish_data(align)
+        self.finish_data(Alignment::of(align))
     }
 
     /// Notes that the unfinished bytes are laid, of which a buffer has fewer than 2^32.
-    fn finish_data(&mut self, align: u16) -> Result<(), AllocError>
+    fn finish_data(&mut self, align: Alignment) -> Result<(), AllocError>
         ensures adds { OnOk result (self.new ≡ record self.old {
           ops = self.old.ops ++ (Data align (length self.old.unfinished % 2 ^ 32) ∷ []);
           bytes = self.old.bytes ++ self.old.unfinished;
@@ -343,8 +343,8 @@ impl<'l> Tape<'l> {
         let vtable = self.vtables.number_of(self.scratch.as_slice())?;
         self.finished = self.bytes.len();
         self.ops.push(Op::Table {
+            align: Alignment::of(align),
             fields: (opened.len() - from) as u16,
-            align,
             vtable: (vtable % SIZES) as u32,
         })?;
         Ok(())

@@ -8,6 +8,7 @@ use Rattle.fb_tape.specs.NamedParts.{NamedPart}
 use Rattle.fb_tape.specs.Tapes.{Lays, Lay, known_after}
 use Rattle.fb_tape.specs.declared.ops.NotedField.{NotedField}
 use Rattle.fb_tape.specs.declared.ops.Op.{Op}
+use Rattle.fb_tape.specs.Alignments.{aligned_to}
 use Rattle.fb_tape.specs.declared.ops.Op.TheVariants.{Data, References, Table}
 use Rattle.fb_build.specs.Fields.{stored_in}
 use Rattle.fb_build.specs.OpLengths.{op_most, ops_most}
@@ -21,10 +22,10 @@ op_low : (L : LaidSchema) (vtables : List Bytes) (op : Op) (room most : ℕ) (ps
     → Lays L vtables op room ps notes bytes qs → most ≤ greatest L → op_most op most ≤ greatest L
 op_low L vtables (Data align size) room most ps notes bytes qs made lays low =
     let d = lays.1 in
-    let is = data_aligned L d.part align bytes d.is (omega arith) in
+    let is = data_aligned L d.part (aligned_to align) bytes d.is (omega arith) in
     omega (arith, is.2, low)
 op_low L vtables (References count) room most ps notes bytes qs made lays low = omega (arith, low)
-op_low L vtables (Table fields align number) room most ps notes bytes qs made lays low =
+op_low L vtables (Table align fields number) room most ps notes bytes qs made lays low =
     let fs = slots_of L lays.table in
     let table = known_in L lays.table lays.entries made lays.fits lays.whole in
     let own = stored_low L fs (stored_in fs lays.entries) (λ k f at. inline_low L f.shape (table.known.low k f at)) in

@@ -16,6 +16,8 @@ use Rattle.fb_tape.specs.NotedFields.{AreNoted, IsNoted}
 use Rattle.fb_tape.specs.Vtables.{table_size}
 use Rattle.fb_tape.specs.declared.ops.NotedField.{NotedField}
 use Rattle.fb_tape.specs.declared.ops.NotedField.TheVariants.{Reference, Inline}
+use Rattle.fb_tape.specs.Alignments.{aligned_to}
+use Rattle.fb_tape.specs.declared.ops.Alignment.{Alignment}
 use Rattle.fb_tape.specs.declared.ops.Op.TheVariants.{Table}
 use Rattle.fb_build.specs.Fields.{stored_in, stored_align}
 use Rattle.fb_build.specs.Lengths.{fields_end, table_end}
@@ -97,9 +99,10 @@ vtable_short L vtables t entries start targets places number vt o w =
 
 -- ---- a table is laid: from a its fields, to o, and what is before them, to b
 
-module _ (L : LaidSchema) (vtables : List Bytes) (fields align number room : ℕ) (ps : List NamedPart) (vt : Bytes)
-    (notes : List NotedField) (bytes : Bytes) (qs : List NamedPart) (ends places : List ℕ) (a : TailSeen)
-    (m : MayStep L vtables (Table fields align number) room ps vt notes bytes qs ends places a) where
+module _ (L : LaidSchema) (vtables : List Bytes) (fields : ℕ) (align : Alignment) (number room : ℕ)
+    (ps : List NamedPart) (vt : Bytes) (notes : List NotedField) (bytes : Bytes) (qs : List NamedPart)
+    (ends places : List ℕ) (a : TailSeen)
+    (m : MayStep L vtables (Table align fields number) room ps vt notes bytes qs ends places a) where
   abbrev t : ℕ
   t = m.lays.table
 
@@ -155,14 +158,15 @@ module _ (L : LaidSchema) (vtables : List Bytes) (fields align number room : ℕ
       m.lays.takes k p is in
       rw taken_many at lies
 
-  pub vtable_room : (o : TailSeen) → Grows a o → length o.bytes ≡ fields_end align (notes_size notes) (length a.bytes)
+  pub vtable_room : (o : TailSeen) → Grows a o
+      → length o.bytes ≡ fields_end (aligned_to align) (notes_size notes) (length a.bytes)
       → table_end (length vt) number (length places) (length o.bytes) ≤ length o.bytes + o.free
   vtable_room o g long =
       let enough = rw m.has at m.enough in
       let grown = grown_long a o g in
       rw long (omega (arith, enough, grown))
 
-  pub to_be_laid : AreToBeLaid L fs xs targets align notes bytes es a
+  pub to_be_laid : AreToBeLaid L fs xs targets (aligned_to align) notes bytes es a
   to_be_laid = record {
     known = known.known;
     noted = m.lays.noted;
@@ -175,8 +179,8 @@ module _ (L : LaidSchema) (vtables : List Bytes) (fields align number room : ℕ
     room = omega (arith, m.enough, sizes_noted L fs xs notes bytes known.known m.lays.noted);
   }
 
-  module _ (start : ℕ) (o : TailSeen) (laid : AreLaidNow L fs xs targets start o) (front : FieldsFront a o start align)
-      (g : Grows a o) where
+  module _ (start : ℕ) (o : TailSeen) (laid : AreLaidNow L fs xs targets start o)
+      (front : FieldsFront a o start (aligned_to align)) (g : Grows a o) where
     pub table_open : IsTableOpen L vtables t m.lays.entries start targets places number vt o
     table_open = record {
       known = known;
@@ -197,7 +201,7 @@ module _ (L : LaidSchema) (vtables : List Bytes) (fields align number room : ℕ
       (m.made.tables t).few,
     )
 
-    pub table_waits : (after : List ℕ) (e : ℕ) (b : TailSeen) → Grows o b → o.most ≡ max a.most align
+    pub table_waits : (after : List ℕ) (e : ℕ) (b : TailSeen) → Grows o b → o.most ≡ max a.most (aligned_to align)
         → b.most ≡ max o.most 4 → IsTableClosed L vtables t m.lays.entries start targets places after e o b
         → AreWaiting L vtables qs (take (length ends - notes_references notes) ends ++ (e ∷ [])) after b
     table_waits after e b g2 most most2 c =

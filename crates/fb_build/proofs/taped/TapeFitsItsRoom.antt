@@ -20,6 +20,8 @@ use Rattle.fb_tape.specs.Tapes.{Lays, LaysTable, known_after}
 use Rattle.fb_tape.specs.Vtables.{offsets_from, trimmed, vtable_of, table_size}
 use Rattle.fb_tape.specs.declared.ops.NotedField.{NotedField}
 use Rattle.fb_tape.specs.declared.ops.Op.{Op}
+use Rattle.fb_tape.specs.Alignments.{aligned_to}
+use Rattle.fb_tape.specs.declared.ops.Alignment.{Alignment}
 use Rattle.fb_tape.specs.declared.ops.Op.TheVariants.{Data, References, Table}
 use Rattle.fb_build.specs.FieldOrder.{before}
 use Rattle.fb_build.specs.Fields.{AreKnown, fields_size, stored_in}
@@ -151,39 +153,41 @@ table_sum : (z fs z4 one size n room table laid align : ℕ) → z ≤ align - 1
     → (laid + (z + fs)) + z4 + one ≤ laid + room
 table_sum z fs z4 one size n room table laid align a b c d e f = omega (arith, a, b, c, d, e, f)
 
-table_bound : (L : LaidSchema) (vtables : List Bytes) (known fields align number room : ℕ) (ps : List NamedPart)
+table_bound : (L : LaidSchema) (vtables : List Bytes) (known fields : ℕ) (align : Alignment) (number room : ℕ)
+    (ps : List NamedPart)
     (notes : List NotedField) (bytes : Bytes) (qs : List NamedPart) (laid : ℕ) → IsWellMade L
-    → LaysTable L vtables fields align number room ps notes bytes qs
-    → op_end vtables known (Table fields align number) notes laid ≤ laid + room
+    → LaysTable L vtables fields (aligned_to align) number room ps notes bytes qs
+    → op_end vtables known (Table align fields number) notes laid ≤ laid + room
 table_bound L vtables known fields align number room ps notes bytes qs laid made t =
     let fs = slots_of L t.table in
     let zs = stored_in fs t.entries in
     let table = known_in L t.table t.entries made t.fits t.whole in
-    let power : IsAlignment align = rw t.align_is (stored_aligned L 4 fs zs four_power table.known.each) in
-    let least : 4 ≤ align = omega (arith, t.align_is) in
+    let power : IsAlignment (aligned_to align) = rw t.align_is (stored_aligned L 4 fs zs four_power table.known.each) in
+    let least : 4 ≤ aligned_to align = omega (arith, t.align_is) in
     let size = sizes_noted L fs zs notes bytes table.known t.noted in
-    let first = zeros_few align laid (power_some align power) in
-    let second = fields_padded align (fields_size L fs zs) laid power least in
+    let first = zeros_few (aligned_to align) laid (power_some (aligned_to align) power) in
+    let second = fields_padded (aligned_to align) (fields_size L fs zs) laid power least in
     let few = vtable_few L fs zs in
     let fits = table_fits_room L t.table zs table.known in
-    let fits2 : ((align - 1) + fields_size L fs zs) + (ceil4 (fields_size L fs zs) + (8 + 2 * length fs))
+    let fits2 : ((aligned_to align - 1) + fields_size L fs zs) + (ceil4 (fields_size L fs zs) + (8 + 2 * length fs))
     ≤ Rattle.fb_value.specs.Room.table_room L t.table + fields_size L fs zs = omega (arith, fits, t.align_is) in
     let one = vtable_most (nat_lt number known) (length (vtable_of L fs zs)) in
-    rw (t.vtable_is, size) (table_sum (zeros_to align laid) (fields_size L fs zs) _ _ (length (vtable_of L fs zs))
-    (length fs) room _ laid align first second one few fits2 t.enough)
+    rw (t.vtable_is, size) (table_sum (zeros_to (aligned_to align) laid) (fields_size L fs zs) _ _
+    (length (vtable_of L fs zs))
+    (length fs) room _ laid (aligned_to align) first second one few fits2 t.enough)
 
 op_bound : (L : LaidSchema) (vtables : List Bytes) (known : ℕ) (op : Op) (room : ℕ) (ps : List NamedPart)
     (notes : List NotedField) (bytes : Bytes) (qs : List NamedPart) (laid : ℕ) → IsWellMade L
     → Lays L vtables op room ps notes bytes qs → op_end vtables known op notes laid ≤ laid + room
 op_bound L vtables known (Data align size) room ps notes bytes qs laid made lays =
     let d = lays.1 in
-    let is = data_aligned L d.part align bytes d.is (omega arith) in
-    let few = zeros_few align (laid + (size - 4)) (power_some align is.0) in
+    let is = data_aligned L d.part (aligned_to align) bytes d.is (omega arith) in
+    let few = zeros_few (aligned_to align) (laid + (size - 4)) (power_some (aligned_to align) is.0) in
     omega (arith, few, d.enough)
 op_bound L vtables known (References count) room ps notes bytes qs laid made lays =
     let few = zeros_few 4 (laid + ((4 + count * 4) - 4)) (omega arith) in
     omega (arith, few, lays.2.enough)
-op_bound L vtables known (Table fields align number) room ps notes bytes qs laid made lays =
+op_bound L vtables known (Table align fields number) room ps notes bytes qs laid made lays =
     table_bound L vtables known fields align number room ps notes bytes qs laid made lays
 
 op_may : (L : LaidSchema) (vtables : List Bytes) (op : Op) (room : ℕ) (ps : List NamedPart)
@@ -191,11 +195,11 @@ op_may : (L : LaidSchema) (vtables : List Bytes) (op : Op) (room : ℕ) (ps : Li
     → MayCount vtables op
 op_may L vtables (Data align size) room ps notes bytes qs lays =
     let d = lays.1 in
-    let is = data_aligned L d.part align bytes d.is (omega arith) in
-    (power_some align is.0, omega (arith, is.1, d.size_is))
+    let is = data_aligned L d.part (aligned_to align) bytes d.is (omega arith) in
+    omega (arith, is.1, d.size_is)
 op_may L vtables (References count) room ps notes bytes qs lays = tt
-op_may L vtables (Table fields align number) room ps notes bytes qs lays =
-    (omega (arith, lays.align_is), slice_get_within vtables number _ lays.vtable_is)
+op_may L vtables (Table align fields number) room ps notes bytes qs lays =
+    slice_get_within vtables number _ lays.vtable_is
 
 -- ---- the next operation
 

@@ -23,12 +23,16 @@ use Rattle.fb_build.specs.Waiting.{MayStep, HasVtable}
 use Rattle.fb_build.proofs.tail.WhatIsLaidStaysLaid.{grown_long}
 use Rattle.fb_build.specs.declared.laying.Laying.{Laying}
 
+-- what a slice of operations has past its end
+abbrev pub no_op : Op
+no_op = Data (record { less_one = 0 }) 0
+
 -- the next operation and those behind it
 pub op_behind : (ops : List Op) (i : ℕ) → i < length ops
-    → drop i ops ≡ slice_index_or ops i (Data 0 0) ∷ drop (i + 1) ops
+    → drop i ops ≡ slice_index_or ops i no_op ∷ drop (i + 1) ops
 op_behind ops i low =
     let one : suc i ≡ i + 1 = omega arith in
-    subst (λ (j : ℕ). drop i ops ≡ slice_index_or ops i (Data 0 0) ∷ drop j ops) one (drop-cons ops i (Data 0 0) low)
+    subst (λ (j : ℕ). drop i ops ≡ slice_index_or ops i no_op ∷ drop j ops) one (drop-cons ops i no_op low)
 
 -- ---- what an operation has of the fields and bytes
 
@@ -62,14 +66,14 @@ pub own_fields : (L : LaidSchema) (vtables : List Bytes) (op : Op) (room : ℕ) 
     → length notes ≡ op_fields op
 own_fields L vtables (Data align size) room ps notes bytes qs lays = ap length lays.0
 own_fields L vtables (References count) room ps notes bytes qs lays = ap length lays.0
-own_fields L vtables (Table fields align number) room ps notes bytes qs lays = sym lays.fields_are
+own_fields L vtables (Table align fields number) room ps notes bytes qs lays = sym lays.fields_are
 
 own_bytes : (L : LaidSchema) (vtables : List Bytes) (op : Op) (room : ℕ) (ps : List NamedPart)
     (notes : List NotedField) (bytes : Bytes) (qs : List NamedPart) → Lays L vtables op room ps notes bytes qs
     → length bytes ≡ op_bytes op notes
 own_bytes L vtables (Data align size) room ps notes bytes qs lays = sym lays.1.size_is
 own_bytes L vtables (References count) room ps notes bytes qs lays = ap length lays.1
-own_bytes L vtables (Table fields align number) room ps notes bytes qs lays =
+own_bytes L vtables (Table align fields number) room ps notes bytes qs lays =
     noted_bytes L _ _ _ notes bytes lays.noted
 
 has_vtable : (L : LaidSchema) (vtables : List Bytes) (op : Op) (room : ℕ) (ps : List NamedPart)
@@ -77,14 +81,14 @@ has_vtable : (L : LaidSchema) (vtables : List Bytes) (op : Op) (room : ℕ) (ps 
     → HasVtable vtables op (op_vtable vtables op)
 has_vtable L vtables (Data align size) room ps notes bytes qs lays = tt
 has_vtable L vtables (References count) room ps notes bytes qs lays = tt
-has_vtable L vtables (Table fields align number) room ps notes bytes qs lays =
+has_vtable L vtables (Table align fields number) room ps notes bytes qs lays =
     rw lays.vtable_is refl
 
 op_grow : (vtables : List Bytes) (known : ℕ) (op : Op) (notes : List NotedField) (laid : ℕ)
     → laid ≤ op_end vtables known op notes laid
 op_grow vtables known (Data align size) notes laid = omega arith
 op_grow vtables known (References count) notes laid = omega arith
-op_grow vtables known (Table fields align number) notes laid = omega arith
+op_grow vtables known (Table align fields number) notes laid = omega arith
 
 ops_grow : (vtables : List Bytes) (known : ℕ) (ops : List Op) (notes : List NotedField) (laid : ℕ)
     → laid ≤ ops_end vtables known ops notes laid

@@ -137,7 +137,8 @@ no_field [] none = refl
 no_field (x ∷ xs) none = absurd (omega (arith, none))
 
 -- Once as many are noted as there are, none is left.
-pub none_left : (size : ℕ) (left all : List OpenField) (notes notes_before : List NotedField) (bytes bytes_before : Bytes)
+pub none_left : (size : ℕ) (left all : List OpenField) (notes notes_before : List NotedField)
+    (bytes bytes_before : Bytes)
     (laid laid_before : ℕ) (slots slots_before : List ℕ) → length notes ≡ length notes_before + length all
     → Noting size left all notes notes_before bytes bytes_before laid laid_before slots slots_before → left ≡ []
 none_left size left all notes notes_before bytes bytes_before laid laid_before slots slots_before many h =

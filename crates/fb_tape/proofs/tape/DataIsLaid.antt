@@ -13,16 +13,18 @@ use Rattle.fb_value.specs.Places.{text_part, vector_part}
 use Rattle.fb_value.specs.Room.{vector_room}
 use Rattle.fb_value.specs.UpTo.{at_most_usize}
 use Rattle.fb_value.specs.View.{parts_in}
+use Rattle.fb_tape.specs.Alignments.{aligned_to}
 use Rattle.fb_tape.specs.InlineBytes.{AreInlineBytes, AddsInline}
 use Rattle.fb_tape.specs.NamedParts.{NamedPart}
 use Rattle.fb_tape.specs.StoredFields.{is_reference, ItemsKnown}
 use Rattle.fb_tape.specs.Tapes.{Taped, Waits, IsData, AreElementBytes, IsUnfinished}
+use Rattle.fb_tape.specs.declared.ops.Alignment.{Alignment}
 use Rattle.fb_tape.specs.declared.ops.Op.TheVariants.{Data}
 use Rattle.fb_tape.proofs.tape.OneMoreIsLaid.{part_waits}
 use Rattle.fb_tape.proofs.tape.RoomsAreSummedUp.{with_room, room_known, not_over}
 
 -- The unfinished bytes were noted as laid.
-pub record Finishes (before after : Taped) (align : ℕ) (own : Bytes) (room : ℕ) : Type 0 where
+pub record Finishes (before after : Taped) (align : Alignment) (own : Bytes) (room : ℕ) : Type 0 where
   pub layout : after.layout ≡ before.layout
   pub ops : after.ops ≡ before.ops ++ (Data align (length own % 2 ^ 32) ∷ [])
   pub notes : after.notes ≡ before.notes
@@ -30,9 +32,10 @@ pub record Finishes (before after : Taped) (align : ℕ) (own : Bytes) (room : �
   pub vtables : after.vtables ≡ before.vtables
   pub room_is : after.room ≡ before.room + room
 
-data_waits : (before after : Taped) (part : NamedPart) (align : ℕ) (own : Bytes) (room : ℕ) (ps : List NamedPart)
-    → Finishes before after align own room → IsData before.layout part align own
-    → length own + (align - 1) ≤ room → after.room ≤ 2147483647
+data_waits : (before after : Taped) (part : NamedPart) (align : Alignment) (own : Bytes) (room : ℕ)
+    (ps : List NamedPart)
+    → Finishes before after align own room → IsData before.layout part (aligned_to align) own
+    → length own + (aligned_to align - 1) ≤ room → after.room ≤ 2147483647
     → Waits before ps → Waits after (ps ++ (part ∷ []))
 data_waits before after part align own room ps h is enough low waits =
     let small : length own % 2 ^ 32 ≡ length own = omega (arith, h.room_is, low, enough) in
@@ -57,14 +60,14 @@ data_waits before after part align own room ps h is enough low waits =
 abbrev pub with_bytes : Taped → Bytes → Taped
 with_bytes t own = record t { unfinished = t.unfinished ++ own }
 
-abbrev pub with_data : Taped → ℕ → Taped
+abbrev pub with_data : Taped → Alignment → Taped
 with_data t align = record t {
   ops = t.ops ++ (Data align (length t.unfinished % 2 ^ 32) ∷ []);
   bytes = t.bytes ++ t.unfinished;
   unfinished = [];
 }
 
-pub finished : (before filled after : Taped) (align room sum : ℕ) (own : Bytes)
+pub finished : (before filled after : Taped) (align : Alignment) (room sum : ℕ) (own : Bytes)
     → filled ≡ record before { room = sum; unfinished = own } → after ≡ with_data filled align
     → sum ≡ before.room + room → Finishes before after align own room
 finished before filled after align room sum own e1 e2 e3 = record {
@@ -82,21 +85,22 @@ text_bytes : (before sized counted most filled : Taped) (text : Bytes) (room : �
     → filled ≡ record before { room = room; unfinished = little_bytes 4 (length text) ++ (text ++ (0 ∷ [])) }
 text_bytes before sized counted most filled text room none e1 e2 e3 e4 = rw (e4, e3, e2, e1, none, append_assoc) refl
 
-pub text_waits : (before sized counted most filled after : Taped) (text : Bytes) (room : ℕ) (ps : List NamedPart)
-    → IsUtf8 text → before.unfinished ≡ [] → sized ≡ with_room before room
+pub text_waits : (before sized counted most filled after : Taped) (text : Bytes) (align : Alignment) (room : ℕ)
+    (ps : List NamedPart) → IsUtf8 text → before.unfinished ≡ [] → sized ≡ with_room before room
     → counted ≡ with_bytes sized (little_bytes 4 (length text)) → most ≡ with_bytes counted text
-    → filled ≡ with_bytes most (0 ∷ []) → after ≡ with_data filled 4 → room ≡ before.room + (length text + 8)
-    → Waits before ps → Waits after (ps ++ (record { target = text_part; value = a_text text } ∷ []))
-text_waits before sized counted most filled after text room ps utf8 none e1 e2 e3 e4 e5 sum waits low =
+    → filled ≡ with_bytes most (0 ∷ []) → after ≡ with_data filled align → aligned_to align ≡ 4
+    → room ≡ before.room + (length text + 8) → Waits before ps
+    → Waits after (ps ++ (record { target = text_part; value = a_text text } ∷ []))
+text_waits before sized counted most filled after text align room ps utf8 none e1 e2 e3 e4 e5 four sum waits low =
     let own : Bytes = little_bytes 4 (length text) ++ (text ++ (0 ∷ [])) in
     let long : length own ≡ length text + 5 =
     length-append (little_bytes 4 (length text)) (text ++ (0 ∷ []))
     ∙ ap (λ n. 4 + n) (length-append text (0 ∷ [])) ∙ omega arith in
-    data_waits before after (record { target = text_part; value = a_text text }) 4 own (length text + 8) ps
-    (finished before filled after 4 (length text + 8) room own
+    data_waits before after (record { target = text_part; value = a_text text }) align own (length text + 8) ps
+    (finished before filled after align (length text + 8) room own
     (text_bytes before sized counted most filled text room none e1 e2 e3 e4) e5 sum)
-    (inl (record { text = text; utf8 = utf8; part_is = refl; align_is = refl; bytes_are = refl }))
-    (omega (arith, long)) low waits low
+    (inl (record { text = text; utf8 = utf8; part_is = refl; align_is = four; bytes_are = refl }))
+    (omega (arith, long, four)) low waits low
 
 -- ---- vectors
 
@@ -139,48 +143,48 @@ element_added L kind count ds d finished before after within added h = record {
   stand = one_element_more L kind d added.0 added.2 ds h.element_bytes h.stand;
 }
 
-pub vector_waits : (before after : Taped) (kind : StoredKind) (ds : List Datum) (own : Bytes) (ps : List NamedPart)
+pub vector_waits : (before after : Taped) (kind : StoredKind) (align : Alignment) (ds : List Datum) (own : Bytes)
+    (ps : List NamedPart) → aligned_to align ≡ max 4 (align_of before.layout kind)
     → IsUnfinished before.layout kind (length ds) ds own → is_reference (one_of kind) ≡ false
     → ItemsKnown before.layout kind ds → align_of before.layout kind ≤ greatest before.layout
-    → Finishes before after (max 4 (align_of before.layout kind)) own (vector_room before.layout kind (length ds))
+    → Finishes before after align own (vector_room before.layout kind (length ds))
     → after.room ≤ 2147483647 → Waits before ps
     → Waits after (ps ++ (record { target = vector_part kind; value = a_vector (parts_in ds) } ∷ []))
-vector_waits before after kind ds own ps begun inline known low h small waits =
+vector_waits before after kind align ds own ps widest begun inline known low h small waits =
     let elements = elements_long before.layout kind ds begun.element_bytes begun.stand in
     let long : length own ≡ 4 + length ds * size_of before.layout kind =
     ap length begun.bytes_are ∙ length-append (little_bytes 4 (length ds)) begun.element_bytes
     ∙ ap (λ n. 4 + n) elements in
     data_waits before after (record { target = vector_part kind; value = a_vector (parts_in ds) })
-    (max 4 (align_of before.layout kind)) own (vector_room before.layout kind (length ds)) ps h
+    align own (vector_room before.layout kind (length ds)) ps h
     (inr (record {
       kind = kind;
       elements = ds;
       element_bytes = begun.element_bytes;
       part_is = refl;
-      align_is = refl;
+      align_is = widest;
       bytes_are = begun.bytes_are;
       stand = begun.stand;
       inline = inline;
       known = known;
       low = low;
-    })) (omega (arith, long)) small waits
+    })) (omega (arith, long, widest)) small waits
 
-pub vector_closed : (before sized after : Taped) (kind : StoredKind) (count align room : ℕ) (ds : List Datum)
-    (ps : List NamedPart) → sized ≡ with_room before (at_most_usize (before.room + room))
+pub vector_closed : (before sized after : Taped) (kind : StoredKind) (align : Alignment) (count room : ℕ)
+    (ds : List Datum) (ps : List NamedPart) → sized ≡ with_room before (at_most_usize (before.room + room))
     → room ≡ at_most_usize (vector_room before.layout kind count) → (IsTrue false ↔ (2147483647 < sized.room))
-    → after ≡ with_data sized align → align ≡ max (align_of before.layout kind) 4
+    → after ≡ with_data sized align → aligned_to align ≡ max (align_of before.layout kind) 4
     → is_reference (one_of kind) ≡ false → align_of before.layout kind ≤ greatest before.layout → count ≡ length ds
     → ItemsKnown before.layout kind ds
     → (before.room + vector_room before.layout kind count ≤ 2147483647
     → IsUnfinished before.layout kind count ds before.unfinished) → Waits before ps
     → Waits after (ps ++ (record { target = vector_part kind; value = a_vector (parts_in ds) } ∷ []))
-vector_closed before sized after kind count align room ds ps e1 own over e2 widest inline low many known begun waits
+vector_closed before sized after kind align count room ds ps e1 own over e2 widest inline low many known begun waits
     small =
     let sum = room_known before sized room (vector_room before.layout kind count) e1 own over in
     let fits : before.room + vector_room before.layout kind count ≤ 2147483647 =
     omega (arith, sum, not_over sized.room over, ap (λ (t : Taped). t.room) e1) in
-    vector_waits before after kind ds before.unfinished ps (rw (← many) (begun fits)) inline known low
-    (finished before sized after (max 4 (align_of before.layout kind)) (vector_room before.layout kind (length ds))
-    (at_most_usize (before.room + room)) before.unfinished e1
-    (e2 ∙ ap (with_data sized) (omega (arith, widest)))
+    vector_waits before after kind align ds before.unfinished ps (omega (arith, widest)) (rw (← many) (begun fits))
+    inline known low (finished before sized after align (vector_room before.layout kind (length ds))
+    (at_most_usize (before.room + room)) before.unfinished e1 e2
     (rw (← many) sum)) small waits small

@@ -9,6 +9,7 @@ use Rattle.fb_tape.specs.NamedParts.{NamedPart}
 use Rattle.fb_tape.specs.Tapes.{Taped, Waits, Lays, Lay, IsInTurn, known_after}
 use Rattle.fb_tape.specs.declared.ops.NotedField.{NotedField}
 use Rattle.fb_tape.specs.declared.ops.Op.{Op}
+use Rattle.fb_tape.specs.declared.ops.Alignment.{Alignment}
 use Rattle.fb_tape.specs.declared.ops.Op.TheVariants.{Data, References, Table}
 
 -- Each vtable keeps its number.
@@ -21,7 +22,7 @@ lays_kept : (L : LaidSchema) (before after : List Bytes) → KeepNumbers before 
     → Lays L before op room ps notes bytes qs → Lays L after op room ps notes bytes qs
 lays_kept L before after keep (Data align size) room ps notes bytes qs h = h
 lays_kept L before after keep (References count) room ps notes bytes qs h = h
-lays_kept L before after keep (Table fields align vtable) room ps notes bytes qs h =
+lays_kept L before after keep (Table align fields vtable) room ps notes bytes qs h =
     record {
       table = h.table;
       entries = h.entries;
@@ -84,7 +85,7 @@ one_more L before after op own own_notes own_bytes qs rs keep turn next lays n r
 
 -- Bytes that refer to nothing, or a vector of references.
 abbrev pub HasNoVtable : Op → Type 0
-HasNoVtable (Table fields align vtable) = ⊥
+HasNoVtable (Table align fields vtable) = ⊥
 HasNoVtable _ = Unit {0}
 
 pub part_is_laid : (L : LaidSchema) (vtables : List Bytes) (op : Op) (own : ℕ) (own_notes : List NotedField)
@@ -96,7 +97,7 @@ part_is_laid L vtables (Data align size) own own_notes own_bytes qs rs none lays
     one_more L vtables vtables (Data align size) own own_notes own_bytes qs rs (λ i v e. e) tt refl lays
 part_is_laid L vtables (References count) own own_notes own_bytes qs rs none lays =
     one_more L vtables vtables (References count) own own_notes own_bytes qs rs (λ i v e. e) tt refl lays
-part_is_laid L vtables (Table fields align vtable) own own_notes own_bytes qs rs none lays = absurd none
+part_is_laid L vtables (Table align fields vtable) own own_notes own_bytes qs rs none lays = absurd none
 
 -- ---- a table, whose vtable was known before or comes with it
 
@@ -105,24 +106,25 @@ kept_in_front [] new i vtable e = cc
 kept_in_front (x ∷ before) new zero vtable e = e
 kept_in_front (x ∷ before) new (suc i) vtable e = kept_in_front before new i vtable e
 
-pub table_is_laid : (L : LaidSchema) (before after : List Bytes) (vtable : Bytes) (number fields align own : ℕ)
-    (own_notes : List NotedField) (own_bytes : Bytes) (qs rs : List NamedPart) → IsNumbered before after vtable number
-    → Lays L after (Table fields align number) own qs own_notes own_bytes rs
+pub table_is_laid : (L : LaidSchema) (before after : List Bytes) (vtable : Bytes) (align : Alignment)
+    (number fields own : ℕ) (own_notes : List NotedField) (own_bytes : Bytes) (qs rs : List NamedPart)
+    → IsNumbered before after vtable number
+    → Lays L after (Table align fields number) own qs own_notes own_bytes rs
     → (n room : ℕ) (ps : List NamedPart) (ops : List Op) (notes : List NotedField) (bytes : Bytes)
     → Lay L before n room ps ops notes bytes qs
-    → Lay L after n (room + own) ps (ops ++ (Table fields align number ∷ [])) (notes ++ own_notes)
+    → Lay L after n (room + own) ps (ops ++ (Table align fields number ∷ [])) (notes ++ own_notes)
     (bytes ++ own_bytes) rs
-table_is_laid L before after vtable number fields align own own_notes own_bytes qs rs is lays =
+table_is_laid L before after vtable align number fields own own_notes own_bytes qs rs is lays =
     let low : number < length after = slice_get_within after number vtable is.is in
     elim is.known [
       | inl same ↦
           let long : length after ≡ length before = ap length same in
-          one_more L before after (Table fields align number) own own_notes own_bytes qs rs (λ i v e. rw same e)
+          one_more L before after (Table align fields number) own own_notes own_bytes qs rs (λ i v e. rw same e)
           (omega (arith, low, long)) (omega (arith, low, long)) lays
       | inr new ↦
           let long : length after ≡ suc (length before) =
           ap length new.0 ∙ length-append before (vtable ∷ []) ∙ add-one (length before) in
-          one_more L before after (Table fields align number) own own_notes own_bytes qs rs
+          one_more L before after (Table align fields number) own own_notes own_bytes qs rs
           (λ i v e. rw new.0 (kept_in_front before vtable i v e))
           (omega (arith, new.1)) (omega (arith, new.1, long)) lays
     ]
@@ -148,14 +150,14 @@ part_waits before after op own own_notes own_bytes qs rs adds same none lays wai
     before.notes before.bytes (waits (omega (arith, small, adds.room)))
     )
 
-pub table_waits : (before after : Taped) (vtable : Bytes) (number fields align own : ℕ) (own_notes : List NotedField)
-    (own_bytes : Bytes) (qs rs : List NamedPart)
-    → AddsOne before after (Table fields align number) own own_notes own_bytes
+pub table_waits : (before after : Taped) (vtable : Bytes) (align : Alignment) (number fields own : ℕ)
+    (own_notes : List NotedField) (own_bytes : Bytes) (qs rs : List NamedPart)
+    → AddsOne before after (Table align fields number) own own_notes own_bytes
     → IsNumbered before.vtables after.vtables vtable number
-    → Lays before.layout after.vtables (Table fields align number) own qs own_notes own_bytes rs
+    → Lays before.layout after.vtables (Table align fields number) own qs own_notes own_bytes rs
     → Waits before qs → Waits after rs
-table_waits before after vtable number fields align own own_notes own_bytes qs rs adds is lays waits small =
+table_waits before after vtable align number fields own own_notes own_bytes qs rs adds is lays waits small =
     rw (adds.layout, adds.ops, adds.notes, adds.bytes, adds.room) (
-    table_is_laid before.layout before.vtables after.vtables vtable number fields align own own_notes own_bytes qs rs
+    table_is_laid before.layout before.vtables after.vtables vtable align number fields own own_notes own_bytes qs rs
     is lays 0 before.room [] before.ops before.notes before.bytes (waits (omega (arith, small, adds.room)))
     )

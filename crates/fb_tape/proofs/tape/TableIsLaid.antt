@@ -12,6 +12,7 @@ use Rattle.fb_value.specs.Num.{Bytes}
 use Rattle.fb_value.specs.Places.{table_part}
 use Rattle.fb_value.specs.Room.{table_room}
 use Rattle.fb_value.specs.View.{entries_in}
+use Rattle.fb_tape.specs.Alignments.{aligned_to}
 use Rattle.fb_tape.specs.KnownVtables.{IsNumbered}
 use Rattle.fb_tape.specs.LayingOrder.{laying_order}
 use Rattle.fb_tape.specs.NamedParts.{NamedPart, entries_apart}
@@ -21,6 +22,7 @@ use Rattle.fb_tape.specs.StoredFields.{is_stored, stored_in}
 use Rattle.fb_tape.specs.StoredTables.{notes_of, bytes_of, in_order, StoredAligned}
 use Rattle.fb_tape.specs.Tapes.{Taped, Waits, Lay}
 use Rattle.fb_tape.specs.Vtables.{vtable_of}
+use Rattle.fb_tape.specs.declared.ops.Alignment.{Alignment}
 use Rattle.fb_tape.specs.declared.ops.NotedField.{NotedField}
 use Rattle.fb_tape.specs.declared.ops.Op.{Op}
 use Rattle.fb_tape.specs.declared.ops.Op.TheVariants.{Table, Data, References}
@@ -61,7 +63,7 @@ vtables_few L vtables n room ps (Data align size ∷ ops) notes bytes qs h =
 vtables_few L vtables n room ps (References count ∷ ops) notes bytes qs h =
     let rest = vtables_few L vtables n h.room_behind h.waiting ops h.notes_behind h.bytes_behind qs h.rest in
     omega (arith, rest, h.room_is)
-vtables_few L vtables n room ps (Table fields align vtable ∷ ops) notes bytes qs h =
+vtables_few L vtables n room ps (Table align fields vtable ∷ ops) notes bytes qs h =
     let rest = vtables_few L vtables (max n (suc vtable)) h.room_behind h.waiting ops h.notes_behind h.bytes_behind qs
     h.rest in
     omega (arith, rest, h.room_is, h.turn, h.lays.enough)
@@ -80,9 +82,10 @@ noted_long : (L : LaidSchema) (fs : List Slot) (xs : List (Option Datum)) (opens
 noted_long L fs xs opens aligned h =
     length-map (in_order opens) (λ x. x.note) ∙ all_counted opens (all_aligned L 0 fs xs opens aligned h)
 
-pub table_laid : (before after : Taped) (t number : ℕ) (others : List NamedPart) (xs : List (Option Datum))
-    (opens : List OpenField)
-    → AddsOne before after (Table (length opens) (max 4 (greatest_in (map (λ x. x.align) opens))) (number % 2 ^ 32))
+pub table_laid : (before after : Taped) (t number : ℕ) (align : Alignment) (others : List NamedPart)
+    (xs : List (Option Datum)) (opens : List OpenField)
+    → aligned_to align ≡ max 4 (greatest_in (map (λ x. x.align) opens))
+    → AddsOne before after (Table align (length opens) (number % 2 ^ 32))
     (table_room before.layout t) (notes_of (in_order opens)) (bytes_of (in_order opens))
     → IsNumbered before.vtables after.vtables
     (vtable_of before.layout (slots_of before.layout t) (stored_in (slots_of before.layout t) xs)) number
@@ -94,14 +97,14 @@ pub table_laid : (before after : Taped) (t number : ℕ) (others : List NamedPar
     (notes_of (in_order opens)) (bytes_of (in_order opens))
     → Waits before (others ++ entries_apart (slots_of before.layout t) xs)
     → Waits after (others ++ (record { target = table_part t; value = a_table t (entries_in xs) } ∷ []))
-table_laid before after t number others xs opens adds numbered h aligned noted waits small =
+table_laid before after t number align others xs opens widest adds numbered h aligned noted waits small =
     let L = before.layout in
     let lay = waits (omega (arith, small, adds.room)) in
     let few = vtables_few L before.vtables 0 before.room [] before.ops before.notes before.bytes _ lay in
     let low = number_low before.vtables after.vtables _ number numbered in
     let same : number % 2 ^ 32 ≡ number = omega (arith, low, few, small, adds.room) in
-    table_waits before after _ number (length opens) (max 4 (greatest_in (map (λ x. x.align) opens))) (table_room L t)
-    (notes_of (in_order opens)) (bytes_of (in_order opens)) _ _ (rw same at adds) numbered (record {
+    table_waits before after _ align number (length opens) (table_room L t) (notes_of (in_order opens))
+    (bytes_of (in_order opens)) _ _ (rw same at adds) numbered (record {
       table = t;
       entries = xs;
       others = others;
@@ -109,7 +112,7 @@ table_laid before after t number others xs opens adds numbered h aligned noted w
       whole = h.whole;
       fields_are = sym (noted_long L (slots_of L t) (stored_in (slots_of L t) xs) opens aligned h.stored);
       noted = noted;
-      align_is = ap (max 4) (greatest_is L 0 (slots_of L t) (stored_in (slots_of L t) xs) opens h.stored);
+      align_is = widest ∙ ap (max 4) (greatest_is L 0 (slots_of L t) (stored_in (slots_of L t) xs) opens h.stored);
       vtable_is = numbered.is;
       enough = omega arith;
       takes = refl;

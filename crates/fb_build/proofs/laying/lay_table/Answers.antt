@@ -26,17 +26,20 @@ lay_fields-start-requires c =
     let w = c.requires.ready in
     let ends = c.args.laying.now.waiting.items in
     record {
-      ready = rw (slice_is ends c.deref.result.now c.len.result c.references_in-taken.result
-          (notes_references c.args.notes.now) c.deref.ensures.value (omega (arith, c.len.ensures))
-          c.references_in-taken.ensures) (record {
-            layout = w.layout;
-            slots = slots_of w.layout w.may.lays.table;
-            stored = stored_in (slots_of w.layout w.may.lays.table) w.may.lays.entries;
-            targets = spread (slots_of w.layout w.may.lays.table)
-                (stored_in (slots_of w.layout w.may.lays.table) w.may.lays.entries)
-                (drop (length ends - notes_references c.args.notes.now) ends);
-            are = to_be_laid _ _ _ _ _ _ _ _ _ _ _ _ _ _ w.may;
-          });
+      ready = rw (
+        slice_is ends c.deref.result.now c.len.result c.references_in-taken.result
+            (notes_references c.args.notes.now) c.deref.ensures.value (omega (arith, c.len.ensures))
+            c.references_in-taken.ensures,
+        c.bytes.ensures,
+      ) (record {
+        layout = w.layout;
+        slots = slots_of w.layout w.may.lays.table;
+        stored = stored_in (slots_of w.layout w.may.lays.table) w.may.lays.entries;
+        targets = spread (slots_of w.layout w.may.lays.table)
+            (stored_in (slots_of w.layout w.may.lays.table) w.may.lays.entries)
+            (drop (length ends - notes_references c.args.notes.now) ends);
+        are = to_be_laid _ _ _ _ _ _ _ _ _ _ _ _ _ _ w.may;
+      });
     }
 
 -- the fields as they are given to be laid
@@ -45,25 +48,28 @@ given : (c : goal.After-close_table-arg-2-1) → let w = c.requires.ready in
     (stored_in (slots_of w.layout w.may.lays.table) w.may.lays.entries)
     (spread (slots_of w.layout w.may.lays.table) (stored_in (slots_of w.layout w.may.lays.table) w.may.lays.entries)
     (drop (length c.args.laying.now.waiting.items - notes_references c.args.notes.now) c.args.laying.now.waiting.items))
-    c.args.align c.args.notes.now c.args.bytes.now
+    c.bytes.result c.args.notes.now c.args.bytes.now
     (take (length c.deref.result.now - (c.len.result - c.references_in-taken.result))
     (drop (c.len.result - c.references_in-taken.result) c.deref.result.now)) c.args.laying.now.tail
 given c =
     let w = c.requires.ready in
     let ends = c.args.laying.now.waiting.items in
-    rw (slice_is ends c.deref.result.now c.len.result c.references_in-taken.result
-    (notes_references c.args.notes.now) c.deref.ensures.value (omega (arith, c.len.ensures))
-    c.references_in-taken.ensures) (to_be_laid _ _ _ _ _ _ _ _ _ _ _ _ _ _ w.may)
+    rw (
+      slice_is ends c.deref.result.now c.len.result c.references_in-taken.result
+          (notes_references c.args.notes.now) c.deref.ensures.value (omega (arith, c.len.ensures))
+          c.references_in-taken.ensures,
+      c.bytes.ensures,
+    ) (to_be_laid _ _ _ _ _ _ _ _ _ _ _ _ _ _ w.may)
 
 pub close_table-end-requires-clause-room : goal.close_table-end-requires-clause-room
 close_table-end-requires-clause-room c =
     vtable_room _ _ _ _ _ _ _ _ _ _ _ _ _ _ c.requires.ready.may _ c.lay_fields-start.ensures.grows
-    c.lay_fields-start.ensures.long
+    (rw c.bytes.ensures at c.lay_fields-start.ensures.long)
 
 pub close_table-end-requires-clause-short : goal.close_table-end-requires-clause-short
 close_table-end-requires-clause-short c =
     short_vtable _ _ _ _ _ _ _ _ _ _ _ _ _ _ c.requires.ready.may _ _
-    (c.lay_fields-start.ensures.laid _ _ _ _ (given c)) c.lay_fields-start.ensures.front
+    (c.lay_fields-start.ensures.laid _ _ _ _ (given c)) (rw c.bytes.ensures at c.lay_fields-start.ensures.front)
     c.lay_fields-start.ensures.grows
 
 pub close_table-end-requires-clause-there : goal.close_table-end-requires-clause-there
@@ -85,6 +91,8 @@ returns-clause-laid c =
     let o = c.lay_fields-start.new.out in
     let b = c.close_table-end.new.out in
     let fields = c.lay_fields-start.ensures in
+    let front = rw c.bytes.ensures at fields.front in
+    let most = rw c.bytes.ensures at fields.most in
     let closing = c.close_table-end.ensures in
     let slice = slice_is ends c.deref.result.now c.len.result c.references_in-taken.result (notes_references notes)
     c.deref.ensures.value (omega (arith, c.len.ensures)) c.references_in-taken.ensures in
@@ -92,14 +100,14 @@ returns-clause-laid c =
       waits = λ L vtables room ps qs m. (let to_be : AreToBeLaid L (slots_of L m.lays.table)
           (stored_in (slots_of L m.lays.table) m.lays.entries)
           (spread (slots_of L m.lays.table) (stored_in (slots_of L m.lays.table) m.lays.entries)
-          (drop (length ends - notes_references notes) ends)) c.args.align notes c.args.bytes.now
+          (drop (length ends - notes_references notes) ends)) c.bytes.result notes c.args.bytes.now
           (take (length c.deref.result.now - (c.len.result - c.references_in-taken.result))
           (drop (c.len.result - c.references_in-taken.result) c.deref.result.now)) a =
-          rw slice (to_be_laid _ _ _ _ _ _ _ _ _ _ _ _ _ _ m) in
+          rw (slice, c.bytes.ensures) (to_be_laid _ _ _ _ _ _ _ _ _ _ _ _ _ _ m) in
           let laid = fields.laid _ _ _ _ to_be in
-          let open_now = table_open _ _ _ _ _ _ _ _ _ _ _ _ _ _ m _ _ laid fields.front fields.grows in
+          let open_now = table_open _ _ _ _ _ _ _ _ _ _ _ _ _ _ m _ _ laid front fields.grows in
           rw (c.wait.ensures.items, c.references_in-taken.ensures)
-          (table_waits _ _ _ _ _ _ _ _ _ _ _ _ _ _ m _ _ laid fields.front fields.grows _ _ _ closing.grows fields.most
+          (table_waits _ _ _ _ _ _ _ _ _ _ _ _ _ _ m _ _ laid front fields.grows _ _ _ closing.grows most
           closing.most (closing.closed _ _ _ _ _ _ open_now)));
       come = omega (arith, closing.come);
       most_waiting = omega (

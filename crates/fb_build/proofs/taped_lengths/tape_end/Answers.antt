@@ -1,10 +1,9 @@
 use Rattle.std.proofs.Common.{◌∙◌, take, drop, slice_index_or, ap}
 use Rattle.std.proofs.Common.{arith, length-drop}
 use Rattle.std.proofs.lemmas.List.{drop-drop}
-use Rattle.fb_tape.specs.declared.ops.Op.TheVariants.{Data}
 use Rattle.fb_build.specs.TapeLaid.{op_fields}
 use Rattle.fb_build.proofs.taped.TapeFitsItsRoom.{counted, may_count, count_within}
-use Rattle.fb_build.proofs.taped.TapeIsLaidInTurn.{op_behind}
+use Rattle.fb_build.proofs.taped.TapeIsLaidInTurn.{op_behind, no_op}
 use Rattle.fb_build.proofs.taped_lengths.tape_end.Goals as goal
 
 pub op_end-laid-requires-clause-may : goal.op_end-laid-requires-clause-may
@@ -17,7 +16,7 @@ loop-i-preserved c =
     let inv = c.loop-i.invariant in
     let fields = c.fields-fields.result.now in
     let f = c.loop-i.at_field in
-    let op = slice_index_or c.ops-ops.result.now c.loop-i.i (Data 0 0) in
+    let op = slice_index_or c.ops-ops.result.now c.loop-i.i no_op in
     let cons = op_behind c.ops-ops.result.now c.loop-i.i c.loop-i-test.true in
     let h = rw cons at inv.counted in
     let count = c.fields_of-count.ensures.exact in

@@ -2,11 +2,10 @@ use Rattle.std.proofs.Common.{◌≡◌, ◌∙◌, ℕ, List, take, drop, slice
 use Rattle.std.proofs.Common.{arith, length-drop}
 use Rattle.std.proofs.lemmas.List.{drop-drop}
 use Rattle.fb_tape.specs.declared.ops.Op.{Op}
-use Rattle.fb_tape.specs.declared.ops.Op.TheVariants.{Data}
 use Rattle.fb_build.specs.TapeLaid.{op_fields, op_bytes, op_vtable}
 use Rattle.fb_build.specs.Steps.{Steps}
 use Rattle.fb_build.proofs.tail.WhatIsLaidStaysLaid.{then_grows}
-use Rattle.fb_build.proofs.taped.TapeIsLaidInTurn.{op_laid, may_lay_op, fields_within, bytes_within}
+use Rattle.fb_build.proofs.taped.TapeIsLaidInTurn.{op_laid, may_lay_op, fields_within, bytes_within, no_op}
 use Rattle.fb_build.proofs.taped.TapeIsLaidInTurn.{op_behind}
 use Rattle.fb_build.proofs.taped_ops.lay_tape.Goals as goal
 
@@ -21,7 +20,7 @@ bytes_at-own_bytes-requires c =
     let w = c.requires.means in
     let inv = c.loop-i.invariant in
     let bytes = c.bytes-bytes.result.now in
-    let op = slice_index_or c.ops-ops.result.now c.loop-i.i (Data 0 0) in
+    let op = slice_index_or c.ops-ops.result.now c.loop-i.i no_op in
     let h = rw (op_behind c.ops-ops.result.now c.loop-i.i c.loop-i-test.true) at (inv.laid w.parts w.lay) in
     let within = bytes_within _ _ _ _ _ _ _ _ h in
     let same = own_size_is op c.fields_at-own_fields.result.now c.fields-fields.result.now c.fields_of-count.result
@@ -34,7 +33,7 @@ overflow_add-at_byte c =
     let w = c.requires.means in
     let inv = c.loop-i.invariant in
     let bytes = c.bytes-bytes.result.now in
-    let op = slice_index_or c.ops-ops.result.now c.loop-i.i (Data 0 0) in
+    let op = slice_index_or c.ops-ops.result.now c.loop-i.i no_op in
     let h = rw (op_behind c.ops-ops.result.now c.loop-i.i c.loop-i-test.true) at (inv.laid w.parts w.lay) in
     let within = bytes_within _ _ _ _ _ _ _ _ h in
     let same = own_size_is op c.fields_at-own_fields.result.now c.fields-fields.result.now c.fields_of-count.result
@@ -46,7 +45,7 @@ pub lay_op-requires-clause-ready : goal.lay_op-requires-clause-ready
 lay_op-requires-clause-ready c =
     let w = c.requires.means in
     let inv = c.loop-i.invariant in
-    let op = slice_index_or c.ops-ops.result.now c.loop-i.i (Data 0 0) in
+    let op = slice_index_or c.ops-ops.result.now c.loop-i.i no_op in
     let h = rw (op_behind c.ops-ops.result.now c.loop-i.i c.loop-i-test.true) at (inv.laid w.parts w.lay) in
     let same = own_size_is op c.fields_at-own_fields.result.now c.fields-fields.result.now c.fields_of-count.result
     c.loop-i.at_field c.bytes_of-size.result c.bytes_of-size.ensures c.fields_at-own_fields.ensures.exact
@@ -64,7 +63,7 @@ loop-i-preserved c =
     let i = c.loop-i.i in
     let f = c.loop-i.at_field in
     let b = c.loop-i.at_byte in
-    let op = slice_index_or ops i (Data 0 0) in
+    let op = slice_index_or ops i no_op in
     let vtables = c.args.tape.now.vtables in
     let cons = op_behind ops i c.loop-i-test.true in
     let h = rw cons at (inv.laid w.parts w.lay) in

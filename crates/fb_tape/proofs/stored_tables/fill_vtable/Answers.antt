@@ -1,4 +1,4 @@
-use Rattle.std.proofs.Common.{◌≡◌, ◌∙◌, ◌+◌, ◌*◌, ◌++◌, [], length, take, get_or, flat_map, sym, ap, arith}
+use Rattle.std.proofs.Common.{◌≡◌, ◌∙◌, ◌+◌, ◌*◌, ◌++◌, length, take, get_or, flat_map, sym, ap, arith}
 use Rattle.std.proofs.lemmas.List.{append_assoc, append-nil, drop_all, take_all}
 use Rattle.std.proofs.lemmas.Option.{slice_get-get_or}
 use Rattle.byteorder.specs.Endian.{little_bytes}

@@ -1,4 +1,5 @@
-use Rattle.std.proofs.Common.{◌≡◌, ◌∙◌, ◌<◌, ◌+◌, ◌++◌, ◌⊎◌, inl, inr, List, [], ◌∷◌, ℕ, get_or, drop, refl, ap, length, length-append, arith, flat_map}
+use Rattle.std.proofs.Common.{◌≡◌, ◌∙◌, ◌<◌, ◌+◌, ◌++◌, inl, inr, List, [], ◌∷◌, ℕ, get_or, drop, refl, ap, length}
+use Rattle.std.proofs.Common.{length-append, arith, flat_map}
 use Rattle.std.proofs.lemmas.List.{drop_all, length-drop}
 use Rattle.std.proofs.lemmas.Option.{slice_get-get_or}
 use Rattle.fb_tape.specs.LayingOrder.{falling_alignments}

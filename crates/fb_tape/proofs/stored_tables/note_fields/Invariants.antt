@@ -5,7 +5,8 @@ use Rattle.fb_tape.proofs.stored_tables.note_fields.Given as goal
 
 abbrev pub invariant-loop-align : goal.invariant-loop-align
 invariant-loop-align l =
-    (l.offsets.size ≡ l.fn.offsets.size) × ((length l.fn.bytes.items ≤ length l.bytes.items) × (length l.fn.notes.items ≤ length l.notes.items))
+    (l.offsets.size ≡ l.fn.offsets.size) × ((length l.fn.bytes.items ≤ length l.bytes.items)
+    × (length l.fn.notes.items ≤ length l.notes.items))
     × Noting l.offsets.size
     (flat_map (λ a. at_align a (drop l.first l.opened)) (drop l.align-index l.align-items))
     (in_order (drop l.first l.opened))

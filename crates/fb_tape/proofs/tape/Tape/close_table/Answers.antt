@@ -12,6 +12,8 @@ use Rattle.fb_tape.proofs.tape.RoomsAreSummedUp.{room_known}
 use Rattle.fb_layout.specs.Laid.{slots_of}
 use Rattle.fb_tape.specs.StoredFields.{stored_in}
 use Rattle.fb_tape.proofs.stored.StoredFieldsFit.{open_stored}
+use Rattle.fb_tape.proofs.stored_tables.OpenFieldsAreStored.{all_aligned}
+use Rattle.fb_tape.proofs.tape.AlignmentsFit.{fields_fit}
 use Rattle.fb_tape.proofs.tape.TableIsLaid.{open_few, table_laid}
 use Rattle.fb_tape.proofs.tape.Tape.close_table.Goals as goal
 
@@ -34,6 +36,18 @@ invariant_of-self c = record { within = omega (arith, c.self-2.invariant.within,
 pub invariant_of-self-in_err-vtable : goal.invariant_of-self-in_err-vtable
 invariant_of-self-in_err-vtable c =
     record { within = omega (arith, c.self-2.invariant.within, c.note_table.ensures.grown) }
+
+pub of-requires-clause-few : goal.of-requires-clause-few
+of-requires-clause-few c =
+    let L = c.args.self.now.layout in
+    let t = c.args.table.0 in
+    let opens = drop c.args.from c.args.opened.now in
+    let xs = c.requires.stored.0 in
+    let made = subst IsWellMade (ap (λ (t : Taped). t.layout) c.self.view_is) c.schema-schema.ensures.made in
+    let stored = open_stored L t opens xs made c.requires.stored.1 in
+    let few = fields_fit opens (all_aligned L 0 (slots_of L t) (stored_in (slots_of L t) xs) opens stored.aligned
+    stored.are) in
+    omega (arith, few, c.start_align-align.ensures)
 
 pub overflow_cast-len : goal.overflow_cast-len
 overflow_cast-len c =
@@ -76,9 +90,10 @@ returns-clause-waits c others xs h waits =
     let layout = ap (λ (t : Taped). t.layout) c.self.view_is in
     let own : c.table_room.result ≡ at_most_usize (table_room before.layout t) =
     omega (arith, rw layout at c.table_room.ensures, c.table_room.type_inv) in
-    table_laid before after t c.in_ok-vtable.vtable others xs opens (record {
+    table_laid before after t c.in_ok-vtable.vtable c.of.result others xs opens
+    (c.of.ensures ∙ c.start_align-align.ensures) (record {
       layout = ap (λ (t : Taped). t.layout) seen;
-      ops = rw (← count, ← c.start_align-align.ensures, ← ap (λ (t : Taped). t.ops) seen) c.in_ok-push.ensures.items;
+      ops = rw (← count, ← ap (λ (t : Taped). t.ops) seen) c.in_ok-push.ensures.items;
       notes = adds.notes_are
           ∙ ap (λ (ns : List NotedField). ns ++ notes_of (in_order opens)) (ap (λ (t : Taped). t.notes) seen);
       bytes = all_taken c.len-self-inside.result c.note_table.new.bytes.items

@@ -15,6 +15,12 @@ overflow_cast-align c =
     (kind_seen c.self.inside.layout.now c.args.kind) in
     omega (arith, low, c.align_of.ensures, c.max-align.ensures)
 
+pub of-requires-clause-few : goal.of-requires-clause-few
+of-requires-clause-few c =
+    let low = align_fits c.self.inside.layout.now c.schema-schema.ensures.made
+    (kind_seen c.self.inside.layout.now c.args.kind) in
+    omega (arith, low, c.align_of.ensures, c.max-align.ensures)
+
 pub returns-clause-waits : goal.returns-clause-waits
 returns-clause-waits c =
     let own = subst (λ (t : Taped). c.vector_room.result
@@ -24,6 +30,8 @@ returns-clause-waits c =
     c.self.view_is c.align_of.ensures in
     on_ok_weaker c.finish_data.result (λ done ps ds many known begun waits.
     vector_closed c.args.self.now c.add_room.new.self c.finish_data.new.self
-    (kind_seen c.args.self.now.layout c.args.kind) c.args.count _ c.vector_room.result ds ps c.add_room.ensures.adds own
-    c.if-is_over.ensures.exact done (c.max-align.ensures ∙ ap (λ n. max n 4) align) c.requires.inline c.requires.low
+    (kind_seen c.args.self.now.layout c.args.kind) c.of.result c.args.count c.vector_room.result ds ps
+    c.add_room.ensures.adds own
+    c.if-is_over.ensures.exact done (c.of.ensures ∙ c.max-align.ensures ∙ ap (λ n. max n 4) align) c.requires.inline
+    c.requires.low
     many known begun waits) c.finish_data.ensures.adds
