@@ -3,10 +3,10 @@ pub mod ByName
 pub mod Conforms
 pub mod BreachTable
 pub mod Order
-pub mod Told
 pub mod Listed
 pub mod Names
 pub mod MovedNames
+pub mod Movement
 pub mod Carry
 pub mod CarriedEntries
 pub mod Back

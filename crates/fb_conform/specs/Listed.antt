@@ -1,59 +1,28 @@
--- What a list of breaches has so far: those that stand below a place, in order.
-use Rattle.std.specs.Prelude.{ℕ, ◌≡◌, ◌<◌, ◌⊎◌, true, false, List, ◌∷◌, [], ◌++◌, Option, None, Some, AllPairs}
-use Rattle.std.specs.Prelude.{Contains}
-use Rattle.std.specs.Option.{option_to_list}
-use Rattle.fb_schema.specs.declared.kinds.TypeId.{TypeId}
-use Rattle.fb_schema.specs.Schema.{DeclaredField, DeclaredSchema}
+-- What a walk over two schemas tells: the breaches that stand, in order.
+use Rattle.std.specs.Prelude.{⊤, ◌⊎◌, List, AllPairs, Contains, Result, Ok, Err}
 use Rattle.fb_layout.specs.Laid.{LaidSchema}
 use Rattle.fb_conform.specs.declared.breaches.Breach.{Breach}
-use Rattle.fb_conform.specs.declared.breaches.Breach.TheVariants.{SlotGone, FieldTypeChanged}
-use Rattle.fb_conform.specs.declared.breaches.Breach.TheVariants.{DefaultChanged, RequiredChanged, DeprecatedTakenBack}
-use Rattle.fb_conform.specs.declared.breaches.Breach.TheVariants.{NewRequired}
-use Rattle.fb_conform.specs.declared.slots.SlotBreaches.{SlotBreaches}
-use Rattle.fb_conform.specs.BreachTable.{number_of}
-use Rattle.fb_conform.specs.ByName.{SameShape}
-use Rattle.fb_conform.specs.Conforms.{SameDefault, Stands, is_required}
-use Rattle.fb_conform.specs.Order.{type_place, slot_place, IsBefore}
-use Rattle.fb_conform.specs.Told.{TellsOne}
+use Rattle.fb_conform.specs.Conforms.{Kept, Stands}
+use Rattle.fb_conform.specs.Order.{IsBefore}
 
--- The breach is told before what has this type's place, slot's place and number.
-abbrev pub IsBelow : ℕ → ℕ → ℕ → Breach → Type 0
-IsBelow t s n b = (type_place b < t) ⊎ ((type_place b ≡ t) × ((slot_place b < s) ⊎ ((slot_place b ≡ s)
-    × (number_of b < n))))
-
--- The list has each breach below a place that stands, and no other, in order.
-pub record ListsBelow (A B : LaidSchema) (t s n : ℕ) (list : List Breach) : Type 0 where
-  pub below : (b : Breach) → Contains list b → IsBelow t s n b
+-- The list has those of some breaches that stand, and no other, in order.
+pub record Lists (A B : LaidSchema) (P : Breach → Type 0) (list : List Breach) : Type 0 where
+  pub among : (b : Breach) → Contains list b → P b
   pub stands : (b : Breach) → Contains list b → Stands A B b
-  pub all : (b : Breach) → IsBelow t s n b → Stands A B b → Contains list b
+  pub all : (b : Breach) → P b → Contains list b ⊎ Kept A B b
   pub order : AllPairs IsBefore list
 
--- Each breach of two fields in one slot is there if it stands.
-pub record TellsEach (S T : DeclaredSchema) (t : TypeId) (k : ℕ) (f g : DeclaredField) (found : SlotBreaches)
-    : Type 0 where
-  pub shape : TellsOne (SameShape S T f.shape g.shape) (FieldTypeChanged t k) found.shape
-  pub default : TellsOne (SameDefault f g) (DefaultChanged t k) found.default
-  pub required : TellsOne (is_required g ≡ is_required f) (RequiredChanged t k) found.required
-  pub deprecated : TellsOne (f.deprecated ≡ true → g.deprecated ≡ true) (DeprecatedTakenBack t k) found.deprecated
+-- The walk was stopped at a breach that stands, when it had told those before it.
+pub record StopsAt {E : Type 0} (A B : LaidSchema) (stops : List Breach → Breach → E → Type 0) (error : E) : Type 0
+  where
+    pub told : List Breach
+    pub breach : Breach
+    pub before : Lists A B (λ r. IsBefore r breach) told
+    pub stands : Stands A B breach
+    pub stopped : stops told breach error
 
--- the breaches of two fields in one slot are added
-pub record AddsEach (S T : DeclaredSchema) (t : TypeId) (k : ℕ) (f g : DeclaredField) (before after : List Breach)
-    : Type 0 where
-  pub found : SlotBreaches
-  pub told : TellsEach S T t k f g found
-  pub added : after ≡ (((before ++ option_to_list found.shape) ++ option_to_list found.default)
-      ++ option_to_list found.required) ++ option_to_list found.deprecated
-
--- the breach that a condition is about is added, if that doesn't hold
-pub record AddsOne (P : Type 0) (b : Breach) (before after : List Breach) : Type 0 where
-  pub breach : Option Breach
-  pub told : TellsOne P b breach
-  pub added : after ≡ before ++ option_to_list breach
-
--- the breaches of one slot are added, which may be in one table alone
-abbrev pub AddsSlot : DeclaredSchema → DeclaredSchema → TypeId → ℕ → Option DeclaredField → Option DeclaredField
-    → List Breach → List Breach → Type 0
-AddsSlot S T t k (Some f) (Some g) before after = AddsEach S T t k f g before after
-AddsSlot S T t k (Some f) None before after = after ≡ before ++ SlotGone t k ∷ []
-AddsSlot S T t k None (Some g) before after = AddsOne (is_required g ≡ false) (NewRequired t k) before after
-AddsSlot S T t k None None before after = after ≡ before
+-- what comes of the walk over some breaches
+abbrev pub Walks : {E : Type 0} → LaidSchema → LaidSchema → (List Breach → Breach → E → Type 0) → (Breach → Type 0)
+    → List Breach → Result ⊤ E → Type 0
+Walks A B stops P told (Ok done) = Lists A B P told
+Walks A B stops P told (Err error) = StopsAt A B stops error

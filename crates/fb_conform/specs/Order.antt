@@ -1,6 +1,6 @@
 -- The order in which breaches are told: the root, the identifier, then the old types by number, in a type its slots by
 -- number, and at one place the lowest number first.
-use Rattle.std.specs.Prelude.{ℕ, ◌≡◌, ◌+◌, ◌<◌, ◌⊎◌, Option, None, Some}
+use Rattle.std.specs.Prelude.{ℕ, ◌≡◌, ◌+◌, ◌<◌, ◌⊎◌}
 use Rattle.std.specs.Option.{option_map_or}
 use Rattle.fb_layout.specs.Laid.{LaidSchema}
 use Rattle.fb_conform.specs.declared.breaches.Breach.{Breach}
@@ -27,13 +27,21 @@ pub record IsFirst (A B : LaidSchema) (b : Breach) : Type 0 where
   pub stands : Stands A B b
   pub first : (r : Breach) → IsBefore r b → Kept A B r
 
--- the first breach of one type
-pub record IsFirstOfType (A B : LaidSchema) (t : ℕ) (b : Breach) : Type 0 where
-  pub type : type_place b ≡ t + 1
-  pub stands : Stands A B b
-  pub first : (r : Breach) → type_place r ≡ t + 1 → IsBeforeInType r b → Kept A B r
+-- It is that breach, or before it.
+abbrev pub IsUpTo : Breach → Breach → Type 0
+IsUpTo r b = IsBefore r b ⊎ (r ≡ b)
 
--- what is told of an old type: its first breach, or that none stands
-abbrev pub TellsType : LaidSchema → LaidSchema → ℕ → Option Breach → Type 0
-TellsType A B t None = (r : Breach) → type_place r ≡ t + 1 → Kept A B r
-TellsType A B t (Some b) = IsFirstOfType A B t b
+-- It is in front of a slot's place in a type's place.
+abbrev pub IsInFrontOf : ℕ → ℕ → Breach → Type 0
+IsInFrontOf t s b = (type_place b < t) ⊎ ((type_place b ≡ t) × (slot_place b < s))
+
+-- It is the root's, the identifier's, or of a type below a number.
+abbrev pub IsOfTypesBelow : ℕ → Breach → Type 0
+IsOfTypesBelow n = IsInFrontOf (n + 1) 0
+
+-- It is that, or of a type itself, or of a slot of it below a number.
+abbrev pub IsOfSlotsBelow : ℕ → ℕ → Breach → Type 0
+IsOfSlotsBelow t n = IsInFrontOf (t + 1) (n + 1)
+
+abbrev pub IsAny : Breach → Type 0
+IsAny b = Unit {0}

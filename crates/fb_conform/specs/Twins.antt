@@ -1,8 +1,8 @@
 -- Types of two schemas that have one full name.
 -- From the FlatBuffers documentation, "Evolution": a type is known by its full name, wherever it is declared.
-use Rattle.std.specs.Prelude.{ℕ, ◌≡◌, List, Option, Some, slice_get, option_map, option_and_then, unwrap_or}
+use Rattle.std.specs.Prelude.{ℕ, ◌≡◌, IsTrue, List, Option, Some, slice_get, option_map, option_and_then, unwrap_or}
 use Rattle.fb_schema.specs.declared.kinds.TypeId.{TypeId}
-use Rattle.fb_schema.specs.Schema.{DeclaredField, DeclaredSchema, body_at, slots_in}
+use Rattle.fb_schema.specs.Schema.{DeclaredField, DeclaredSchema, body_at, slots_in, is_table}
 use Rattle.fb_schema.specs.Found.{type_named, name_at}
 use Rattle.fb_layout.specs.Laid.{LaidSchema}
 
@@ -23,6 +23,19 @@ pub record SlotTwins (S T : DeclaredSchema) (t k : ℕ) (f g : DeclaredField) : 
   pub twins : Twins S T t type
   pub old : slice_get (slots_in (body_at S t)) k ≡ Some f
   pub new : slice_get (slots_in (body_at T type)) k ≡ Some g
+
+-- two tables of one full name
+pub record TableTwins (S T : DeclaredSchema) (t u : ℕ) : Type 0 where
+  pub twins : Twins S T t u
+  pub old : IsTrue (is_table (body_at S t))
+  pub new : IsTrue (is_table (body_at T u))
+
+-- the old and the new field in a slot of two tables, where there is one
+pub record TableSlot (S T : DeclaredSchema) (t k : ℕ) (was is : Option DeclaredField) : Type 0 where
+  pub type : ℕ
+  pub tables : TableTwins S T t type
+  pub old : slice_get (slots_in (body_at S t)) k ≡ was
+  pub new : slice_get (slots_in (body_at T type)) k ≡ is
 
 -- the number that an old type has in the new schema, 0 where it is gone
 abbrev pub to_new : LaidSchema → LaidSchema → ℕ → ℕ

@@ -1,5 +1,5 @@
 //! What in a new schema breaks with the old one.
-ghost use Rattle.std.specs.Prelude.{◌≡◌, true, false, None, Some};
+ghost use Rattle.std.specs.Prelude.{◌≡◌};
 
 use fb_schema::TypeId;
 use thiserror::Error;
@@ -50,14 +50,6 @@ pub enum Breach {
     /// An old code of the union is gone, or names a table of another full name.
     #[error("the union, type {}, has lost members", .0.0)]
     UnionChanged(TypeId),
-}
-
-/// A breach, unless what it is about is kept.
-pub(crate) fn unless(kept: bool, breach: Breach) -> Option<Breach>
-    ensures kept { kept ≡ true → result ≡ None }
-    ensures broken { kept ≡ false → result ≡ Some breach }
-{
-    if kept { None } else { Some(breach) }
 }
 
 impl Breach {

@@ -1,31 +1,14 @@
-//! Whether a schema may follow another.
-ghost use Rattle.std.specs.Prelude.{◌≡◌, ◌↔◌, IsTrue, IsOk, IfErr};
-ghost use Rattle.fb_conform.specs.Conforms.{Conforms};
-ghost use Rattle.fb_conform.specs.Order.{IsFirst};
-ghost use Rattle.fb_conform.specs.Twins.{SameName};
+//! Whether a schema may follow another, and all that speaks against it.
+ghost use Rattle.std.specs.Prelude.{◌↔◌, IsOk, IfOk, IfErr, Contains, AllPairs};
+ghost use Rattle.fb_conform.specs.declared.breaches.Breach.{Breach};
+ghost use Rattle.fb_conform.specs.Conforms.{Conforms, Stands};
+ghost use Rattle.fb_conform.specs.Order.{IsBefore, IsFirst};
 
-use crate::bodies::type_breach;
 use crate::breaches::Breach;
-use crate::twins::same_name;
+use crate::sinks::FirstBreach;
+use crate::walk::walk;
 use fb_layout::Layout;
-use fb_schema::TypeId;
-
-/// Whether the roots have one full name.
-pub(crate) fn same_root(old: &Layout, new: &Layout) -> bool
-    ensures { IsTrue result ↔ SameName old.now.schema new.now.schema
-        old.now.schema.root new.now.schema.root }
-{
-    let was = old.schema();
-    let is = new.schema();
-    same_name(was, is, was.root(), is.root())
-}
-
-/// Whether the schemas have one file identifier, or neither has one.
-pub(crate) fn same_identifier(old: &Layout, new: &Layout) -> bool
-    ensures { IsTrue result ↔ (new.now.schema.identifier ≡ old.now.schema.identifier) }
-{
-    new.schema().identifier() == old.schema().identifier()
-}
+use std::alloc::{AllocError, Global};
 
 /// Whether the new schema conforms to the old one: what was written under the old one is read under the
 /// new one, and what is written under the new one is read by old programs.
@@ -36,16 +19,15 @@ pub fn conform(old: &Layout, new: &Layout) -> Result<(), Breach>
     ensures exact { IsOk result ↔ Conforms old.now new.now }
     ensures first { IfErr result (IsFirst old.now new.now) }
 {
-    if !same_root(old, new) {
-        return Err(Breach::RootChanged);
-    }
-    if !same_identifier(old, new) {
-        return Err(Breach::IdentifierChanged);
-    }
-    for i in 0..old.schema().types().len() {
-        if let Some(breach) = type_breach(old, new, TypeId(i as u64)) {
-            return Err(breach);
-        }
-    }
-    Ok(())
+    walk(&mut FirstBreach, old, new)
+}
+
+/// Every breach that stands, in the order in which `conform` looks for the first.
+pub fn all_breaches(alloc: Global, old: &Layout, new: &Layout) -> Result<Vec<Breach>, AllocError>
+    ensures all { IfOk result (λ list. (b : Breach) → Contains list.items b ↔ Stands old.now new.now b) }
+    ensures order { IfOk result (λ list. AllPairs IsBefore list.items) }
+{
+    let mut found = Vec::new(alloc);
+    walk(&mut found, old, new)?;
+    Ok(found)
 }

@@ -6,20 +6,20 @@ mod breaches;
 mod carried_values;
 mod comparison;
 mod laws;
-mod listing;
 mod members;
 mod names;
 mod shapes;
+mod sinks;
 mod slots;
 mod structs;
 mod twins;
+mod walk;
 
 pub use breaches::Breach;
 pub use carried_values::carry;
-pub use comparison::conform;
+pub use comparison::{all_breaches, conform};
 pub use laws::{
     back_holds, carried_fits, carried_holds, carries_on, conforms_on, kept_unless_moved,
     means_carried, names_carry,
 };
-pub use listing::all_breaches;
 pub use names::{MovedName, moved_names};

@@ -1,14 +1,14 @@
 -- What two bodies, kinds and slots share, part by part.
 use Rattle.std.proofs.Common.{◌≡◌, ℕ, zero, suc, ◌≤◌, Bool, true, false, IsTrue, List, [], ◌∷◌, map, Option, None, Some}
-use Rattle.std.proofs.Common.{slice_get, ℤ, refl, sym, subst, arith}
+use Rattle.std.proofs.Common.{slice_get, ℤ, refl, arith}
 use Rattle.fb_schema.specs.declared.kinds.Base.{Base}
-use Rattle.fb_schema.specs.declared.kinds.Kind.TheVariants.{Scalar, Enum, Struct as Fixed, Table, Union, Code, Text}
+use Rattle.fb_schema.specs.declared.kinds.Kind.TheVariants.{Scalar}
 use Rattle.fb_schema.specs.declared.kinds.Shape as declared_shape
-use Rattle.fb_schema.specs.declared.kinds.Shape.TheVariants.{One, Many}
+use Rattle.fb_schema.specs.declared.kinds.Shape.TheVariants.{One}
 use Rattle.fb_schema.specs.Schema.{Name, DeclaredField, DeclaredBody, table_body, struct_body, enum_body, union_body}
 use Rattle.fb_schema.specs.Schema.{DeclaredSchema, slots_in, parts_in, base_in, is_table, is_struct, is_enum, is_union}
 use Rattle.fb_schema.specs.Found.{member_coded}
-use Rattle.fb_layout.specs.Laid.{LaidSchema, scalar_kind, struct_kind, table_kind, union_kind, code_kind, text_kind}
+use Rattle.fb_layout.specs.Laid.{LaidSchema, scalar_kind}
 use Rattle.fb_layout.specs.Laid.{StoredShape, one_of, vector_of, stored_shape, default_of, slot_of, kind_in, struct_at}
 use Rattle.fb_conform.specs.Twins.{SameName}
 use Rattle.fb_conform.specs.Conforms.{SameKind, SameStruct, KeepsValues, KeepsMembers, is_number, is_required}
@@ -21,10 +21,8 @@ use Rattle.fb_conform.proofs.laws.LayoutsAgree.{SlotStays, Grown}
 -- numbers that are least are the same
 pub least_same : (a n m o : ℕ) → IsLeastMultiple a n m → IsLeastMultiple a n o → o ≡ m
 least_same a n m o first second =
-    let below : o ≤ m = subst (λ (z : ℕ). o ≤ z) (sym first.multiple.1)
-    (second.least first.multiple.0 (subst (λ (z : ℕ). n ≤ z) first.multiple.1 first.above)) in
-    let above : m ≤ o = subst (λ (z : ℕ). m ≤ z) (sym second.multiple.1)
-    (first.least second.multiple.0 (subst (λ (z : ℕ). n ≤ z) second.multiple.1 second.above)) in
+    let below : o ≤ m = rw first.multiple.1 (second.least first.multiple.0 (rw (← first.multiple.1) first.above)) in
+    let above : m ≤ o = rw second.multiple.1 (first.least second.multiple.0 (rw (← second.multiple.1) second.above)) in
     omega arith
 
 pub base_same : (x y : DeclaredBody) → SameKind x y → KeepsValues x y → base_in y ≡ base_in x
@@ -52,30 +50,22 @@ same_sort _ _ same = absurd same
 pub table_sort : (x : DeclaredBody) → IsTrue (is_table x) → sort_of_body x ≡ 0
 unfolding sort_of_body
 table_sort (table_body fs) h = refl
-table_sort (struct_body fs m) h = cc
-table_sort (enum_body b flags values) h = cc
-table_sort (union_body ms) h = cc
+table_sort _ h = cc
 
 pub struct_sort : (x : DeclaredBody) → IsTrue (is_struct x) → sort_of_body x ≡ 1
 unfolding sort_of_body
 struct_sort (struct_body fs m) h = refl
-struct_sort (table_body fs) h = cc
-struct_sort (enum_body b flags values) h = cc
-struct_sort (union_body ms) h = cc
+struct_sort _ h = cc
 
 pub enum_sort : (x : DeclaredBody) → IsTrue (is_enum x) → sort_of_body x ≡ 2
 unfolding sort_of_body
 enum_sort (enum_body b flags values) h = refl
-enum_sort (table_body fs) h = cc
-enum_sort (struct_body fs m) h = cc
-enum_sort (union_body ms) h = cc
+enum_sort _ h = cc
 
 pub union_sort : (x : DeclaredBody) → IsTrue (is_union x) → sort_of_body x ≡ 3
 unfolding sort_of_body
 union_sort (union_body ms) h = refl
-union_sort (table_body fs) h = cc
-union_sort (struct_body fs m) h = cc
-union_sort (enum_body b flags values) h = cc
+union_sort _ h = cc
 
 pub still_table : (x y : DeclaredBody) → SameKind x y → IsTrue (is_table x) → IsTrue (is_table y)
 still_table (table_body fs) (table_body gs) same h = h
@@ -93,9 +83,7 @@ was_table _ _ same h = absurd same
 
 pub has_slot : (x : DeclaredBody) (k : ℕ) (f : DeclaredField) → slice_get (slots_in x) k ≡ Some f → IsTrue (is_table x)
 has_slot (table_body fs) k f e = refl
-has_slot (struct_body fs m) k f e = cc
-has_slot (enum_body b flags values) k f e = cc
-has_slot (union_body ms) k f e = cc
+has_slot _ k f e = cc
 
 pub struct_kept : (A B : LaidSchema) (t u : ℕ) (x y : DeclaredBody) → IsTrue (is_struct x) → SameKind x y
     → SameStruct A B t u x y
@@ -155,46 +143,23 @@ is_scalar _ = false
 
 pub never : (gone : Bool) (n : ℤ) (s : StoredShape) → is_scalar s ≡ false → default_of gone n s ≡ None
 unfolding is_scalar
-never true n s e = refl
 never false n (one_of (scalar_kind base)) e = cc
-never false n (one_of (struct_kind t)) e = refl
-never false n (one_of (table_kind t)) e = refl
-never false n (one_of (union_kind t)) e = refl
-never false n (one_of (code_kind t)) e = refl
-never false n (one_of text_kind) e = refl
-never false n (vector_of kind) e = refl
+never _ n _ e = refl
 
 pub number_shape : (gone : Bool) (m n : ℤ) (s : StoredShape) → default_of gone m s ≡ Some n
     → (base : Base) × (s ≡ one_of (scalar_kind base))
 number_shape false m n (one_of (scalar_kind base)) e = (base, refl)
-number_shape false m n (one_of (struct_kind t)) e = cc
-number_shape false m n (one_of (table_kind t)) e = cc
-number_shape false m n (one_of (union_kind t)) e = cc
-number_shape false m n (one_of (code_kind t)) e = cc
-number_shape false m n (one_of text_kind) e = cc
-number_shape false m n (vector_of kind) e = cc
-number_shape true m n s e = cc
+number_shape _ m n _ e = cc
 
 pub number_stored : (S : DeclaredSchema) (z : declared_shape.Shape) → is_scalar (stored_shape S z) ≡ is_number z
 unfolding is_scalar
 number_stored S (One (Scalar b)) = refl
-number_stored S (One (Enum t)) = refl
-number_stored S (One (Fixed t)) = refl
-number_stored S (One (Table t)) = refl
-number_stored S (One (Union t)) = refl
-number_stored S (One (Code t)) = refl
-number_stored S (One Text) = refl
-number_stored S (Many k) = refl
+number_stored S _ = refl
 
 pub scalar_moved : (to : ℕ → ℕ) (s : StoredShape) → is_scalar (moved_shape to s) ≡ is_scalar s
 unfolding is_scalar
 scalar_moved to (one_of (scalar_kind base)) = refl
-scalar_moved to (one_of (struct_kind t)) = refl
-scalar_moved to (one_of (table_kind t)) = refl
-scalar_moved to (one_of (union_kind t)) = refl
-scalar_moved to (one_of (code_kind t)) = refl
-scalar_moved to (one_of text_kind) = refl
-scalar_moved to (vector_of kind) = refl
+scalar_moved to _ = refl
 
 pub kind_in_moved : (to : ℕ → ℕ) (s : StoredShape) → kind_in (moved_shape to s) ≡ moved_kind to (kind_in s)
 kind_in_moved to (one_of kind) = refl

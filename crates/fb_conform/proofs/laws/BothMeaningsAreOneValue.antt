@@ -1,7 +1,7 @@
 -- What a JSON tree means under an old schema and under a new one that keeps names is one value, carried.
 use Rattle.std.proofs.Common.{◌≡◌, ℕ, zero, suc, ◌<◌, ◌-◌, Bool, true, false, List, [], ◌∷◌, map, Option, None}
 use Rattle.std.proofs.Common.{Some, is_some, option_map, Ok, IfSome, pos, refl, sym, ap, subst, ◌∙◌}
-use Rattle.serde_json.specs.Data.{Data, null, boolean, number, string, object, array, Items, no_items, item, Members}
+use Rattle.serde_json.specs.Data.{Data, null, number, string, object, Items, no_items, item, Members}
 use Rattle.serde_json.specs.Find.{get_member}
 use Rattle.fb_schema.specs.declared.kinds.TypeId.{TypeId}
 use Rattle.fb_schema.specs.declared.kinds.Kind.{Kind}
@@ -41,51 +41,27 @@ use Rattle.fb_conform.proofs.laws.TextsKeepTheirNumbers.{code_path}
 found_in : (o : Option Data) (t : Data) → unless_null o ≡ Some t → o ≡ Some t
 found_in None t h = cc
 found_in (Some null) t h = cc
-found_in (Some (boolean b)) t h = h
-found_in (Some (number x)) t h = h
-found_in (Some (string s)) t h = h
-found_in (Some (array ts)) t h = h
-found_in (Some (object es)) t h = h
+found_in _ t h = h
 
 -- ---- codes
 
 code_id : (u w : TypeId) → One (Code u) ≡ One (Code w) → u.0 ≡ w.0
 code_id u w e = cc
 
-union_id : (u w : TypeId) → One (Union u) ≡ One (Union w) → u.0 ≡ w.0
-union_id u w e = cc
-
 stays_none : (A B : LaidSchema) (s : Shape) (o : Option Data) → o ≡ None → CodeStays A B s o
 stays_none A B s (Some t) e = absurd cc
 stays_none A B (One (Code u)) None e = tt
-stays_none A B (One (Scalar x)) None e = tt
-stays_none A B (One (Enum x)) None e = tt
-stays_none A B (One (Fixed x)) None e = tt
-stays_none A B (One (Table x)) None e = tt
-stays_none A B (One (Union x)) None e = tt
-stays_none A B (One Text) None e = tt
-stays_none A B (Many k) None e = tt
+stays_none A B _ None e = tt
 
 stays_plain : (A B : LaidSchema) (s : Shape) (o : Option Data) → is_code false s ≡ false → CodeStays A B s o
 stays_plain A B (One (Code u)) o e = absurd cc
-stays_plain A B (One (Scalar x)) o e = tt
-stays_plain A B (One (Enum x)) o e = tt
-stays_plain A B (One (Fixed x)) o e = tt
-stays_plain A B (One (Table x)) o e = tt
-stays_plain A B (One (Union x)) o e = tt
-stays_plain A B (One Text) o e = tt
-stays_plain A B (Many k) o e = tt
+stays_plain A B _ o e = tt
 
 -- what tells a code under the new schema names a member there
 stays_told : (A B : LaidSchema) (u : TypeId) (o : Option Data) (d : ℕ) → CodeMeans B.schema (to_new A B u.0) o d
     → CodeStays A B (One (Code u)) o
-stays_told A B u None d h = tt
-stays_told A B u (Some null) d h = tt
-stays_told A B u (Some (boolean b)) d h = tt
-stays_told A B u (Some (number x)) d h = tt
 stays_told A B u (Some (string s)) d h = ap is_some h
-stays_told A B u (Some (array ts)) d h = tt
-stays_told A B u (Some (object ms)) d h = tt
+stays_told A B u _ d h = tt
 
 module _ (A B : LaidSchema) (old : IsWellMade A) (new : IsWellMade B) (conforms : Conforms A B)
     (keeps : KeepsNames A B) where
@@ -105,9 +81,7 @@ module _ (A B : LaidSchema) (old : IsWellMade A) (new : IsWellMade B) (conforms 
   one_told u known (Some (number x)) (suc c) (suc d) was is =
       let both : Some (pos (suc c)) ≡ Some (pos (suc d)) = sym was.0 ∙ is.0 in cc
   one_told u known (Some (string s)) c d was is = code_path A B old new conforms keeps u known s c d was is
-  one_told u known (Some (boolean b)) c d was is = absurd was
-  one_told u known (Some (array ts)) c d was is = absurd was
-  one_told u known (Some (object ms)) c d was is = absurd was
+  one_told u known _ c d was is = absurd was
 
   module _ (ms : Members) (f g : DeclaredField) (agree : SlotAgrees A B ms f g) where
     -- the codes that both slots tell
@@ -128,8 +102,7 @@ module _ (A B : LaidSchema) (old : IsWellMade A) (new : IsWellMade B) (conforms 
         record {
           union = was.0;
           shape = was.1;
-          means = subst (λ (o : Option Data). CodeMeans B.schema (to was.0.0) o d) agree.member
-              (subst (λ (n : ℕ). CodeMeans B.schema n (get_member g.name ms) d) number here.2);
+          means = rw (← agree.member) (rw (← number) here.2);
         }
 
     stays_at : (b d : ℕ) → CodeAt B.schema ms g g.deprecated g.shape b d
@@ -142,8 +115,7 @@ module _ (A B : LaidSchema) (old : IsWellMade A) (new : IsWellMade B) (conforms 
         by false used false plain = stays_plain A B f.shape (get_member f.name ms) plain
         by false used true code =
             let codes = new_told b d is (ap (λ (x : Bool). is_code x g.shape) used ∙ moved_code false ∙ code) in
-            subst (λ (z : Shape). CodeStays A B z (get_member f.name ms)) (sym codes.shape)
-            (stays_told A B codes.union (get_member f.name ms) d codes.means)
+            rw codes.shape (stays_told A B codes.union (get_member f.name ms) d codes.means)
 
     told_next : (a b c d : ℕ) → CodeAt A.schema ms f f.deprecated f.shape a c
         → CodeAt B.schema ms g g.deprecated g.shape b d → Told (Some g) c d
@@ -156,7 +128,7 @@ module _ (A B : LaidSchema) (old : IsWellMade A) (new : IsWellMade B) (conforms 
         let number : here.0.0 ≡ codes.union.0 = code_id here.0 codes.union (sym here.1 ∙ codes.shape) in
         let known = (subst (λ (z : Shape). IsShape A.schema z) here.1 agree.known).0 in
         one_told here.0.0 known (get_member f.name ms) c d here.2
-        (subst (λ (n : ℕ). CodeMeans B.schema (to n) (get_member f.name ms) d) (sym number) codes.means)
+        (rw number codes.means)
 
     -- a union in use is read behind one code
     one_code : (before : Option DeclaredField) (a b c d : ℕ) (u : TypeId) → Told before a b
@@ -229,12 +201,7 @@ module _ (A B : LaidSchema) (old : IsWellMade A) (new : IsWellMade B) (conforms 
       → NamesStay A B t s v
   both_present (One (Code u)) t c d v e own member h i = absurd h
   both_present (One (Union u)) t c d v e own member h i = member u refl h i
-  both_present (One (Scalar x)) t c d v e own member h i = own h i
-  both_present (One (Enum x)) t c d v e own member h i = own h i
-  both_present (One (Fixed x)) t c d v e own member h i = own h i
-  both_present (One (Table x)) t c d v e own member h i = own h i
-  both_present (One Text) t c d v e own member h i = own h i
-  both_present (Many k) t c d v e own member h i = own h i
+  both_present _ t c d v e own member h i = own h i
 
   if_some : (o : Option Data) (P : Data → Type 0) → ((t : Data) → o ≡ Some t → P t) → IfSome o P
   if_some None P each = tt
@@ -254,14 +221,13 @@ module _ (A B : LaidSchema) (old : IsWellMade A) (new : IsWellMade B) (conforms 
     stay (a_struct ds) (a_struct es) t (One (Fixed s)) known h i =
         let same = same_members t h.0 i.0 h.1 i.1 in
         let fields : names_known (body_at B.schema (to s.0)) h.0 ≡ true =
-        subst (λ (ms : Members). names_known (body_at B.schema (to s.0)) ms ≡ true) same i.2 in
+        rw (← same) i.2 in
         let x = parts_in (body_at A.schema s.0) in
         let y = parts_in (body_at B.schema (to s.0)) in
         let parts = parts_stay ds es h.0 s.0 x y
         (parts_agree A B old new conforms keeps s.0 known.0 known.1 h.0 h.2 fields) h.3
-        (subst (λ (ms : Members). PartsMean B false ms y es) same i.3) in
-        subst (λ (ms : Members). (names_known (body_at B.schema (to s.0)) ms ≡ true) × PartsStay A B ms x ds)
-        (sym (ap members_of h.1)) (fields, parts)
+        (rw (← same) i.3) in
+        rw (ap members_of h.1) (fields, parts)
     stay (a_struct ds) _ t (One (Fixed s)) known h i = absurd i
     stay _ e t (One (Fixed s)) known h i = absurd h
     stay (a_table type es) (a_table new_type is) t (One (Table n)) known h i =
@@ -269,8 +235,7 @@ module _ (A B : LaidSchema) (old : IsWellMade A) (new : IsWellMade B) (conforms 
         let all = subst (λ (k : ℕ). IsKnown A false k h.0) h.2 h.3 in
         let was = subst (λ (k : ℕ). SlotsMean A false h.0 0 (slots_in (body_at A.schema k)) es) h.2 h.4 in
         let fields : names_known (body_at B.schema (to n.0)) h.0 ≡ true =
-        subst (λ (ms : Members). names_known (body_at B.schema (to n.0)) ms ≡ true) same
-        (subst (λ (k : ℕ). IsKnown B false k i.0) i.2 i.3) in
+        rw (← same) (rw (← i.2) i.3) in
         let x = slots_in (body_at A.schema n.0) in
         let y = slots_in (body_at B.schema (to n.0)) in
         let there = subst (λ (ms : Members). SlotsMean B false ms 0 y is) same
@@ -278,8 +243,7 @@ module _ (A B : LaidSchema) (old : IsWellMade A) (new : IsWellMade B) (conforms 
         let slots = slots_stay es is h.0 x y None 0 0
         (slots_agree A B old new conforms keeps n.0 known.0 known.1 h.0 all fields) tt
         (new_codes A B old new conforms keeps n.0 known.0 known.1 h.0 all fields) was there in
-        subst (λ (ms : Members). (names_known (body_at B.schema (to n.0)) ms ≡ true) × SlotsStay A B ms x es)
-        (sym (ap members_of h.1)) (fields, slots)
+        rw (ap members_of h.1) (fields, slots)
     stay (a_table type es) _ t (One (Table n)) known h i = absurd i
     stay _ e t (One (Table n)) known h i = absurd h
     stay (a_vector ds) (a_vector es) t (Many kind) known h i =
@@ -359,13 +323,11 @@ module _ (A B : LaidSchema) (old : IsWellMade A) (new : IsWellMade B) (conforms 
           (old_present ms f g agree.0 t there h.0 i.0 v e h.3) (new_present ms f g agree.0 t there h.0 i.0 v e i.3)),
       slots_stay es is ms fs gs (Some g) h.0 i.0 agree.1 (told_next ms f g agree.0 a b h.0 i.0 h.1 i.1) led.1 h.4 i.4,
     )
-    slots_stay no_entries is ms (f ∷ fs) gs before a b agree told led h i = absurd h
     slots_stay (absent_entry es) no_entries ms (f ∷ fs) (g ∷ gs) before a b agree told led h i = absurd i
     slots_stay (present_entry v es) no_entries ms (f ∷ fs) (g ∷ gs) before a b agree told led h i = absurd i
-    slots_stay (absent_entry es) is ms [] gs before a b agree told led h i = absurd h
-    slots_stay (present_entry v es) is ms [] gs before a b agree told led h i = absurd h
     slots_stay (absent_entry es) is ms (f ∷ fs) [] before a b agree told led h i = absurd agree
     slots_stay (present_entry v es) is ms (f ∷ fs) [] before a b agree told led h i = absurd agree
+    slots_stay _ is ms _ gs before a b agree told led h i = absurd h
 
 same_outcome : (r : Counted Datum) (p q : Datum × ℕ) → r ≡ Ok p → r ≡ Ok q → p ≡ q
 same_outcome r p q one two = let both : ◌≡◌ {A = Counted Datum} (Ok p) (Ok q) = sym one ∙ two in cc

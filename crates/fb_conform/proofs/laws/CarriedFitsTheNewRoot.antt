@@ -7,8 +7,8 @@ use Rattle.fb_schema.specs.declared.kinds.Kind.TheVariants.{Scalar, Enum, Struct
 use Rattle.fb_schema.specs.declared.kinds.Shape.{Shape}
 use Rattle.fb_schema.specs.declared.kinds.Shape.TheVariants.{One, Many}
 use Rattle.fb_schema.specs.Schema.{Name, DeclaredField, DeclaredBody, table_body, struct_body, enum_body, union_body}
-use Rattle.fb_schema.specs.Schema.{DeclaredType, body_in, body_at, slots_in, parts_in, base_in, is_table}
-use Rattle.fb_schema.specs.WellDeclared.{InRange, MarksFit, IsPart, IsBody}
+use Rattle.fb_schema.specs.Schema.{DeclaredType, body_in, body_at, slots_in, parts_in, is_table}
+use Rattle.fb_schema.specs.WellDeclared.{MarksFit, IsPart, IsBody}
 use Rattle.fb_layout.specs.Laid.{LaidSchema, Slot, StoredKind, scalar_kind, struct_kind, table_kind, union_kind}
 use Rattle.fb_layout.specs.Laid.{text_kind, StoredShape, one_of, vector_of, stored_shape, default_of, slot_of, slots_of}
 use Rattle.fb_layout.specs.Laid.{kind_in, parts_of}
@@ -18,7 +18,8 @@ use Rattle.fb_value.specs.Datum.{Datum, a_number, a_text, a_vector, a_struct, a_
 use Rattle.fb_value.specs.Datum.{no_parts, more_parts, SlotEntries, no_entries, absent_entry, present_entry}
 use Rattle.fb_value.specs.Fits.{MayBeAbsent, Fits, PartsFit, EachFits, EntriesFit, kind_of_type, FitsKind}
 use Rattle.fb_value.specs.Reads.{default_entry}
-use Rattle.fb_conform.specs.Carry.{carry, carry_items, carry_slots, new_slots, unless_gone}
+use Rattle.fb_conform.specs.Carry.{carry, carry_items, carry_slots, new_slots}
+use Rattle.fb_conform.specs.Movement.{unless_gone}
 use Rattle.fb_conform.specs.Laws.{CarriedFits}
 use Rattle.fb_conform.specs.Twins.{to_new}
 use Rattle.fb_conform.proofs.laws.ConformingLayoutsAgree.{twins, agrees}
@@ -89,9 +90,9 @@ default_fits : (L : LaidSchema) (f : DeclaredField) (s : Shape) (gone given : Bo
     → default_of (gone || given) f.default (stored_shape L.schema s) ≡ Some n
     → (gone ≡ false) × Fits L (stored_shape L.schema s) (a_number n)
 default_fits L f (One (Scalar b)) false false marks n e =
-    (refl, subst (λ (m : ℤ). InRange b m) (same_default _ _ e) marks.0)
+    (refl, rw (← same_default _ _ e) marks.0)
 default_fits L f (One (Enum t)) false false marks n e =
-    (refl, subst (λ (m : ℤ). InRange (base_in (body_at L.schema t.0)) m) (same_default _ _ e) marks.0)
+    (refl, rw (← same_default _ _ e) marks.0)
 default_fits L f (One (Scalar b)) false true marks n e = cc
 default_fits L f (One (Scalar b)) true given marks n e = cc
 default_fits L f (One (Enum t)) false true marks n e = cc
@@ -125,9 +126,7 @@ slots_from L (f ∷ fs) each = (
 slots_made : (L : LaidSchema) (t : ℕ) (body : DeclaredBody) → IsBody L.schema t body
     → SlotsMade L (map (slot_of L.schema) (slots_in body))
 slots_made L t (table_body fs) is = slots_from L fs (λ k f e. (is.shapes k f e).1)
-slots_made L t (struct_body fs force) is = tt
-slots_made L t (enum_body base flags values) is = tt
-slots_made L t (union_body members) is = tt
+slots_made L t _ is = tt
 
 -- a struct's fields are numbers and structs
 abbrev AreInline : List StoredKind → Type 0
@@ -215,8 +214,7 @@ module _ (A B : LaidSchema) (old : IsWellMade A) (new : IsWellMade B) (fit : Agr
         slots_fit (slots_of A t) (slots_of B (to_new A B t)) ss (fit.slots t known) (slots_known t known) whole fits.1
         in (
           ap (to_new A B) fits.0,
-          subst (λ (n : ℕ). EntriesFit B (slots_of B (to_new A B t)) (carry_slots A B (slots_of B (to_new A B n)) ss))
-              (sym fits.0) slots,
+          rw fits.0 slots,
         )
     fits_on (one_of (union_kind u)) (a_member c d) known whole fits =
         let moved = fit.members u c fits.0 known fits.1 in

@@ -1,6 +1,6 @@
 -- A schema that conforms agrees.
 use Rattle.std.proofs.Common.{◌≡◌, ℕ, zero, suc, ◌+◌, ◌<◌, ◌||◌, Bool, true, false, IsTrue, List, [], ◌∷◌, map, Some, ℤ}
-use Rattle.std.proofs.Common.{refl, sym, ap, subst, ◌∙◌, arith}
+use Rattle.std.proofs.Common.{refl, sym, ap, ◌∙◌, arith}
 use Rattle.std.specs.Option.{unwrap_or}
 use Rattle.fb_schema.specs.declared.kinds.TypeId.{TypeId}
 use Rattle.fb_schema.specs.declared.kinds.Kind as declared_kind
@@ -25,7 +25,7 @@ use Rattle.fb_layout.specs.Sizes.{IsLeastMultiple}
 use Rattle.fb_layout.specs.WellMade.{StandInOrder, IsWellMade}
 use Rattle.fb_conform.proofs.twins.TypesAreFoundByTheirNames.{named_twin, twin_within}
 use Rattle.fb_conform.proofs.laws.EachBodyIsDeclared.{is_body, slots_shaped, AllParts, parts_known, part_shape}
-use Rattle.fb_conform.proofs.laws.EachBodyIsDeclared.{members_known, codes_first}
+use Rattle.fb_conform.proofs.laws.EachBodyIsDeclared.{members_known}
 use Rattle.fb_conform.proofs.laws.LayoutsAgree.{SlotStays, Grown, StructStays, types_in, Agrees}
 use Rattle.fb_conform.proofs.laws.BodiesOfOneKindAgree.{least_same, base_same, sort_of_body, same_sort, table_sort}
 use Rattle.fb_conform.proofs.laws.BodiesOfOneKindAgree.{struct_sort, enum_sort, union_sort, still_table, was_table}
@@ -39,7 +39,7 @@ module _ (A B : LaidSchema) (old : IsWellMade A) (new : IsWellMade B) (conforms 
   twins t known =
       let h = conforms (TypeGone (record { 0 = t })) known in
       let same : to_new A B t ≡ h.0 = ap (λ o. unwrap_or o 0) h.1 in
-      subst (λ (u : ℕ). Twins A.schema B.schema t u) (sym same) h.1
+      rw same h.1
 
   pub within : (t : ℕ) → t < types_in A → to_new A B t < types_in B
   within t known = twin_within A.schema B.schema t (to_new A B t) (twins t known)
@@ -133,11 +133,8 @@ module _ (A B : LaidSchema) (old : IsWellMade A) (new : IsWellMade B) (conforms 
   kind_known : (k : declared_kind.Kind) → KindNames A.schema k → KnownKind (types_in A) (stored_kind A.schema k)
   kind_known (Scalar b) known = tt
   kind_known (Enum t) known = tt
-  kind_known (Fixed t) known = known.0
-  kind_known (Table t) known = known.0
-  kind_known (Union t) known = known.0
-  kind_known (Code t) known = known.0
   kind_known Text known = tt
+  kind_known _ known = known.0
 
   shape_known : (s : declared_shape.Shape) → IsShape A.schema s → KnownShape (types_in A) (stored_shape A.schema s)
   shape_known (One k) known = kind_known k known
@@ -148,12 +145,7 @@ module _ (A B : LaidSchema) (old : IsWellMade A) (new : IsWellMade B) (conforms 
   unfolding is_scalar
   default_moved (One (Scalar b)) x y m n same = rw ((same refl).0, (same refl).1) refl
   default_moved (One (Enum t)) x y m n same = rw ((same refl).0, (same refl).1) refl
-  default_moved (One (Fixed t)) x y m n same = never y n _ refl ∙ sym (never x m _ refl)
-  default_moved (One (Table t)) x y m n same = never y n _ refl ∙ sym (never x m _ refl)
-  default_moved (One (Union t)) x y m n same = never y n _ refl ∙ sym (never x m _ refl)
-  default_moved (One (Code t)) x y m n same = never y n _ refl ∙ sym (never x m _ refl)
-  default_moved (One Text) x y m n same = never y n _ refl ∙ sym (never x m _ refl)
-  default_moved (Many k) x y m n same = never y n _ refl ∙ sym (never x m _ refl)
+  default_moved _ x y m n same = never y n _ refl ∙ sym (never x m _ refl)
 
   still_in_use : (x y : Bool) → (x ≡ true → y ≡ true) → y ≡ false → x ≡ false
   still_in_use true y h e = let g : y ≡ true = h refl in cc
@@ -220,10 +212,10 @@ module _ (A B : LaidSchema) (old : IsWellMade A) (new : IsWellMade B) (conforms 
   unfolding Sized
   laid_same from [] [] [] last end sized first second = (refl, sym second ∙ first)
   laid_same from (k ∷ ks) (o ∷ os) (q ∷ qs) last end sized first second =
-      let here : q ≡ o = least_same _ _ _ _ first.0 (subst (λ (z : ℕ). IsLeastMultiple z from q) sized.1 second.0) in
+      let here : q ≡ o = least_same _ _ _ _ first.0 (rw (← sized.1) second.0) in
       let after : q + size_of B (moved_kind (to_new A B) k) ≡ o + size_of A k = rw (here, sized.0) refl in
       let rest = laid_same (o + size_of A k) ks os qs last end sized.2 first.1
-      (subst (λ (z : ℕ). StandInOrder B z (map (moved_kind (to_new A B)) ks) qs end) after second.1) in
+      (rw (← after) second.1) in
       (rw (here, rest.0) refl, rest.1)
   laid_same from [] (o ∷ os) qs last end sized first second = absurd first
   laid_same from (k ∷ ks) [] qs last end sized first second = absurd first
@@ -294,11 +286,9 @@ module _ (A B : LaidSchema) (old : IsWellMade A) (new : IsWellMade B) (conforms 
       (parts_known B.schema u y (is_body B.schema new.declared u (within s known))) kept.1 in
       let sized = parts_sized s (parts_in x) parts lower in
       let same = laid_same 0 (parts_of A s) (struct_at A s).offsets (struct_at B u).offsets first.end second.end sized
-      first.fields (subst (λ (ks : List StoredKind). StandInOrder B 0 ks (struct_at B u).offsets second.end) kinds
-      second.fields) in
+      first.fields (rw (← kinds) second.fields) in
       let size_in : IsLeastMultiple (struct_at A s).align first.end (struct_at B u).size =
-      subst (λ (z : ℕ). IsLeastMultiple z first.end (struct_at B u).size) kept.2
-      (subst (λ (z : ℕ). IsLeastMultiple (struct_at B u).align z (struct_at B u).size) same.1 second.sized) in
+      rw (← kept.2) (rw (← same.1) second.sized) in
       record {
         size = least_same _ _ _ _ first.sized size_in;
         align = kept.2;
@@ -321,7 +311,7 @@ module _ (A B : LaidSchema) (old : IsWellMade A) (new : IsWellMade B) (conforms 
         align = ap (λ r. r.align) same;
         offsets = ap (λ r. r.offsets) same;
         kinds = none_too ∙ ap (map (moved_kind (to_new A B))) (sym none);
-        known = subst (λ (ks : List StoredKind). KnownKinds (types_in A) ks) (sym none) tt;
+        known = rw none tt;
       }
 
   struct_either : (s : ℕ) → s < types_in A → ((t : ℕ) → t < s → t < types_in A → Alike t) → (c : Bool)
@@ -342,7 +332,6 @@ module _ (A B : LaidSchema) (old : IsWellMade A) (new : IsWellMade B) (conforms 
     root_known = old.declared.root.0;
     identifier = conforms IdentifierChanged;
     slots = λ t known. slots_grown t known;
-    codes = λ t known. codes_first A.schema t (body_at A.schema t) (is_body A.schema old.declared t known);
     structs = λ s known. struct_stays (suc s) s (omega arith) known;
     members = λ u c t known e. members_moved u c t known e;
   }

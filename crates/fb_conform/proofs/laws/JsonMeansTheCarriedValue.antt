@@ -14,7 +14,7 @@ use Rattle.fb_schema.specs.Schema.{Name, DeclaredField, DeclaredBody, table_body
 use Rattle.fb_schema.specs.Schema.{DeclaredSchema, body_at, slots_in, parts_in, is_table, is_struct}
 use Rattle.fb_schema.specs.Found.{fields_in, member_coded}
 use Rattle.fb_schema.specs.WellDeclared.{Names, KindNames, IsShape, IsPart, IsBody, IsUnionBody}
-use Rattle.fb_layout.specs.Laid.{LaidSchema, slot_of, slots_of, member_by_code}
+use Rattle.fb_layout.specs.Laid.{LaidSchema, slot_of, member_by_code}
 use Rattle.fb_layout.specs.WellMade.{IsWellMade}
 use Rattle.fb_value.specs.Datum.{Datum, a_number, a_text, a_vector, a_struct, a_table, a_member, an_unknown, Parts}
 use Rattle.fb_value.specs.Datum.{no_parts, more_parts, SlotEntries, no_entries, absent_entry, present_entry}
@@ -30,7 +30,7 @@ use Rattle.fb_conform.specs.Names.{slot_named, KeepsNames}
 use Rattle.fb_conform.specs.NamesStay.{NamesStay, PartsStay, EachStays, SlotsStay}
 use Rattle.fb_conform.specs.Twins.{SlotTwins, to_new}
 use Rattle.fb_conform.proofs.laws.BodiesOfOneKindAgree.{still_table, struct_kept, first_same}
-use Rattle.fb_conform.proofs.laws.CarriedIsNoLarger.{depth_carried, cells_carried}
+use Rattle.fb_conform.proofs.laws.MovedIsNoLarger.{depth_carried, cells_carried}
 use Rattle.fb_conform.proofs.laws.ConformingLayoutsAgree.{twins, within, same_kind, slot_stays, members_moved, agrees}
 use Rattle.fb_conform.proofs.laws.DeclaredShapesByTheirNewNumbers.{id, to_kind, to_shape, shape_renumbered}
 use Rattle.fb_conform.proofs.laws.EachBodyIsDeclared.{is_body, slots_shaped, AllParts, parts_known, part_shape}
@@ -47,15 +47,11 @@ use Rattle.fb_conform.proofs.laws.TextsKeepTheirNumbers.{enum_means}
 -- a table's slots are its fields, and so are a struct's
 pub fields_of_table : (body : DeclaredBody) → IsTrue (is_table body) → fields_in body ≡ slots_in body
 fields_of_table (table_body fs) is = refl
-fields_of_table (struct_body fs force) is = absurd cc
-fields_of_table (enum_body base flags values) is = absurd cc
-fields_of_table (union_body members) is = absurd cc
+fields_of_table _ is = absurd cc
 
 pub fields_of_struct : (body : DeclaredBody) → IsTrue (is_struct body) → fields_in body ≡ parts_in body
 fields_of_struct (struct_body fs force) is = refl
-fields_of_struct (table_body fs) is = absurd cc
-fields_of_struct (enum_body base flags values) is = absurd cc
-fields_of_struct (union_body members) is = absurd cc
+fields_of_struct _ is = absurd cc
 
 -- a member is a table
 member_is : (S : DeclaredSchema) (ms : List (Name × ℕ)) → IsUnionBody S ms → (k m : ℕ)
@@ -67,8 +63,7 @@ member_is S ms is k m = by (slice_get ms k) refl
     by (Some x) at e =
         let there : get_or ms k x ≡ x = get_or_from_slice_get ms k x x at in
         let number : x.1 ≡ m = cc in
-        subst (λ (n : ℕ). Names is_table S n) (ap (λ (y : Name × ℕ). y.1) there ∙ number)
-        (is.tables k x (slice_get_within ms k x at))
+        rw (← ap (λ (y : Name × ℕ). y.1) there ∙ number) (is.tables k x (slice_get_within ms k x at))
 
 pub member_table : (S : DeclaredSchema) (t : ℕ) (body : DeclaredBody) → IsBody S t body → (c m : ℕ)
     → member_coded body c ≡ Some m → Names is_table S m
@@ -86,14 +81,7 @@ EndsWhole (f ∷ g ∷ fs) = EndsWhole (g ∷ fs)
 
 pub code_shape : (gone : Bool) (s : Shape) → is_code gone s ≡ true → (u : TypeId) × (s ≡ One (Code u))
 code_shape false (One (Code u)) e = (u, refl)
-code_shape true s e = absurd cc
-code_shape false (One (Scalar x)) e = absurd cc
-code_shape false (One (Enum x)) e = absurd cc
-code_shape false (One (Fixed x)) e = absurd cc
-code_shape false (One (Table x)) e = absurd cc
-code_shape false (One (Union x)) e = absurd cc
-code_shape false (One Text) e = absurd cc
-code_shape false (Many k) e = absurd cc
+code_shape _ _ e = absurd cc
 
 abbrev Followed : List DeclaredField → Type 0
 Followed fs = (k : ℕ) (f : DeclaredField) (u : TypeId) → slice_get fs k ≡ Some f → f.shape ≡ One (Code u)
@@ -113,9 +101,7 @@ ends_whole (f ∷ g ∷ fs) followed = ends_whole (g ∷ fs) (λ k h u e s. foll
 
 pub slots_end_whole : (S : DeclaredSchema) (t : ℕ) (body : DeclaredBody) → IsBody S t body → EndsWhole (slots_in body)
 slots_end_whole S t (table_body fs) is = ends_whole fs (λ k f u e s. let h = is.unions.followed k f u e s in (h.0, h.1))
-slots_end_whole S t (struct_body fs force) is = tt
-slots_end_whole S t (enum_body base flags values) is = tt
-slots_end_whole S t (union_body members) is = tt
+slots_end_whole S t _ is = tt
 
 -- ---- slots and fields of two versions, one by one
 
@@ -293,32 +279,15 @@ module _ (A B : LaidSchema) (old : IsWellMade A) (new : IsWellMade B) (conforms 
   -- what no shape means
   no_vector : (t : Data) (kind : Kind) (ds : Parts) → MeansAs A false t (One kind) (a_vector ds) → ⊥
   no_vector t (Scalar b) ds h = h
-  no_vector t (Enum e) ds h = h
-  no_vector t (Fixed s) ds h = h
-  no_vector t (Table i) ds h = h
-  no_vector t (Union u) ds h = h
-  no_vector t (Code u) ds h = h
-  no_vector t Text ds h = h
+  no_vector t _ ds h = h
 
   no_member : (t : Data) (s : Shape) (c : ℕ) (d : Datum) → MeansAs A false t s (a_member c d) → ⊥
   no_member t (One (Scalar b)) c d h = h
-  no_member t (One (Enum e)) c d h = h
-  no_member t (One (Fixed s)) c d h = h
-  no_member t (One (Table i)) c d h = h
-  no_member t (One (Union u)) c d h = h
-  no_member t (One (Code u)) c d h = h
-  no_member t (One Text) c d h = h
-  no_member t (Many kind) c d h = h
+  no_member t _ c d h = h
 
   no_unknown : (t : Data) (s : Shape) (c : ℕ) → MeansAs A false t s (an_unknown c) → ⊥
   no_unknown t (One (Scalar b)) c h = h
-  no_unknown t (One (Enum e)) c h = h
-  no_unknown t (One (Fixed s)) c h = h
-  no_unknown t (One (Table i)) c h = h
-  no_unknown t (One (Union u)) c h = h
-  no_unknown t (One (Code u)) c h = h
-  no_unknown t (One Text) c h = h
-  no_unknown t (Many kind) c h = h
+  no_unknown t _ c h = h
 
   -- behind the last old slot no code is told
   abbrev Ends : Option DeclaredField → List DeclaredField → Type 0
@@ -380,9 +349,8 @@ module _ (A B : LaidSchema) (old : IsWellMade A) (new : IsWellMade B) (conforms 
           h.0,
           h.1,
           ap to h.2,
-          subst (λ (n : ℕ). IsKnown B false (to n) h.0) same there.0,
-          subst (λ (n : ℕ). SlotsMean B false h.0 0 (slots_in (body_at B.schema (to n)))
-              (carry_slots A B (slots_of B (to n)) es)) same is,
+          rw (← same) there.0,
+          rw (← same) is,
         )
     mean (a_vector ds) t (Many kind) known h stays = (
       h.0,
@@ -455,11 +423,9 @@ module _ (A B : LaidSchema) (old : IsWellMade A) (new : IsWellMade B) (conforms 
         (λ t u c there is m. member_means v t u c
         (subst (λ (z : Shape). IsShape A.schema z) is agree.0.known).0 m
         (subst (λ (z : Shape). NamesStay A B t z v) is (of_member f v (member_called f.name ms) t there stays.0))) h
-    slots_mean no_entries ms (f ∷ fs) gs before a b agree whole ends told led h stays = absurd h
-    slots_mean (absent_entry es) ms [] gs before a b agree whole ends told led h stays = absurd h
-    slots_mean (present_entry v es) ms [] gs before a b agree whole ends told led h stays = absurd h
     slots_mean (absent_entry es) ms (f ∷ fs) [] before a b agree whole ends told led h stays = absurd agree
     slots_mean (present_entry v es) ms (f ∷ fs) [] before a b agree whole ends told led h stays = absurd agree
+    slots_mean _ ms _ gs before a b agree whole ends told led h stays = absurd h
 
 pub names_carry : NamesCarry
 names_carry A B most t v old new conforms keeps stays means =

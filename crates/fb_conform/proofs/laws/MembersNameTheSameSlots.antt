@@ -1,6 +1,6 @@
 -- The members of an object, each of which has the name of a field in use of both versions of a type.
 use Rattle.std.proofs.Common.{◌≡◌, ℕ, not, Bool, true, false, Option, None, Some, slice_get, Ordering}
-use Rattle.std.proofs.Common.{Less, Equal, Greater, nat_cmp, refl, sym, ap, subst, ◌∙◌}
+use Rattle.std.proofs.Common.{Less, Equal, Greater, nat_cmp, refl, sym, ap, ◌∙◌}
 use Rattle.std.specs.Ordering.{match_ordering, is_eq}
 use Rattle.std.specs.Cmp.Lexicographic.{slice_cmp}
 use Rattle.std.proofs.lemmas.Bool.{and_parts}
@@ -64,7 +64,7 @@ module _ (S T : DeclaredSchema) (t u : ℕ) (x y : DeclaredBody) (old : IsBody S
       keeps k found.field.slot f.name (field_slot S t x old k f was)
       (slot_of_field y f.name found.field found.there) in
       let both : Some g ≡ Some found.field =
-      sym is ∙ subst (λ (j : ℕ). slice_get (fields_in y) j ≡ Some found.field) slot at.0 in
+      sym is ∙ rw (← slot) at.0 in
       let one : g ≡ found.field = cc in
       (ap (λ (h : DeclaredField). h.name) one ∙ at.1, ap (λ (h : DeclaredField). h.deprecated) one ∙ found.used)
 
@@ -77,7 +77,7 @@ module _ (S T : DeclaredSchema) (t u : ℕ) (x y : DeclaredBody) (old : IsBody S
       let slot : k ≡ found.field.slot =
       keeps found.field.slot k g.name (slot_of_field x g.name found.field found.there)
       (field_slot T u y new k g is) in
-      (found.field, subst (λ (j : ℕ). slice_get (fields_in x) j ≡ Some found.field) (sym slot) at.0, at.1)
+      (found.field, rw slot at.0, at.1)
 
   -- a slot's member is the same under both names
   pub same_member : (k : ℕ) (f g : DeclaredField) → slice_get (fields_in x) k ≡ Some f

@@ -2,10 +2,10 @@
 use Rattle.std.proofs.Common.{◌≡◌, ℕ, suc, ◌<◌, List, [], ◌∷◌}
 use Rattle.std.proofs.Common.{refl}
 use Rattle.fb_value.specs.Num.{Bytes}
-use Rattle.fb_layout.specs.Laid.{LaidSchema, Slot, StoredKind, scalar_kind, struct_kind, table_kind, union_kind}
-use Rattle.fb_layout.specs.Laid.{code_kind, text_kind, StoredShape, one_of, vector_of, slots_of, size_of, align_of}
-use Rattle.fb_value.specs.Places.{table_part, member_part, text_part, vector_part, Sort, ref_place, part_place}
-use Rattle.fb_value.specs.Places.{inline_place, code_place, unknown_place}
+use Rattle.fb_layout.specs.Laid.{LaidSchema, Slot, StoredKind, scalar_kind, struct_kind}
+use Rattle.fb_layout.specs.Laid.{StoredShape, one_of, slots_of, size_of, align_of}
+use Rattle.fb_value.specs.Places.{table_part, member_part, vector_part, Sort, part_place}
+use Rattle.fb_value.specs.Places.{inline_place}
 use Rattle.fb_value.specs.Rules.{Keeps, fault_by, is_union, is_missing, first_missing}
 use Rattle.fb_conform.specs.Twins.{to_new}
 use Rattle.fb_conform.proofs.laws.OldTypesByTheirNewNumbers.{moved_kind, moved_shape, moved_sort, KnownKind, KnownSort}
@@ -13,12 +13,7 @@ use Rattle.fb_conform.proofs.laws.LayoutsAgree.{SlotStays, Grown, types_in, Agre
 
 pub union_moved : (to : ℕ → ℕ) (s : StoredShape) → is_union (moved_shape to s) ≡ is_union s
 union_moved to (one_of (scalar_kind base)) = refl
-union_moved to (one_of (struct_kind s)) = refl
-union_moved to (one_of (table_kind t)) = refl
-union_moved to (one_of (union_kind u)) = refl
-union_moved to (one_of (code_kind u)) = refl
-union_moved to (one_of text_kind) = refl
-union_moved to (vector_of kind) = refl
+union_moved to _ = refl
 
 missing_same : (to : ℕ → ℕ) (n : ℕ) (b : Bytes) (p k : ℕ) (f g : Slot) → SlotStays to n f g
     → is_missing b p k g ≡ is_missing b p k f
@@ -35,21 +30,13 @@ missing_moved to n b p k (f ∷ fs) [] grown = absurd grown
 module _ (A B : LaidSchema) (agrees : Agrees A B) where
   pub size_moved : (kind : StoredKind) → KnownKind (types_in A) kind
       → size_of B (moved_kind (to_new A B) kind) ≡ size_of A kind
-  size_moved (scalar_kind base) known = refl
   size_moved (struct_kind s) known = (agrees.structs s known).size
-  size_moved (table_kind t) known = refl
-  size_moved (union_kind u) known = refl
-  size_moved (code_kind u) known = refl
-  size_moved text_kind known = refl
+  size_moved _ known = refl
 
   pub align_moved : (kind : StoredKind) → KnownKind (types_in A) kind
       → align_of B (moved_kind (to_new A B) kind) ≡ align_of A kind
-  align_moved (scalar_kind base) known = refl
   align_moved (struct_kind s) known = (agrees.structs s known).align
-  align_moved (table_kind t) known = refl
-  align_moved (union_kind u) known = refl
-  align_moved (code_kind u) known = refl
-  align_moved text_kind known = refl
+  align_moved _ known = refl
 
   table_keeps : (b : Bytes) (t p : ℕ) → t < types_in A → Keeps A b (part_place (table_part t)) p
       → Keeps B b (part_place (table_part (to_new A B t))) p
@@ -61,28 +48,22 @@ module _ (A B : LaidSchema) (agrees : Agrees A B) where
   pub keeps_moved : (b : Bytes) (s : Sort) (p : ℕ) → KnownSort (types_in A) s → Keeps A b s p
       → Keeps B b (moved_sort (to_new A B) s) p
   unfolding fault_by
-  keeps_moved b (ref_place X) p known keeps = keeps
   keeps_moved b (part_place (table_part t)) p known keeps = table_keeps b t p known keeps
   keeps_moved b (part_place (member_part c t)) p known keeps = table_keeps b t p known keeps
-  keeps_moved b (part_place text_part) p known keeps = keeps
   keeps_moved b (part_place (vector_part kind)) p known keeps = rw (size_moved kind known, align_moved kind known) keeps
   keeps_moved b (inline_place kind) p known keeps = rw (size_moved kind known, align_moved kind known) keeps
-  keeps_moved b (code_place u k required here) p known keeps = keeps
-  keeps_moved b (unknown_place c) p known keeps = keeps
+  keeps_moved b _ p known keeps = keeps
 
   pub keeps_back : (b : Bytes) (s : Sort) (p : ℕ) → KnownSort (types_in A) s → Keeps B b (moved_sort (to_new A B) s) p
       → Keeps A b s p
   unfolding fault_by
-  keeps_back b (ref_place X) p known keeps = keeps
   keeps_back b (part_place (table_part t)) p known keeps =
       rw (← missing_moved (to_new A B) (types_in A) b p 0 (slots_of A t) (slots_of B (to_new A B t))
       (agrees.slots t known)) keeps
   keeps_back b (part_place (member_part c t)) p known keeps =
       rw (← missing_moved (to_new A B) (types_in A) b p 0 (slots_of A t) (slots_of B (to_new A B t))
       (agrees.slots t known)) keeps
-  keeps_back b (part_place text_part) p known keeps = keeps
   keeps_back b (part_place (vector_part kind)) p known keeps =
       rw (← size_moved kind known, ← align_moved kind known) keeps
   keeps_back b (inline_place kind) p known keeps = rw (← size_moved kind known, ← align_moved kind known) keeps
-  keeps_back b (code_place u k required here) p known keeps = keeps
-  keeps_back b (unknown_place c) p known keeps = keeps
+  keeps_back b _ p known keeps = keeps

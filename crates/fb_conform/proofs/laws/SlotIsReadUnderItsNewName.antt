@@ -5,18 +5,19 @@ use Rattle.std.proofs.Common.{subst, ◌∙◌}
 use Rattle.serde_json.specs.Data.{Data, Members}
 use Rattle.serde_json.specs.Find.{get_member}
 use Rattle.fb_schema.specs.declared.kinds.TypeId.{TypeId}
-use Rattle.fb_schema.specs.declared.kinds.Kind.TheVariants.{Scalar, Enum, Struct as Fixed, Table, Union, Code, Text}
+use Rattle.fb_schema.specs.declared.kinds.Kind.TheVariants.{Union, Code}
 use Rattle.fb_schema.specs.declared.kinds.Shape.{Shape}
-use Rattle.fb_schema.specs.declared.kinds.Shape.TheVariants.{One, Many}
+use Rattle.fb_schema.specs.declared.kinds.Shape.TheVariants.{One}
 use Rattle.fb_schema.specs.Schema.{DeclaredField}
 use Rattle.fb_schema.specs.WellDeclared.{IsShape}
 use Rattle.fb_layout.specs.Laid.{LaidSchema, stored_shape, default_of, slot_of}
 use Rattle.fb_layout.specs.WellMade.{IsWellMade}
 use Rattle.fb_value.specs.Datum.{Datum, SlotEntries, absent_entry, present_entry}
-use Rattle.fb_json.specs.Means.{CodeMeans, CodeAt, unless_null, member_called, AbsentMeans, AbsentAt, PresentMeans}
+use Rattle.fb_json.specs.Means.{CodeAt, unless_null, member_called, AbsentMeans, AbsentAt, PresentMeans}
 use Rattle.fb_json.specs.Means.{MeansAs}
 use Rattle.fb_json.specs.Means.{MemberMeans, SlotsMean}
-use Rattle.fb_conform.specs.Carry.{carry, unless_gone}
+use Rattle.fb_conform.specs.Carry.{carry}
+use Rattle.fb_conform.specs.Movement.{unless_gone}
 use Rattle.fb_conform.specs.Conforms.{Conforms}
 use Rattle.fb_conform.specs.Names.{KeepsNames}
 use Rattle.fb_conform.specs.NamesStay.{CodeStays}
@@ -33,13 +34,7 @@ use Rattle.fb_conform.proofs.laws.TextsKeepTheirNumbers.{code_means}
 absent_code : (L : LaidSchema) (g : DeclaredField) (c : ℕ) (o : Option Data) (s : Shape) → is_code false s ≡ true
     → AbsentMeans L g c o s
 absent_code L g c o (One (Code u)) e = tt
-absent_code L g c o (One (Scalar x)) e = absurd cc
-absent_code L g c o (One (Enum x)) e = absurd cc
-absent_code L g c o (One (Fixed x)) e = absurd cc
-absent_code L g c o (One (Table x)) e = absurd cc
-absent_code L g c o (One (Union x)) e = absurd cc
-absent_code L g c o (One Text) e = absurd cc
-absent_code L g c o (Many k) e = absurd cc
+absent_code L g c o _ e = absurd cc
 
 -- nothing is present in the slot of a code
 pub present_no_code : (L : LaidSchema) (f : DeclaredField) (s : Shape) (o : Option Data) (d : Datum)
@@ -53,13 +48,7 @@ present_no_code L f (One (Code u)) None d own member h is e =
     code_default L.schema h.0 f.default false (f.deprecated || f.optional) (One (Code u)) given in
     let bad : false ≡ true = sym none ∙ e in cc
 present_no_code L f (One (Code u)) (Some t) d own member h is e = h
-present_no_code L f (One (Scalar x)) o d own member h is e = cc
-present_no_code L f (One (Enum x)) o d own member h is e = cc
-present_no_code L f (One (Fixed x)) o d own member h is e = cc
-present_no_code L f (One (Table x)) o d own member h is e = cc
-present_no_code L f (One (Union x)) o d own member h is e = cc
-present_no_code L f (One Text) o d own member h is e = cc
-present_no_code L f (Many k) o d own member h is e = cc
+present_no_code L f _ o d own member h is e = cc
 
 pub no_code : (gone : Bool) (s : Shape) (u : TypeId) → s ≡ One (Union u) → is_code gone s ≡ false
 no_code true s u e = refl
@@ -100,12 +89,12 @@ module _ (A B : LaidSchema) (old : IsWellMade A) (new : IsWellMade B) (conforms 
           let u = here.0.0 in
           let there = code_means A B old new conforms keeps u (union_known f.shape here.0 agree.known here.1)
           (get_member f.name ms) c here.2
-          (subst (λ (z : Shape). CodeStays A B z (get_member f.name ms)) here.1 (stays moved)) in
+          (rw (← here.1) (stays moved)) in
           record {
             code = c;
             told_here = tells_code B.schema ms g g.deprecated g.shape b c (id (to_new A B u)) used
                 (agree.shape ∙ ap (to_shape (to_new A B)) here.1)
-                (subst (λ (o : Option Data). CodeMeans B.schema (to_new A B u) o c) (sym agree.member) there);
+                (rw agree.member there);
             told_next = λ code. refl;
             of_union = λ w in_use shape. refl;
           }
@@ -165,7 +154,7 @@ module _ (A B : LaidSchema) (old : IsWellMade A) (new : IsWellMade B) (conforms 
           never : is_code f.deprecated f.shape ≡ true → ⊥
           never is = present_no_code A f f.shape (member_called f.name ms) d (λ t. MeansAs A false t f.shape d)
               (λ t u. MemberMeans A false t u h.0 d) h.3 refl
-              (subst (λ (x : Bool). is_code x f.shape ≡ true) h.2 is)
+              (rw (← h.2) is)
 
           n : NewCode h.0
           n = new_code h.0 h.1 (λ is. absurd (never is))

@@ -34,26 +34,13 @@ Told (Some g) a b = is_code g.deprecated g.shape ≡ true → b ≡ a
 -- a slot that is no code in use hands on the code that it was handed
 pub handed_on : (S : DeclaredSchema) (ms : Members) (g : DeclaredField) (gone : Bool) (s : Shape) (b : ℕ)
     → is_code gone s ≡ false → CodeAt S ms g gone s b b
-handed_on S ms g true s b e = refl
 handed_on S ms g false (One (Code u)) b e = absurd cc
-handed_on S ms g false (One (Scalar x)) b e = refl
-handed_on S ms g false (One (Enum x)) b e = refl
-handed_on S ms g false (One (Fixed x)) b e = refl
-handed_on S ms g false (One (Table x)) b e = refl
-handed_on S ms g false (One (Union x)) b e = refl
-handed_on S ms g false (One Text) b e = refl
-handed_on S ms g false (Many k) b e = refl
+handed_on S ms g _ _ b e = refl
 
 stored_code : (S : DeclaredSchema) (s : Shape) (u : ℕ) → stored_shape S s ≡ one_of (code_kind u)
     → is_code false s ≡ true
 stored_code S (One (Code x)) u e = refl
-stored_code S (One (Scalar x)) u e = cc
-stored_code S (One (Enum x)) u e = cc
-stored_code S (One (Fixed x)) u e = cc
-stored_code S (One (Table x)) u e = cc
-stored_code S (One (Union x)) u e = cc
-stored_code S (One Text) u e = cc
-stored_code S (Many k) u e = cc
+stored_code S _ u e = cc
 
 -- the code that a union in use is read behind
 pub told_before : (S : DeclaredSchema) (before : Option DeclaredField) (a b u : ℕ) → Told before a b
@@ -63,8 +50,7 @@ told_before S (Some g) a b u told led =
     let same : Some (slot_of S g) ≡ Some led.0 = led.1 in
     let one : slot_of S g ≡ led.0 = cc in
     let shape : stored_shape S g.shape ≡ one_of (code_kind u) = ap (λ (s : Slot). s.shape) one ∙ led.2 in
-    told (subst (λ (x : Bool). is_code x g.shape ≡ true) (sym (ap (λ (s : Slot). s.deprecated) one ∙ led.3))
-    (stored_code S g.shape u shape))
+    told (rw (ap (λ (s : Slot). s.deprecated) one ∙ led.3) (stored_code S g.shape u shape))
 
 -- the same of a union of any number, told by its shape
 pub told_union : (S : DeclaredSchema) (before : Option DeclaredField) (a b : ℕ) (gone : Bool) (s : Shape) (u : TypeId)
@@ -83,12 +69,7 @@ pub absent_means : (L : LaidSchema) (g : DeclaredField) (c : ℕ) (o : Option Da
     → ((u : TypeId) → s ≡ One (Union u) → c ≡ 0) → AbsentMeans L g c o s
 absent_means L g c o (One (Code u)) gone none free code = tt
 absent_means L g c o (One (Union u)) gone none free code = (code u refl, gone, none, free)
-absent_means L g c o (One (Scalar b)) gone none free code = (gone, none, free)
-absent_means L g c o (One (Enum b)) gone none free code = (gone, none, free)
-absent_means L g c o (One (Fixed b)) gone none free code = (gone, none, free)
-absent_means L g c o (One (Table b)) gone none free code = (gone, none, free)
-absent_means L g c o (One Text) gone none free code = (gone, none, free)
-absent_means L g c o (Many k) gone none free code = (gone, none, free)
+absent_means L g c o _ gone none free code = (gone, none, free)
 
 -- what it says of the old slot
 pub record AbsentSlot (L : LaidSchema) (f : DeclaredField) (c : ℕ) (o : Option Data) (s : Shape) : Type 0 where
@@ -102,17 +83,7 @@ pub absent_slot : (L : LaidSchema) (f : DeclaredField) (c : ℕ) (o : Option Dat
 absent_slot L f c o (One (Code u)) h e = absurd cc
 absent_slot L f c o (One (Union u)) h e =
     record { none = h.1; no_default = h.2; free = h.3; no_code = λ u is. h.0 }
-absent_slot L f c o (One (Scalar b)) h e =
-    record { none = h.0; no_default = h.1; free = h.2; no_code = λ u is. absurd cc }
-absent_slot L f c o (One (Enum b)) h e =
-    record { none = h.0; no_default = h.1; free = h.2; no_code = λ u is. absurd cc }
-absent_slot L f c o (One (Fixed b)) h e =
-    record { none = h.0; no_default = h.1; free = h.2; no_code = λ u is. absurd cc }
-absent_slot L f c o (One (Table b)) h e =
-    record { none = h.0; no_default = h.1; free = h.2; no_code = λ u is. absurd cc }
-absent_slot L f c o (One Text) h e =
-    record { none = h.0; no_default = h.1; free = h.2; no_code = λ u is. absurd cc }
-absent_slot L f c o (Many k) h e =
+absent_slot L f c o _ h e =
     record { none = h.0; no_default = h.1; free = h.2; no_code = λ u is. absurd cc }
 
 -- a deprecated slot has no default, nor has a code
@@ -126,16 +97,9 @@ used_default S g n = by g.deprecated
 
 pub code_default : (S : DeclaredSchema) (n m : ℤ) (gone given : Bool) (s : Shape)
     → default_of given m (stored_shape S s) ≡ Some n → is_code gone s ≡ false
-code_default S n m true given s e = refl
-code_default S n m false given (One (Scalar b)) e = refl
-code_default S n m false given (One (Enum b)) e = refl
-code_default S n m false given (One (Fixed b)) e = refl
-code_default S n m false given (One (Table b)) e = refl
-code_default S n m false given (One (Union b)) e = refl
-code_default S n m false given (One Text) e = refl
-code_default S n m false given (Many k) e = refl
 code_default S n m false true (One (Code b)) e = absurd cc
 code_default S n m false false (One (Code b)) e = absurd cc
+code_default S n m _ given _ e = refl
 
 -- ---- new slots
 
@@ -160,14 +124,7 @@ code_of_none S u (Some t) e = absurd cc
 new_code : (S : DeclaredSchema) (ms : Members) (g : DeclaredField) (gone : Bool) (s : Shape) (b : ℕ)
     → get_member g.name ms ≡ None → is_code gone s ≡ true → CodeAt S ms g gone s b 0
 new_code S ms g false (One (Code u)) b none e = code_of_none S u.0 (get_member g.name ms) none
-new_code S ms g true s b none e = absurd cc
-new_code S ms g false (One (Scalar x)) b none e = absurd cc
-new_code S ms g false (One (Enum x)) b none e = absurd cc
-new_code S ms g false (One (Fixed x)) b none e = absurd cc
-new_code S ms g false (One (Table x)) b none e = absurd cc
-new_code S ms g false (One (Union x)) b none e = absurd cc
-new_code S ms g false (One Text) b none e = absurd cc
-new_code S ms g false (Many k) b none e = absurd cc
+new_code S ms g _ _ b none e = absurd cc
 
 -- what a slot that is no code in use leaves as told is 0 for what comes after it
 pub untold : (gone : Bool) (s : Shape) (a b : ℕ) → is_code gone s ≡ false → is_code gone s ≡ true → b ≡ a
@@ -254,19 +211,12 @@ pub code_in_use : (S : DeclaredSchema) (ms : Members) (f : DeclaredField) (gone 
     → is_code gone s ≡ true → CodeAt S ms f gone s a c
     → (u : TypeId) × (s ≡ One (Code u)) × CodeMeans S u.0 (get_member f.name ms) c
 code_in_use S ms f false (One (Code u)) a c e h = (u, refl, h)
-code_in_use S ms f true s a c e h = absurd cc
-code_in_use S ms f false (One (Scalar x)) a c e h = absurd cc
-code_in_use S ms f false (One (Enum x)) a c e h = absurd cc
-code_in_use S ms f false (One (Fixed x)) a c e h = absurd cc
-code_in_use S ms f false (One (Table x)) a c e h = absurd cc
-code_in_use S ms f false (One (Union x)) a c e h = absurd cc
-code_in_use S ms f false (One Text) a c e h = absurd cc
-code_in_use S ms f false (Many k) a c e h = absurd cc
+code_in_use S ms f _ _ a c e h = absurd cc
 
 pub tells_code : (S : DeclaredSchema) (ms : Members) (g : DeclaredField) (gone : Bool) (s : Shape) (b c : ℕ)
     (u : TypeId) → gone ≡ false → s ≡ One (Code u) → CodeMeans S u.0 (get_member g.name ms) c → CodeAt S ms g gone s b c
 tells_code S ms g true s b c u used is h = absurd cc
-tells_code S ms g false s b c u used is h = subst (λ (z : Shape). CodeAt S ms g false z b c) (sym is) h
+tells_code S ms g false s b c u used is h = rw is h
 
 -- a code in use is that of a union's code
 pub used_code : (gone : Bool) (s : Shape) → is_code gone s ≡ true → gone ≡ false
@@ -276,26 +226,13 @@ used_code true s e = absurd cc
 -- what isn't a code in use hands on what it was handed
 pub handed : (S : DeclaredSchema) (ms : Members) (f : DeclaredField) (gone : Bool) (s : Shape) (a c : ℕ)
     → is_code gone s ≡ false → CodeAt S ms f gone s a c → c ≡ a
-handed S ms f true s a c e h = h
 handed S ms f false (One (Code u)) a c e h = absurd cc
-handed S ms f false (One (Scalar x)) a c e h = h
-handed S ms f false (One (Enum x)) a c e h = h
-handed S ms f false (One (Fixed x)) a c e h = h
-handed S ms f false (One (Table x)) a c e h = h
-handed S ms f false (One (Union x)) a c e h = h
-handed S ms f false (One Text) a c e h = h
-handed S ms f false (Many k) a c e h = h
+handed S ms f _ _ a c e h = h
 
 pub union_moved : (to : ℕ → ℕ) (s : Shape) (u : TypeId) → to_shape to s ≡ One (Union u)
     → (w : TypeId) × (s ≡ One (Union w))
 union_moved to (One (Union w)) u e = (w, refl)
-union_moved to (One (Scalar x)) u e = absurd cc
-union_moved to (One (Enum x)) u e = absurd cc
-union_moved to (One (Fixed x)) u e = absurd cc
-union_moved to (One (Table x)) u e = absurd cc
-union_moved to (One (Code x)) u e = absurd cc
-union_moved to (One Text) u e = absurd cc
-union_moved to (Many k) u e = absurd cc
+union_moved to _ u e = absurd cc
 
 -- an entry that is present, from what its member means
 pub present_step : (A B : LaidSchema) (ms : Members) (f g : DeclaredField) (d : Datum) (a b : ℕ) (s : Shape)
@@ -309,9 +246,4 @@ pub present_step : (A B : LaidSchema) (ms : Members) (f g : DeclaredField) (d : 
 present_step A B ms f g d a b s None same own member h = (h.0, same ∙ h.1, ap (carry A B) h.2)
 present_step A B ms f g d a b (One (Code u)) (Some t) same own member h = absurd h
 present_step A B ms f g d a b (One (Union u)) (Some t) same own member h = member t u refl refl h
-present_step A B ms f g d a b (One (Scalar x)) (Some t) same own member h = own t refl h
-present_step A B ms f g d a b (One (Enum x)) (Some t) same own member h = own t refl h
-present_step A B ms f g d a b (One (Fixed x)) (Some t) same own member h = own t refl h
-present_step A B ms f g d a b (One (Table x)) (Some t) same own member h = own t refl h
-present_step A B ms f g d a b (One Text) (Some t) same own member h = own t refl h
-present_step A B ms f g d a b (Many k) (Some t) same own member h = own t refl h
+present_step A B ms f g d a b _ (Some t) same own member h = own t refl h

@@ -1,17 +1,16 @@
 -- A text that names an enum's number or a union's code names it in the new schema too.
 use Rattle.std.proofs.Common.{◌≡◌, ℕ, zero, suc, ◌<◌, Bool, true, false, cond, List, [], ◌∷◌, All, Contains, Option}
 use Rattle.std.proofs.Common.{None}
-use Rattle.std.proofs.Common.{Some, is_some, ℤ, pos, refl, sym, ap, subst, ◌∙◌, arith}
+use Rattle.std.proofs.Common.{Some, is_some, ℤ, pos, refl, sym, ap, ◌∙◌, arith}
 use Rattle.std.specs.Int.{int_bit_or, w128}
 use Rattle.std.specs.Option.{option_and_then}
-use Rattle.serde_json.specs.Data.{Data, null, boolean, number, string, array, object}
+use Rattle.serde_json.specs.Data.{Data, null, number, string}
 use Rattle.fb_schema.specs.declared.kinds.Kind.TheVariants.{Code}
 use Rattle.fb_schema.specs.declared.kinds.Shape.TheVariants.{One}
 use Rattle.fb_schema.specs.Schema.{Name, DeclaredBody, table_body, struct_body, enum_body, union_body, DeclaredSchema}
 use Rattle.fb_schema.specs.Schema.{body_at, values_in}
 use Rattle.fb_schema.specs.Found.{name_at, number_named, code_named, member_coded}
 use Rattle.fb_schema.specs.Paths.{name_in_path, found_by_path, number_by_path, code_by_path}
-use Rattle.fb_schema.specs.WellDeclared.{InRange}
 use Rattle.fb_layout.specs.Laid.{LaidSchema}
 use Rattle.fb_layout.specs.WellMade.{IsWellMade}
 use Rattle.fb_json.specs.EnumTexts.{words, flags_named, has_flags, number_told}
@@ -116,8 +115,7 @@ module _ (A B : LaidSchema) (old : IsWellMade A) (new : IsWellMade B) (conforms 
         let all = values_kept (body_at A.schema e) (body_at B.schema (to e)) (same_kind A B old new conforms e known)
         values in
         (value_found B.schema new.declared (to e) n name).1
-        (subst (λ (v : Name × ℤ). Contains (values_in (body_at B.schema (to e))) v) there.2
-        (all there.0 (name, n) there.1))
+        (rw (← there.2) (all there.0 (name, n) there.1))
 
     path_kept : (path : Name) (n : ℤ) → number_by_path A.schema e path ≡ Some n
         → number_by_path B.schema (to e) path ≡ Some n
@@ -144,12 +142,9 @@ module _ (A B : LaidSchema) (old : IsWellMade A) (new : IsWellMade B) (conforms 
 
     pub enum_means : (t : Data) (n : ℤ) → EnumMeans A.schema e t n → EnumMeans B.schema (to e) t n
     enum_means (number x) n h =
-        (h.0, subst (λ base. InRange base n) (sym (base_moved A B old new conforms e known)) h.1)
+        (h.0, rw (base_moved A B old new conforms e known) h.1)
     enum_means (string s) n h = told_kept s n h
-    enum_means null n h = absurd h
-    enum_means (boolean b) n h = absurd h
-    enum_means (array ts) n h = absurd h
-    enum_means (object ms) n h = absurd h
+    enum_means _ n h = absurd h
 
   -- ---- unions
 
@@ -180,6 +175,4 @@ module _ (A B : LaidSchema) (old : IsWellMade A) (new : IsWellMade B) (conforms 
         let told = some_of (code_by_path B.schema (to u) s) stays in
         let same : told.0 ≡ c = code_path s c told.0 h told.1 in
         told.1 ∙ ap Some same
-    code_means (Some (boolean b)) c h stays = absurd h
-    code_means (Some (array ts)) c h stays = absurd h
-    code_means (Some (object ms)) c h stays = absurd h
+    code_means _ c h stays = absurd h

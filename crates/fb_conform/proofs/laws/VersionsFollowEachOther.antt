@@ -25,7 +25,8 @@ use Rattle.fb_conform.proofs.laws.OldTypesByTheirNewNumbers.{KnownShape}
 use Rattle.fb_conform.proofs.laws.LayoutsAgree.{Grown, types_in, Agrees}
 use Rattle.fb_conform.specs.Twins.{Twins, SlotTwins, to_new}
 use Rattle.fb_conform.specs.Conforms.{SameKind, SameStruct, KeepsValues, KeepsMembers, is_number, is_required, Conforms}
-use Rattle.fb_conform.specs.Carry.{carry, carry_items, carry_slots, new_slots, unless_gone}
+use Rattle.fb_conform.specs.Carry.{carry, carry_items, carry_slots, new_slots}
+use Rattle.fb_conform.specs.Movement.{unless_gone}
 
 same_kind : (x y z : DeclaredBody) → SameKind x y → SameKind y z → SameKind x z
 same_kind (table_body fs) (table_body gs) (table_body hs) first second = tt
@@ -266,9 +267,7 @@ module _ (A B C : LaidSchema) (first : Agrees A B) (second : Agrees B C) (throug
 table_fits : (L : LaidSchema) (t : ℕ) (d : Datum) (name : Name) (body : DeclaredBody) → IsTrue (is_table body)
     → FitsKind L (kind_of_type t (Some (record { name = name; body = body }))) d → Fits L (one_of (table_kind t)) d
 table_fits L t d name (table_body fs) is fits = fits
-table_fits L t d name (struct_body fs m) is fits = cc
-table_fits L t d name (enum_body b flags values) is fits = cc
-table_fits L t d name (union_body ms) is fits = cc
+table_fits L t d name _ is fits = cc
 
 pub type_fits : (L : LaidSchema) (t : ℕ) (d : Datum) (o : Option DeclaredType) → IsTrue (is_table (body_in o))
     → FitsKind L (kind_of_type t o) d → Fits L (one_of (table_kind t)) d

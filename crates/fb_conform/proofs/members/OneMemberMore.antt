@@ -1,6 +1,6 @@
 -- The values of enums, and the members of unions, one after another.
 use Rattle.std.proofs.Common.{◌≡◌, ℕ, zero, suc, ◌+◌, ◌<◌, ◌≤◌, Bool, true, false, nat_lt, List, length, get_or, All}
-use Rattle.std.proofs.Common.{Contains, ℤ, Option, None, Some, slice_get, option_map, refl, sym, ap, subst, ◌∙◌, arith}
+use Rattle.std.proofs.Common.{Contains, ℤ, Option, None, Some, slice_get, option_map, refl, sym, ap, ◌∙◌, arith}
 use Rattle.std.proofs.lemmas.Bool.{ltb-true}
 use Rattle.std.proofs.lemmas.Bool.Decides.{nat_tests}
 use Rattle.std.proofs.lemmas.Option.{slice_get-get_or, slice_get_within}
@@ -23,8 +23,8 @@ there_more others values i x at here before k v less e = by (nat_lt k i) refl
     by true test = before k v (ltb-true k i test) e
     by false test =
         let last : k ≡ i = grind (arith, nat_tests, test, less) in
-        let same : x ≡ v = same_value x v (sym at ∙ subst (λ (m : ℕ). slice_get values m ≡ Some v) last e) in
-        subst (λ (y : Name × ℤ). Contains others y) same here
+        let same : x ≡ v = same_value x v (sym at ∙ rw (← last) e) in
+        rw (← same) here
 
 pub there_all : (others values : List (Name × ℤ)) (n : ℕ) → length values ≤ n → ValuesThere others values n
     → All (Contains others) values
@@ -35,8 +35,7 @@ pub there_each : (others values : List (Name × ℤ)) (i : ℕ) (x : Name × ℤ
     → All (Contains others) values → Contains others x
 there_each others values i x at all =
     let within = slice_get_within values i x at in
-    subst (λ (y : Name × ℤ). Contains others y)
-    (same_value (get_or values i x) x (sym (slice_get-get_or values i x within) ∙ at)) (all i x within)
+    rw (← same_value (get_or values i x) x (sym (slice_get-get_or values i x within) ∙ at)) (all i x within)
 
 -- the codes up to a number keep their tables
 abbrev pub CodesKept : DeclaredSchema → DeclaredSchema → List (Name × ℕ) → DeclaredBody → ℕ → Type 0
@@ -46,7 +45,7 @@ member_at : (members : List (Name × ℕ)) (i : ℕ) (m : Name × ℕ) → slice
     → member_coded (union_body members) (i + 1) ≡ Some m.1
 member_at members i m at =
     let next : suc i ≡ i + 1 = omega arith in
-    subst (λ (c : ℕ). member_coded (union_body members) c ≡ Some m.1) next (ap (option_map (λ x. x.1)) at)
+    rw (← next) (ap (option_map (λ x. x.1)) at)
 
 same_number : (m n : ℕ) → Some m ≡ Some n → m ≡ n
 same_number m n e = cc
@@ -62,8 +61,8 @@ kept_more S T members body i m at here before c t few e = by (nat_lt i c) refl
         let last : c ≡ i + 1 = grind (arith, nat_tests, test, few) in
         let same : m.1 ≡ t =
         same_number m.1 t (sym (member_at members i m at)
-        ∙ subst (λ (k : ℕ). member_coded (union_body members) k ≡ Some t) last e) in
-        subst (λ (k : ℕ). CodeKept S T body k t) (sym last) (subst (λ (u : ℕ). CodeKept S T body (i + 1) u) same here)
+        ∙ rw (← last) e) in
+        rw last (rw (← same) here)
 
 code_within : (members : List (Name × ℕ)) (c t : ℕ) → member_coded (union_body members) c ≡ Some t → c ≤ length members
 code_within members zero t e = omega arith

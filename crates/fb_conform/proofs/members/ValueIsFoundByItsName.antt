@@ -1,6 +1,6 @@
 -- An enum's value is found by its name.
 use Rattle.std.proofs.Common.{◌≡◌, ◌≢◌, ℕ, ◌<◌, ◌≤◌, ◌↔◌, Bool, true, false, nat_lt, List, length, get_or, AllPairs}
-use Rattle.std.proofs.Common.{Contains, ℤ, Option, None, Some, slice_get, option_map, find, refl, sym, ap, subst, ◌∙◌}
+use Rattle.std.proofs.Common.{Contains, ℤ, Option, None, Some, slice_get, option_map, find, refl, sym, ap, ◌∙◌}
 use Rattle.std.proofs.Common.{arith}
 use Rattle.std.specs.List.{position_or_len}
 use Rattle.std.specs.Str.{bytes_eq}
@@ -10,8 +10,8 @@ use Rattle.std.proofs.lemmas.Slice.Eq.{bytes_eq-Decides}
 use Rattle.std.proofs.lemmas.List.Folds.{find_at}
 use Rattle.std.proofs.lemmas.List.Sums.{position_or_len_is, passes_at_first}
 use Rattle.std.proofs.lemmas.Option.{slice_get-get_or, slice_get_within, slice_get_past}
-use Rattle.fb_schema.specs.Schema.{Name, DeclaredBody, table_body, struct_body, enum_body, union_body, DeclaredType}
-use Rattle.fb_schema.specs.Schema.{DeclaredSchema, body_in, body_at, values_in}
+use Rattle.fb_schema.specs.Schema.{Name, DeclaredBody, enum_body}
+use Rattle.fb_schema.specs.Schema.{DeclaredSchema, body_at, values_in}
 use Rattle.fb_schema.specs.Found.{number_named}
 use Rattle.fb_schema.specs.WellDeclared.{IsBody, IsDeclared}
 use Rattle.fb_conform.proofs.laws.EachBodyIsDeclared.{is_body}
@@ -21,9 +21,7 @@ use Rattle.fb_conform.proofs.twins.TypesAreFoundByTheirNames.{test_false}
 names_differ : (S : DeclaredSchema) (t : ℕ) (body : DeclaredBody) → IsBody S t body
     → AllPairs (λ a b. a.0 ≢ b.0) (values_in body)
 names_differ S t (enum_body base flags values) is = is.names
-names_differ S t (table_body fs) is = λ i j d before within. absurd (omega arith)
-names_differ S t (struct_body fs force) is = λ i j d before within. absurd (omega arith)
-names_differ S t (union_body members) is = λ i j d before within. absurd (omega arith)
+names_differ S t _ is = λ i j d before within. absurd (omega arith)
 
 differ_at : (S : DeclaredSchema) → IsDeclared S → (t : ℕ) → AllPairs (λ a b. a.0 ≢ b.0) (values_in (body_at S t))
 differ_at S declared t = by (nat_lt t (length S.types)) refl
@@ -32,8 +30,7 @@ differ_at S declared t = by (nat_lt t (length S.types)) refl
     by true test = names_differ S t (body_at S t) (is_body S declared t (ltb-true t (length S.types) test))
     by false test =
         let past : length S.types ≤ t = grind (arith, nat_tests, test) in
-        subst (λ (o : Option DeclaredType). AllPairs (λ a b. a.0 ≢ b.0) (values_in (body_in o)))
-        (sym (slice_get_past S.types t past)) (λ i j d before within. absurd (omega arith))
+        rw (slice_get_past S.types t past) (λ i j d before within. absurd (omega arith))
 
 same_value : (x y : Name × ℤ) → Some x ≡ Some y → x ≡ y
 same_value x y e = cc
@@ -58,7 +55,7 @@ found_there values n name e = by (find (λ v. bytes_eq name v.0) values) refl e
         passes_at_first (λ v. bytes_eq name v.0) values v within in
         let text : name ≡ v.0 = (bytes_eq-Decides name (get_or values first v).0).0 passes ∙ ap (λ x. x.0) there in
         let number : v.1 ≡ n = cc in
-        subst (λ (x : Name × ℤ). Contains values x) (pair_is v name n (sym text) number) (first, within, there)
+        rw (← pair_is v name n (sym text) number) (first, within, there)
 
 -- what is there is found
 there_found : (values : List (Name × ℤ)) → AllPairs (λ a b. a.0 ≢ b.0) values → (n : ℤ) (name : Name)

@@ -1,7 +1,7 @@
 -- Moved names that are listed one after another.
 use Rattle.std.proofs.Common.{◌≡◌, ◌≢◌, ℕ, suc, ◌+◌, ◌<◌, ◌≤◌, ◌⊎◌, inl, inr, ◌↔◌, ◌==◌, Bool, true, false, nat_lt}
 use Rattle.std.proofs.Common.{List, [], ◌∷◌, ◌++◌, length, get_or, slice_get, Contains, Option, None, Some}
-use Rattle.std.proofs.Common.{refl, sym, ap, subst, ◌∙◌, arith}
+use Rattle.std.proofs.Common.{refl, sym, ap, ◌∙◌, arith}
 use Rattle.std.proofs.lemmas.Bool.{ltb-true}
 use Rattle.std.proofs.lemmas.Bool.Decides.{nat_tests, Decides-eqb}
 use Rattle.std.proofs.lemmas.List.Elements.{Contains-push, Contains-push_cases, Contains-append_left}
@@ -86,16 +86,15 @@ module _ (A B : LaidSchema) where
   one_on n xs before moved = record {
     under = λ m there. elim (Contains-push_cases xs n m there) [
       | inl old ↦ slots_rise n.type_id.0 n.slot m (before.under m old)
-      | inr same ↦ subst (λ (z : MovedName). IsUnder n.type_id.0 (n.slot + 1) z) same (inr (refl, omega arith))
+      | inr same ↦ rw (← same) (inr (refl, omega arith))
     ];
     moved = λ m there. elim (Contains-push_cases xs n m there) [
       | inl old ↦ before.moved m old
-      | inr same ↦ subst (λ (z : MovedName). IsMoved A B z) same moved
+      | inr same ↦ rw (← same) moved
     ];
     all = λ m under is. elim (next_slot n.type_id.0 n.slot m under) [
       | inl old ↦ Contains-append_left xs (n ∷ []) m (before.all m old is)
-      | inr last ↦ subst (λ (z : MovedName). Contains (xs ++ n ∷ []) z) (sym (same_place m n last.0 last.1))
-          (Contains-push xs n)
+      | inr last ↦ rw (same_place m n last.0 last.1) (Contains-push xs n)
     ];
     order = all_pairs_push IsBefore xs n before.order (λ k d within.
         before.under (get_or xs k d) (All-contains_itself xs k d within));
@@ -108,7 +107,7 @@ module _ (A B : LaidSchema) where
       kept_on n.type_id.0 n.slot n.type_id.0 (n.slot + 1) xs before (slots_rise n.type_id.0 n.slot)
       (λ m under moved. elim (next_slot n.type_id.0 n.slot m under) [
         | inl old ↦ old
-        | inr last ↦ absurd (kept (subst (λ (z : MovedName). IsMoved A B z) (same_place m n last.0 last.1) moved))
+        | inr last ↦ absurd (kept (rw (← same_place m n last.0 last.1) moved))
       ])
 
   -- no name in a later place of the type is moved
@@ -162,23 +161,20 @@ module _ (A B : LaidSchema) where
         → slot_named (body_at B.schema u) name ≡ o → (xs ys : List MovedName) → AddsIfMoved o (moved_at (id t) k) xs ys
         → ListsMoved A B t k xs → ListsMoved A B t (k + 1) ys
     name_added name k this None new xs ys added before =
-        subst (λ (zs : List MovedName). ListsMoved A B t (k + 1) zs) (sym added)
-        (none_on (moved_at (id t) k) xs before (λ moved.
+        rw added (none_on (moved_at (id t) k) xs before (λ moved.
         let bad : None ≡ Some moved.slot = sym new ∙ new_slot name k this moved in cc))
     name_added name k this (Some j) new xs ys added before = by (j == k) refl
       where
         by : (c : Bool) → (j == k) ≡ c → ListsMoved A B t (k + 1) ys
         by true test =
             let same : j ≡ k = (Decides-eqb j k).0 test in
-            subst (λ (zs : List MovedName). ListsMoved A B t (k + 1) zs) (sym (added.0 same))
-            (none_on (moved_at (id t) k) xs before (λ moved.
+            rw (added.0 same) (none_on (moved_at (id t) k) xs before (λ moved.
             let both : Some j ≡ Some moved.slot = sym new ∙ new_slot name k this moved in
             let one : j ≡ moved.slot = cc in
             moved.moved (sym one ∙ same)))
         by false test =
             let apart : j ≢ k = λ same. let bad : false ≡ true = sym test ∙ (Decides-eqb j k).1 same in cc in
-            subst (λ (zs : List MovedName). ListsMoved A B t (k + 1) zs) (sym (added.1 apart))
-            (one_on (moved_at (id t) k) xs before (record {
+            rw (added.1 apart) (one_on (moved_at (id t) k) xs before (record {
               name = name;
               type = u;
               slot = j;
@@ -214,7 +210,7 @@ module _ (A B : LaidSchema) where
           none : (m : MovedName) → m.type_id.0 ≡ t → n ≤ m.slot → IsMoved A B m → ⊥
           none m type later moved =
               let e : slot_named (body_at A.schema t) moved.name ≡ Some m.slot =
-              subst (λ (v : ℕ). slot_named (body_at A.schema v) moved.name ≡ Some m.slot) type moved.old in
+              rw (← type) moved.old in
               let found = slot_field A.schema t (body_at A.schema t) is other moved.name m.slot e in
               let within = slice_get_within (fields_in (body_at A.schema t)) m.slot found.item found.at in
               omega (arith, within, later, past)
@@ -250,7 +246,7 @@ module _ (A B : LaidSchema) where
           none m type later moved =
               let e : slot_named (union_body ms) moved.name ≡ Some m.slot =
               ap (λ body. slot_named body moved.name) (sym union)
-              ∙ subst (λ (v : ℕ). slot_named (body_at A.schema v) moved.name ≡ Some m.slot) type moved.old in
+              ∙ rw (← type) moved.old in
               let found = slot_member ms moved.name m.slot e in
               let within = slice_get_within ms found.0 found.2.item found.2.at in
               omega (arith, within, later, past, found.1)
@@ -264,7 +260,7 @@ module _ (A B : LaidSchema) where
             | inr last ↦ absurd (
                 let e : slot_named (union_body ms) moved.name ≡ Some m.slot =
                 ap (λ body. slot_named body moved.name) (sym union)
-                ∙ subst (λ (v : ℕ). slot_named (body_at A.schema v) moved.name ≡ Some m.slot) last.0 moved.old in
+                ∙ rw (← last.0) moved.old in
                 let found = slot_member ms moved.name m.slot e in
                 omega (arith, found.1, last.1))
           ])

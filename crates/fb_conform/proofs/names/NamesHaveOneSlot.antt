@@ -2,7 +2,7 @@
 use Rattle.std.proofs.Common.{◌≡◌, ◌≢◌, ◌≤◌, ℕ, suc, nat_lt, Bool, true, false, List, [], ◌∷◌, map, length, get_or}
 use Rattle.std.proofs.Common.{find, position}
 use Rattle.std.proofs.Common.{slice_get, Option, None, Some, option_map, bytes_eq, codes, cond, AllPairs, refl}
-use Rattle.std.proofs.Common.{sym, ap, subst, ◌∙◌, arith}
+use Rattle.std.proofs.Common.{sym, ap, ◌∙◌, arith}
 use Rattle.std.specs.Option.{option_and_then}
 use Rattle.std.proofs.lemmas.Bool.{ltb-true}
 use Rattle.std.proofs.lemmas.Bool.Decides.{nat_tests}
@@ -94,7 +94,7 @@ module _ (fs : List DeclaredField) (distinct : AllPairs (λ a b. a ≢ b) (map (
       by (Some f) e is =
           let here = found_field name f e in
           let slot : f.slot ≡ k = cc in
-          record { item = f; at = subst (λ (j : ℕ). slice_get fs j ≡ Some f) slot here.0; named = here.1 }
+          record { item = f; at = rw (← slot) here.0; named = here.1 }
 
 -- ---- bodies
 
@@ -138,19 +138,6 @@ slot_of_field (table_body fs) name f e = ap (option_map (λ g. g.slot)) e
 slot_of_field (struct_body fs force) name f e = ap (option_map (λ g. g.slot)) e
 slot_of_field (enum_body base flags values) name f e = absurd cc
 slot_of_field (union_body members) name f e = absurd cc
-
--- a code that a look-up finds tells it, but that of `NONE`
-pub slot_of_code : (body : DeclaredBody) (name : Name) (c : ℕ) → code_named body name ≡ Some c → (c ≡ 0 → ⊥)
-    → slot_named body name ≡ Some c
-slot_of_code (union_body ms) name c e some = by (bytes_eq name (codes "NONE")) e
-  where
-    by : (b : Bool) → cond b (Some 0) (option_map (λ k. suc k) (position (λ m. bytes_eq name m.0) ms)) ≡ Some c
-        → option_map (λ k. suc k) (position (λ m. bytes_eq name m.0) ms) ≡ Some c
-    by true is = let zero : c ≡ 0 = cc in absurd (some zero)
-    by false is = is
-slot_of_code (table_body fs) name c e some = absurd cc
-slot_of_code (struct_body fs force) name c e some = absurd cc
-slot_of_code (enum_body base flags values) name c e some = absurd cc
 
 -- no member is called `NONE`
 none_called : (S : DeclaredSchema) (ms : List (Name × ℕ)) → IsUnionBody S ms → (name : Name) → name ≡ codes "NONE"
@@ -203,12 +190,7 @@ one_code (union_body ms) (union_body ns) name c d keeps old new = by (bytes_eq n
         → cond b (Some 0) (option_map (λ k. suc k) (position (λ m. bytes_eq name m.0) ns)) ≡ Some d → d ≡ c
     by true same was is = cc
     by false same was is = keeps c d was is
-one_code (union_body ms) (table_body gs) name c d keeps old new = absurd cc
-one_code (union_body ms) (struct_body gs force) name c d keeps old new = absurd cc
-one_code (union_body ms) (enum_body base flags values) name c d keeps old new = absurd cc
-one_code (table_body fs) y name c d keeps old new = absurd cc
-one_code (struct_body fs force) y name c d keeps old new = absurd cc
-one_code (enum_body base flags values) y name c d keeps old new = absurd cc
+one_code _ _ name c d keeps old new = absurd cc
 
 -- the same in a declared schema, whatever the type's number
 pub no_slot_at : (S : DeclaredSchema) → IsDeclared S → (t : ℕ) (name : Name) → field_named (body_at S t) name ≡ None

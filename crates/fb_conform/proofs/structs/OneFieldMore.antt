@@ -1,6 +1,6 @@
 -- Fields that are compared one after another.
 use Rattle.std.proofs.Common.{◌≡◌, ℕ, zero, suc, ◌+◌, ◌<◌, ◌≤◌, Bool, true, false, nat_lt, List, [], ◌∷◌, length, map}
-use Rattle.std.proofs.Common.{Some, slice_get, option_map, refl, sym, ap, subst, ◌∙◌, arith}
+use Rattle.std.proofs.Common.{Some, slice_get, option_map, refl, sym, ap, ◌∙◌, arith}
 use Rattle.std.proofs.lemmas.Bool.{ltb-true}
 use Rattle.std.proofs.lemmas.Bool.Decides.{nat_tests}
 use Rattle.std.proofs.lemmas.List.{length-map}
@@ -25,10 +25,9 @@ same_more S T fs gs i d e was is here before k f g less h j = by (nat_lt k i) re
     by true test = before k f g (ltb-true k i test) h j
     by false test =
         let last : k ≡ i = grind (arith, nat_tests, test, less) in
-        let old : d ≡ f = same_field d f (sym was ∙ subst (λ (m : ℕ). slice_get fs m ≡ Some f) last h) in
-        let new : e ≡ g = same_field e g (sym is ∙ subst (λ (m : ℕ). slice_get gs m ≡ Some g) last j) in
-        subst (λ (x : DeclaredField). SameShape S T x.shape g.shape) old
-        (subst (λ (y : DeclaredField). SameShape S T d.shape y.shape) new here)
+        let old : d ≡ f = same_field d f (sym was ∙ rw (← last) h) in
+        let new : e ≡ g = same_field e g (sym is ∙ rw (← last) j) in
+        rw (← old) (rw (← new) here)
 
 pub same_all : (S T : DeclaredSchema) (fs gs : List DeclaredField) (n : ℕ) → length fs ≡ length gs → length fs ≤ n
     → FieldsSame S T fs gs n → SameFields S T fs gs

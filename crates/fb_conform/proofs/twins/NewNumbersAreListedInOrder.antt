@@ -1,6 +1,6 @@
 -- The new numbers of old types, listed one after another.
 use Rattle.std.proofs.Common.{◌≡◌, ℕ, zero, suc, ◌<◌, ◌≤◌, Bool, true, false, nat_lt, List, [], ◌∷◌, ◌++◌, length, Some}
-use Rattle.std.proofs.Common.{slice_get, option_map, option_and_then, refl, sym, ap, subst, ◌∙◌, arith}
+use Rattle.std.proofs.Common.{slice_get, option_map, option_and_then, refl, sym, ap, ◌∙◌, arith}
 use Rattle.std.specs.Option.{unwrap_or}
 use Rattle.std.proofs.lemmas.Bool.{ltb-true}
 use Rattle.std.proofs.lemmas.Bool.Decides.{nat_tests}
@@ -35,8 +35,7 @@ numbered_more A B xs x is before t less = by (nat_lt t (length xs)) refl
     by false test =
         let long = length-append xs (x ∷ []) in
         let last : length xs ≡ t = grind (arith, nat_tests, test, less, long) in
-        subst (λ (k : ℕ). unwrap_or (option_map (λ u. u.0) (slice_get (xs ++ x ∷ []) k)) 0 ≡ to_new A B k) last
-        (ap (λ o. unwrap_or (option_map (λ u. u.0) o) 0) (got_last xs x) ∙ is)
+        rw (← last) (ap (λ o. unwrap_or (option_map (λ u. u.0) o) 0) (got_last xs x) ∙ is)
 
 pub numbered_all : (A B : LaidSchema) (xs : List TypeId) → length xs ≡ length A.schema.types → Numbered A B xs
     → ListsNewNumbers A B xs

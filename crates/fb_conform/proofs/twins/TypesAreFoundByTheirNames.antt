@@ -1,6 +1,6 @@
 -- Types found by their full names.
 use Rattle.std.proofs.Common.{◌≡◌, ℕ, ◌<◌, Bool, true, false, cond, nat_lt, [], length, get_or, Option, None, Some}
-use Rattle.std.proofs.Common.{option_and_then, slice_get, refl, sym, ap, subst, ◌∙◌, arith}
+use Rattle.std.proofs.Common.{option_and_then, slice_get, refl, sym, ap, ◌∙◌, arith}
 use Rattle.std.specs.List.{position_or_len}
 use Rattle.std.specs.Option.{option_map}
 use Rattle.std.specs.Str.{bytes_eq}
@@ -39,7 +39,7 @@ found_type S name u e =
     let passes : bytes_eq name (get_or S.types first blank).name ≡ true = passes_at_first test S.types blank within in
     let same : (get_or S.types first blank).name ≡ name =
     sym ((bytes_eq-Decides name (get_or S.types first blank).name).0 passes) in (
-      subst (λ (z : ℕ). z < length S.types) both.1 within,
+      rw (← both.1) within,
       ap (λ z. name_at S z) (sym both.1) ∙ name_there S first within
           ∙ ap Some same,
     )

@@ -1,13 +1,12 @@
-use Rattle.std.proofs.Common.{◌+◌, List, Option, refl, subst, ap, sym, ◌∙◌, arith, length, map, option_map}
+use Rattle.std.proofs.Common.{refl, ap, sym, ◌∙◌, arith, length, map, option_map}
 use Rattle.std.proofs.lemmas.Option.{slice_get_read}
 use Rattle.fb_schema.proofs.Got.{got}
 use Rattle.fb_layout.specs.Laid.{slot_of, slots_of}
 use Rattle.fb_value.specs.Datum.{a_table}
 use Rattle.fb_value.specs.View.{view, entries_view}
-use Rattle.fb_value.specs.declared.values.Value.{Value}
 use Rattle.fb_value.proofs.types.EachVariantHasItsView.{view-Fields}
 use Rattle.fb_conform.specs.Carry.{carry_slots}
-use Rattle.fb_conform.proofs.carried_values.EntriesAreCarriedInOrder.{SoFar, one_carried, one_default, all_done, all_parts}
+use Rattle.fb_conform.proofs.carried_values.EntriesAreCarriedInOrder.{one_carried, one_default, all_done, all_parts}
 use Rattle.fb_conform.proofs.carried_values.+carry.Goals as goal
 use Rattle.fb_conform.proofs.carried_values.+carry.Goals.{carry_entries-in-Some+in_ok-entry-in-Some}
 use Rattle.fb_conform.proofs.carried_values.+carry.Goals.{carry_entries-in-None}
@@ -30,10 +29,10 @@ carry_entries-loop-i-preserved t c =
     let slots = c.args.slots.now in
     let es = c.args.entries.now in
     let i = c.loop-i.i in
-    let slot = slice_get_read slots (length slots) i c.index-slots-i.result refl c.loop-i-test.true c.index-slots-i.is in
+    let slot = slice_get_read slots (length slots) i c.index-slots-i.result refl c.loop-i-test.true
+    c.index-slots-i.is in
     let there = got es i c.get.result c.get.ensures.lookup.0 c.get.ensures.lookup.1 in
-    subst (λ (xs : List (Option Value)). SoFar A B slots es (i + 1) xs) (sym c.in_ok-push.ensures.items)
-    (elim c.match-get.branch [
+    rw c.in_ok-push.ensures.items (elim c.match-get.branch [
       | carry_entries-in-Some+in_ok-entry-in-Some w ↦ one_carried A B slots es i c.index-slots-i.result
           w.in-Some.entry.now c.match-get.entry c.loop-i.carried.items slot
           (sym there ∙ ap (option_map (λ x. x.now)) w.in-Some.is)

@@ -1,11 +1,10 @@
-use Rattle.std.proofs.Common.{◌≡◌, ◌<◌, ◌++◌, ◌∷◌, [], List, length, map, sym, ap, subst, ◌∙◌, arith}
+use Rattle.std.proofs.Common.{◌≡◌, ◌<◌, ◌++◌, ◌∷◌, [], length, map, sym, ap, ◌∙◌, arith}
 use Rattle.std.specs.Option.{unwrap_or}
 use Rattle.std.proofs.lemmas.List.{length-append, length-map}
 use Rattle.fb_schema.specs.Schema.{DeclaredSchema}
 use Rattle.fb_schema.specs.Seen.{type_seen}
-use Rattle.fb_schema.specs.declared.kinds.TypeId.{TypeId}
 use Rattle.fb_conform.specs.Twins.{twin, to_new}
-use Rattle.fb_conform.proofs.twins.NewNumbersAreListedInOrder.{Numbered, numbered_more, numbered_all}
+use Rattle.fb_conform.proofs.twins.NewNumbersAreListedInOrder.{numbered_more, numbered_all}
 use Rattle.fb_conform.proofs.twins.new_numbers.Goals as goal
 
 pub loop-i-init : goal.loop-i-init
@@ -13,8 +12,7 @@ loop-i-init c =
     let none : c.in_ok-numbers.numbers.items ≡ [] = c.in_ok-numbers.ensures.items in
     record {
       many = ap length none;
-      numbered = subst (λ (xs : List TypeId). Numbered c.args.old.now c.args.new.now xs)
-          (sym none) (λ t less. let bad : t < 0 = less in absurd (omega (arith, bad)));
+      numbered = rw none (λ t less. let bad : t < 0 = less in absurd (omega (arith, bad)));
     }
 
 pub loop-i-preserved : goal.loop-i-preserved
@@ -34,8 +32,7 @@ loop-i-preserved c =
     in
     record {
       many = ap length more ∙ omega (arith, long, c.loop-i.invariant.many);
-      numbered = subst (λ (ys : List TypeId). Numbered c.args.old.now c.args.new.now ys) (sym more)
-          (numbered_more c.args.old.now c.args.new.now xs x number c.loop-i.invariant.numbered);
+      numbered = rw more (numbered_more c.args.old.now c.args.new.now xs x number c.loop-i.invariant.numbered);
     }
 
 pub returns : goal.returns

@@ -1,2 +1,0 @@
--- What the proofs of src/comparison.rt use.
-pub mod BreachIsTheFirst

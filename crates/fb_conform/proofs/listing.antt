@@ -1,3 +1,0 @@
--- What the proofs of src/listing.rt use.
-pub mod BreachesAreListedInOrder
-pub mod EachPlaceIsListed

@@ -1,6 +1,0 @@
-use Rattle.std.proofs.Common.{◌+◌}
-use Rattle.fb_conform.specs.Listed.{ListsBelow}
-use Rattle.fb_conform.proofs.listing.add_slots.Given as goal
-
-abbrev pub invariant-loop-i : goal.invariant-loop-i
-invariant-loop-i l = ListsBelow l.old l.new (l.type_id.0 + 1) (l.i + 1) 0 l.found.items

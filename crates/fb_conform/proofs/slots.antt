@@ -1,2 +1,0 @@
--- What the proofs of src/slots.rt use.
-pub mod OneSlotMore
