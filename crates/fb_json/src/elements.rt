@@ -10,7 +10,9 @@ ghost use Rattle.fb_json.specs.Meant.{meant};
 ghost use Rattle.fb_json.specs.Outcome.{Gives};
 
 use crate::faults::{JsonFault, Place};
+use crate::room::Room;
 use crate::source::Source;
+use crate::trail::Trail;
 use crate::tree::value;
 use fb_schema::{Kind, Shape};
 use fb_value::Value;
@@ -33,5 +35,7 @@ pub fn element_of(
     ensures whole { IfOk result (λ x. is_whole (view x.0) ≡ true) }
 {
     let _schema = source.layout.schema(); // its contract: what each enum names is in its range
-    value(source, tree, Shape::One(kind), place, levels, left)
+    let room = Room { levels, left };
+    let shape = Shape::One(kind);
+    value(source, &mut Trail::unkept(), tree, shape, place, room)
 }

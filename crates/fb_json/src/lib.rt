@@ -4,18 +4,22 @@
 mod absent;
 mod codes;
 mod elements;
+mod entries;
 mod enums;
 mod faults;
-mod fronts;
 mod laws;
 mod leaves;
 mod members;
 mod paths;
+mod room;
 mod root;
 mod scalars;
 mod slot_members;
 mod source;
 mod step;
+mod structs;
+mod tables;
+mod trail;
 mod tree;
 
 pub use absent::{is_absent, is_null, without};

@@ -9,8 +9,10 @@ ghost use Rattle.fb_json.specs.Means.{Means};
 ghost use Rattle.fb_json.specs.Refuses.{IsFirst, MayLackMemory, Refuses};
 
 use crate::faults::{JsonFault, Place};
+use crate::room::Room;
 use crate::source::Source;
-use crate::tree::table;
+use crate::tables::table;
+use crate::trail::Trail;
 use fb_layout::Layout;
 use fb_value::{Limits, Value};
 use serde_json::Value as Json;
@@ -45,13 +47,16 @@ pub fn value_of(
         owner: root,
         slot: None,
     };
-    let depth = limits.most_depth();
-    let cells = limits.most_cells();
-    match tree.as_object() {
-        None => Err(JsonFault::WrongShape(place)),
-        Some(members) => match table(source, members, root, place, depth, cells) {
-            Ok((value, _)) => Ok(value),
-            Err(fault) => Err(fault),
-        },
+    let room = Room {
+        levels: limits.most_depth(),
+        left: limits.most_cells(),
+    };
+    let Some(members) = tree.as_object() else {
+        return Err(JsonFault::WrongShape(place));
+    };
+    let read = table(source, &mut Trail::unkept(), members, root, place, room);
+    match read {
+        Ok((value, _)) => Ok(value),
+        Err(fault) => Err(fault),
     }
 }

@@ -60,12 +60,3 @@ pub fn members_by_slot<'t>(
     }
     Ok(found)
 }
-
-/// The member of one slot.
-pub(crate) fn member_of<'t>(members: &'t Map<String, Json>, slot: &FieldInfo) -> Option<&'t Json>
-    ensures { (L : LaidSchema) (unknown : Bool) →
-        look L unknown (members_view members.now.entries) (field_seen slot.now).name
-        ≡ looked_up L unknown result }
-{
-    members.get(slot.name.as_str())
-}

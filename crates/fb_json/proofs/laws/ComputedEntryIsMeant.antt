@@ -27,7 +27,7 @@ use Rattle.fb_json.specs.Meant.{Meaner, present, code_in, code_after, as_absent,
 use Rattle.fb_json.specs.Meant.{used_meant, meant, look}
 use Rattle.fb_json.specs.Means.{ScalarMeans, EnumMeans, CodeMeans, CodeAt, unless_null, AbsentMeans, PresentAs}
 use Rattle.fb_json.specs.Means.{PresentMeans, MeansAs, MemberMeans}
-use Rattle.fb_json.proofs.laws.EachStepOfABindSucceeds.{ok_inj, or_ok, bind_ok, spent_ok}
+use Rattle.fb_json.proofs.laws.EachStepOfABindSucceeds.{at_ok, ok_inj, or_ok, bind_ok, spent_ok}
 use Rattle.fb_json.proofs.members.MapFindsTheMembers.{with_meaning, looked}
 use Rattle.fb_json.proofs.laws.HeldNumberIsInRange.{held_in_range}
 
@@ -53,20 +53,14 @@ pub scalar_ok : (base : Base) (t : Data) (at : Place) (n : ℤ) → scalar_meant
 unfolding scalar_meant
 scalar_ok base (number x) at n h = in_range_ok base at (as_integer x) n h
 scalar_ok base (boolean b) at n h = boolean_ok base b at n h
-scalar_ok base null at n h = cc
-scalar_ok base (string s) at n h = cc
-scalar_ok base (array ts) at n h = cc
-scalar_ok base (object ms) at n h = cc
+scalar_ok base _ at n h = cc
 
 pub enum_ok : (S : DeclaredSchema) (e : ℕ) (t : Data) (at : Place) (n : ℤ) → enum_meant S e t at ≡ Ok n
     → EnumMeans S e t n
 unfolding enum_meant
 enum_ok S e (number x) at n h = in_range_ok (base_in (body_at S e)) at (as_integer x) n h
-enum_ok S e null at n h = cc
-enum_ok S e (boolean b) at n h = cc
 enum_ok S e (string s) at n h = or_ok (number_told S e s) (UnknownName at) n h
-enum_ok S e (array ts) at n h = cc
-enum_ok S e (object ms) at n h = cc
+enum_ok S e _ at n h = cc
 
 -- what a computed value has
 abbrev pub Good : LaidSchema → Bool → Data → Shape → ℕ → ℕ → Datum × ℕ → Type 0
@@ -78,30 +72,22 @@ unfolding text_meant
 text_ok L unknown (string s) at levels left p h =
     let got = bind_ok (spent (1 + length s) at left) _ p h in
     let sum = spent_ok (1 + length s) at left got.0 got.1 in
-    subst (Good L unknown (string s) (One Text) levels left) (ok_inj (a_text s, got.0) p got.2) (refl, sum, omega arith)
-text_ok L unknown null at levels left p h = cc
-text_ok L unknown (boolean b) at levels left p h = cc
-text_ok L unknown (number x) at levels left p h = cc
-text_ok L unknown (array ts) at levels left p h = cc
-text_ok L unknown (object ms) at levels left p h = cc
+    at_ok (Good L unknown (string s) (One Text) levels left) (a_text s, got.0) p got.2 (refl, sum, omega arith)
+text_ok L unknown _ at levels left p h = cc
 
 pub leaf_ok : (L : LaidSchema) (unknown : Bool) (t : Data) (shape : Shape) (at : Place) (levels left : ℕ)
     (p : Datum × ℕ) → leaf_meant L.schema t shape at left ≡ Ok p → Good L unknown t shape levels left p
 unfolding leaf_meant
 leaf_ok L unknown t (One (Scalar base)) at levels left p h =
     let got = bind_ok (scalar_meant base t at) _ p h in
-    subst (Good L unknown t (One (Scalar base)) levels left) (ok_inj (a_number got.0, left) p got.2)
+    at_ok (Good L unknown t (One (Scalar base)) levels left) (a_number got.0, left) p got.2
     (scalar_ok base t at got.0 got.1, omega arith, omega arith)
 leaf_ok L unknown t (One (Enum e)) at levels left p h =
     let got = bind_ok (enum_meant L.schema e.0 t at) _ p h in
-    subst (Good L unknown t (One (Enum e)) levels left) (ok_inj (a_number got.0, left) p got.2)
+    at_ok (Good L unknown t (One (Enum e)) levels left) (a_number got.0, left) p got.2
     (enum_ok L.schema e.0 t at got.0 got.1, omega arith, omega arith)
 leaf_ok L unknown t (One Text) at levels left p h = text_ok L unknown t at levels left p h
-leaf_ok L unknown t (One (Struct s)) at levels left p h = cc
-leaf_ok L unknown t (One (Table s)) at levels left p h = cc
-leaf_ok L unknown t (One (Union s)) at levels left p h = cc
-leaf_ok L unknown t (One (Code s)) at levels left p h = cc
-leaf_ok L unknown t (Many kind) at levels left p h = cc
+leaf_ok L unknown t _ at levels left p h = cc
 
 -- ---- codes
 
@@ -113,13 +99,13 @@ coded_by true d S u n c x at big named is h = cc
 coded_by false false S u n c x at big named is h = cc
 coded_by false true S u n c x at big named is h =
     let few : suc n ≤ 255 = grind (arith, nat_tests) in
-    subst (CodeMeans S u (Some (number x))) (ok_inj (suc n) c h) (is, few, named)
+    at_ok (CodeMeans S u (Some (number x))) (suc n) c h (is, few, named)
 
 numbered_ok : (S : DeclaredSchema) (u c : ℕ) (x : Num) (at : Place) (o : Option ℤ) → as_integer x ≡ o
     → code_numbered S u at o ≡ Ok c → CodeMeans S u (Some (number x)) c
 numbered_ok S u c x at None is h = cc
 numbered_ok S u c x at (Some (negsuc n)) is h = cc
-numbered_ok S u c x at (Some (pos zero)) is h = subst (CodeMeans S u (Some (number x))) (ok_inj 0 c h) is
+numbered_ok S u c x at (Some (pos zero)) is h = at_ok (CodeMeans S u (Some (number x))) 0 c h is
 numbered_ok S u c x at (Some (pos (suc n))) is h =
     coded_by (nat_lt 255 (suc n)) (is_some (member_coded (body_at S u) (suc n))) S u n c x at refl refl is h
 
@@ -127,10 +113,8 @@ told_ok : (S : DeclaredSchema) (u c : ℕ) (t : Data) (at : Place) → code_told
 unfolding code_told
 told_ok S u c null at h = sym (ok_inj 0 c h)
 told_ok S u c (number x) at h = numbered_ok S u c x at (as_integer x) refl h
-told_ok S u c (boolean b) at h = cc
 told_ok S u c (string s) at h = or_ok (code_by_path S u s) (UnknownName at) c h
-told_ok S u c (array ts) at h = cc
-told_ok S u c (object ms) at h = cc
+told_ok S u c _ at h = cc
 
 code_in_ok : (L : LaidSchema) (unknown : Bool) (u c : ℕ) (at : Place) (o : Option Data)
     → code_in L.schema u at (option_map (with_meaning L unknown) o) ≡ Ok c → CodeMeans L.schema u o c
@@ -176,11 +160,11 @@ module _ (L : LaidSchema) (unknown : Bool) where
       (levels left : ℕ) (e : Option Datum × ℕ) → s.if_absent ≡ a → (a ≡ None → required ≡ false → Absent)
       → as_absent a required at left ≡ Ok e → GoodEntry L unknown s c None shape levels left Absent e
   absent_ok s c shape Absent (Some n) required at levels left e is whole h =
-      subst (GoodEntry L unknown s c None shape levels left Absent) (ok_inj (Some (a_number n), left) e h)
+      at_ok (GoodEntry L unknown s c None shape levels left Absent) (Some (a_number n), left) e h
       ((n, is, refl), omega arith, omega arith)
   absent_ok s c shape Absent None true at levels left e is whole h = cc
   absent_ok s c shape Absent None false at levels left e is whole h =
-      subst (GoodEntry L unknown s c None shape levels left Absent) (ok_inj (None, left) e h) (whole refl refl, refl)
+      at_ok (GoodEntry L unknown s c None shape levels left Absent) (None, left) e h (whole refl refl, refl)
 
   -- a shape under which a member is a value of its own
   plain_ok : (s : Slot) (c : ℕ) (shape : Shape) (o : Option Data) (Absent : Type 0) (at : Place) (levels left : ℕ)
@@ -196,7 +180,7 @@ module _ (L : LaidSchema) (unknown : Bool) where
   plain_ok s c shape (Some t) Absent at levels left e coded whole sound h =
       let got = bind_ok (meant L unknown t shape at levels left) _ e h in
       let good = sound t refl shape at levels left got.0 got.1 in
-      subst (GoodEntry L unknown s c (Some t) shape levels left Absent) (ok_inj (Some got.0.0, got.0.1) e got.2)
+      at_ok (GoodEntry L unknown s c (Some t) shape levels left Absent) (Some got.0.0, got.0.1) e got.2
       (coded got.0.0 t good.0, good.1, good.2)
 
   member_ok : (s : Slot) (u c : ℕ) (shape : Shape) (t : Data) (Absent : Type 0) (at : Place) (levels left : ℕ)
@@ -207,8 +191,8 @@ module _ (L : LaidSchema) (unknown : Bool) where
   member_ok s u c shape t Absent at levels left e (Some table) is one sound h =
       let got = bind_ok (meant L unknown t (One (Table (record { 0 = table }))) at levels left) _ e h in
       let good = sound (One (Table (record { 0 = table }))) at levels left got.0 got.1 in
-      subst (GoodEntry L unknown s c (Some t) (One (Union (record { 0 = u }))) levels left Absent)
-      (ok_inj (Some (a_member c got.0.0), got.0.1) e got.2) ((refl, (table, is, good.0)), good.1, good.2)
+      at_ok (GoodEntry L unknown s c (Some t) (One (Union (record { 0 = u }))) levels left Absent)
+      (Some (a_member c got.0.0), got.0.1) e got.2 ((refl, (table, is, good.0)), good.1, good.2)
 
   union_ok : (f : DeclaredField) (u c : ℕ) (o : Option Data) (at : Place) (levels left : ℕ) (e : Option Datum × ℕ)
       → ((t : Data) → o ≡ Some t → SoundAt L unknown t)
@@ -232,8 +216,8 @@ module _ (L : LaidSchema) (unknown : Bool) where
       → used_meant L f c (option_map (meant L unknown) o) at levels left shape ≡ Ok e
       → GoodEntry L unknown (slot_of L.schema f) c o shape levels left (AbsentMeans L f c o shape) e
   used_ok f c o at levels left (One (Code u)) e sound h =
-      subst (GoodEntry L unknown (slot_of L.schema f) c o (One (Code u)) levels left
-      (AbsentMeans L f c o (One (Code u)))) (ok_inj (None, left) e h) (tt, refl)
+      at_ok (GoodEntry L unknown (slot_of L.schema f) c o (One (Code u)) levels left
+      (AbsentMeans L f c o (One (Code u)))) (None, left) e h (tt, refl)
   used_ok f c o at levels left (One (Union u)) e sound h = union_ok f u.0 c o at levels left e sound h
   used_ok f c o at levels left (One (Scalar b)) e sound h =
       plain_ok (slot_of L.schema f) c (One (Scalar b)) o _ at levels left e (λ d t m. m) (λ a b r. (a, b, r)) sound h

@@ -7,7 +7,7 @@ use Rattle.serde_json.specs.Data.{Data, null, boolean, number, string, array, ob
 use Rattle.serde_json.specs.Data.{no_members, member}
 use Rattle.serde_json.specs.Find.{get_member}
 use Rattle.fb_schema.specs.declared.kinds.Kind.{Kind}
-use Rattle.fb_schema.specs.declared.kinds.Kind.TheVariants.{Scalar, Enum, Struct, Table, Union, Code, Text}
+use Rattle.fb_schema.specs.declared.kinds.Kind.TheVariants.{Struct, Table}
 use Rattle.fb_schema.specs.declared.kinds.Shape.{Shape}
 use Rattle.fb_schema.specs.declared.kinds.Shape.TheVariants.{One, Many}
 use Rattle.fb_schema.specs.Schema.{Name, DeclaredField, body_at, slots_in, parts_in as fields_of_struct}
@@ -21,7 +21,7 @@ use Rattle.fb_json.specs.Meant.{Meaner, type_place, slot_place, names_known, if_
 use Rattle.fb_json.specs.Meant.{entry_meant, slots_meant, table_meant, part_meant, parts_meant, struct_meant}
 use Rattle.fb_json.specs.Meant.{object_meant, vector_meant, meant, items_meant, look, count as items_count}
 use Rattle.fb_json.specs.Means.{CodeAt, member_called, AbsentAt, PartsMean, EachMeans, SlotsMean}
-use Rattle.fb_json.proofs.laws.EachStepOfABindSucceeds.{ok_inj, bind_ok, spent_ok, some_inj}
+use Rattle.fb_json.proofs.laws.EachStepOfABindSucceeds.{at_ok, ok_inj, bind_ok, spent_ok, some_inj}
 use Rattle.fb_json.proofs.members.MapFindsTheMembers.{with_meaning, looked, found_in}
 use Rattle.fb_json.proofs.laws.ComputedEntryIsMeant.{Good, leaf_ok, code_ok, SoundAt, GoodEntry, present_is, used_ok}
 
@@ -38,8 +38,8 @@ module _ (L : LaidSchema) (unknown : Bool) (ms : Members) (sound : (k : Name) (t
       f.shape) ≡ Ok e → GoodEntry L unknown (slot_of L.schema f) c (member_called f.name ms) f.shape levels left
       (AbsentAt L f c (member_called f.name ms) deprecated) e
   entry_by f at c levels left e true h =
-      subst (GoodEntry L unknown (slot_of L.schema f) c (member_called f.name ms) f.shape levels left
-      (AbsentAt L f c (member_called f.name ms) true)) (ok_inj (None, left) e h) (tt, refl)
+      at_ok (GoodEntry L unknown (slot_of L.schema f) c (member_called f.name ms) f.shape levels left
+      (AbsentAt L f c (member_called f.name ms) true)) (None, left) e h (tt, refl)
   entry_by f at c levels left e false h =
       let is : present (look L unknown ms f.name) ≡ option_map (meant L unknown) (member_called f.name ms) =
       ap present (looked L unknown ms f.name) ∙ present_is L unknown (get_member f.name ms) in
@@ -89,7 +89,7 @@ module _ (L : LaidSchema) (unknown : Bool) (ms : Members) (sound : (k : Name) (t
   slots_ok : (fs : List DeclaredField) (t k before levels left : ℕ) (es : List (Option Datum) × ℕ)
       → slots_meant L (look L unknown ms) t fs k before levels left ≡ Ok es → GoodSlots before fs levels left es
   unfolding slots_meant
-  slots_ok [] t k before levels left es h = subst (GoodSlots before [] levels left) (ok_inj ([], left) es h)
+  slots_ok [] t k before levels left es h = at_ok (GoodSlots before [] levels left) ([], left) es h
       (tt, omega arith, omega arith)
   slots_ok (f ∷ fs) t k before levels left es h =
       let told = bind_ok (code_after L.schema (look L unknown ms) (slot_place t k) before f.deprecated f.name f.shape) _
@@ -97,7 +97,7 @@ module _ (L : LaidSchema) (unknown : Bool) (ms : Members) (sound : (k : Name) (t
       let given = bind_ok (entry_meant L (look L unknown ms) f (slot_place t k) told.0 levels left) _ es told.2 in
       let later = bind_ok (slots_meant L (look L unknown ms) t fs (k + 1) told.0 levels given.0.1) _ es given.2 in
       let rest = slots_ok fs t (k + 1) told.0 levels given.0.1 later.0 later.1 in
-      subst (GoodSlots before (f ∷ fs) levels left) (ok_inj (given.0.0 ∷ later.0.0, later.0.1) es later.2)
+      at_ok (GoodSlots before (f ∷ fs) levels left) (given.0.0 ∷ later.0.0, later.0.1) es later.2
       (slot_in_front before told.0 f fs (slot_place t k) levels left given.0.0 given.0.1 later.0
       (code_ok L unknown ms f (slot_place t k) before told.0 f.deprecated f.shape told.1)
       (entry_ok f (slot_place t k) told.0 levels left given.0 given.1)
@@ -119,7 +119,7 @@ module _ (L : LaidSchema) (unknown : Bool) (ms : Members) (sound : (k : Name) (t
       → parts_meant (look L unknown ms) s fs k levels left ≡ Ok xs → GoodParts fs levels left xs
   unfolding parts_meant
   parts_ok [] s k levels left xs h =
-      subst (GoodParts [] levels left) (ok_inj ([], left) xs h) (tt, omega arith, omega arith)
+      at_ok (GoodParts [] levels left) ([], left) xs h (tt, omega arith, omega arith)
   parts_ok (f ∷ fs) s k levels left xs h =
       let given = bind_ok (part_meant (look L unknown ms f.name) f.shape (slot_place s k) levels left) _ xs h in
       let later = bind_ok (parts_meant (look L unknown ms) s fs (k + 1) levels given.0.1) _ xs given.2 in
@@ -131,7 +131,7 @@ module _ (L : LaidSchema) (unknown : Bool) (ms : Members) (sound : (k : Name) (t
       let below = rest.1 in
       let deep = one.2.2 in
       let deeper = rest.2 in
-      subst (GoodParts (f ∷ fs) levels left) (ok_inj (given.0.0 ∷ later.0.0, later.0.1) xs later.2)
+      at_ok (GoodParts (f ∷ fs) levels left) (given.0.0 ∷ later.0.0, later.0.1) xs later.2
       ((one.0, one.1, one.2.0, rest.0), omega arith, omega arith)
 
   table_ok : (id levels left : ℕ) (at : Place) (p : Datum × ℕ)
@@ -148,8 +148,8 @@ module _ (L : LaidSchema) (unknown : Bool) (ms : Members) (sound : (k : Name) (t
       let good = slots_ok (slots_in (body_at L.schema id)) id 0 0 levels paid.0 given.0 given.1 in
       let below = good.1 in
       let deep = good.2 in
-      subst (Good L unknown (object ms) (One (Table (record { 0 = id }))) (suc levels) left)
-      (ok_inj (a_table id (entries_in given.0.0), given.0.1) p given.2)
+      at_ok (Good L unknown (object ms) (One (Table (record { 0 = id }))) (suc levels) left)
+      (a_table id (entries_in given.0.0), given.0.1) p given.2
       ((ms, refl, refl, known_ok _ (type_place id) known.0 known.1, good.0), omega arith, omega arith)
 
   struct_ok : (s levels left : ℕ) (p : Datum × ℕ) → struct_meant L unknown ms (look L unknown ms) s levels left ≡ Ok p
@@ -160,8 +160,8 @@ module _ (L : LaidSchema) (unknown : Bool) (ms : Members) (sound : (k : Name) (t
       let given = bind_ok (parts_meant (look L unknown ms) s (fields_of_struct (body_at L.schema s)) 0 levels left) _ p
       known.2 in
       let good = parts_ok (fields_of_struct (body_at L.schema s)) s 0 levels left given.0 given.1 in
-      subst (Good L unknown (object ms) (One (Struct (record { 0 = s }))) levels left)
-      (ok_inj (a_struct (parts_in given.0.0), given.0.1) p given.2)
+      at_ok (Good L unknown (object ms) (One (Struct (record { 0 = s }))) levels left)
+      (a_struct (parts_in given.0.0), given.0.1) p given.2
       ((ms, refl, known_ok _ (type_place s) known.0 known.1, good.0), good.1, good.2)
 
   object_ok : (shape : Shape) (at : Place) (levels left : ℕ) (p : Datum × ℕ)
@@ -170,12 +170,7 @@ module _ (L : LaidSchema) (unknown : Bool) (ms : Members) (sound : (k : Name) (t
   unfolding object_meant
   object_ok (One (Table id)) at levels left p h = table_ok id.0 levels left at p h
   object_ok (One (Struct s)) at levels left p h = struct_ok s.0 levels left p h
-  object_ok (One (Scalar b)) at levels left p h = cc
-  object_ok (One (Enum b)) at levels left p h = cc
-  object_ok (One (Union b)) at levels left p h = cc
-  object_ok (One (Code b)) at levels left p h = cc
-  object_ok (One Text) at levels left p h = cc
-  object_ok (Many kind) at levels left p h = cc
+  object_ok _ at levels left p h = cc
 
 -- ---- trees
 
@@ -197,8 +192,8 @@ vector_ok L unknown ts (Many kind) at levels left p each h =
     let good = each kind paid.0 given.0 given.1 in
     let below = good.1 in
     let long = good.3 in
-    subst (Good L unknown (array ts) (Many kind) levels left)
-    (ok_inj (a_vector (parts_in given.0.0), given.0.1) p given.2) ((ts, refl, good.0), omega arith, good.2)
+    at_ok (Good L unknown (array ts) (Many kind) levels left) (a_vector (parts_in given.0.0), given.0.1) p given.2
+    ((ts, refl, good.0), omega arith, good.2)
 vector_ok L unknown ts (One kind) at levels left p each h = cc
 
 picked : (L : LaidSchema) (unknown : Bool) (o : Data) (t : Data) → SoundAt L unknown o → o ≡ t → SoundAt L unknown t
@@ -219,7 +214,7 @@ mutual
       (xs : List Datum × ℕ) → items_meant L unknown ts kind at levels left ≡ Ok xs
       → GoodItems L unknown ts kind levels left xs
   items_sound L unknown no_items kind at levels left xs h =
-      subst (GoodItems L unknown no_items kind levels left) (ok_inj ([], left) xs h) (
+      at_ok (GoodItems L unknown no_items kind levels left) ([], left) xs h (
         tt,
         omega arith,
         omega arith,
@@ -235,7 +230,7 @@ mutual
       let deep = one.2 in
       let deeper = rest.2 in
       let long = rest.3 in
-      subst (GoodItems L unknown (item t ts) kind levels left) (ok_inj (given.0.0 ∷ later.0.0, later.0.1) xs later.2)
+      at_ok (GoodItems L unknown (item t ts) kind levels left) (given.0.0 ∷ later.0.0, later.0.1) xs later.2
       ((one.0, rest.0), omega arith, omega arith, omega arith)
 
   member_sound : (L : LaidSchema) (unknown : Bool) (ms : Members) (k : Name) (t : Data) → get_member k ms ≡ Some t

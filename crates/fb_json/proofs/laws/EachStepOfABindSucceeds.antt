@@ -1,6 +1,6 @@
 -- Steps that may fail, one behind the other.
 use Rattle.std.proofs.Common.{◌≡◌, ℕ, ◌+◌, ◌-◌, ◌≤◌, ◌⊎◌, inl, inr, Bool, true, false, Option, None, Some, Result, Ok}
-use Rattle.std.proofs.Common.{Err, nat_lt, if◌then◌else◌, refl, arith}
+use Rattle.std.proofs.Common.{Err, nat_lt, if◌then◌else◌, refl, subst, arith}
 use Rattle.std.proofs.lemmas.Bool.Decides.{nat_tests}
 use Rattle.fb_json.specs.declared.faults.Place.{Place}
 use Rattle.fb_json.specs.declared.faults.JsonFault.{JsonFault}
@@ -10,6 +10,14 @@ use Rattle.serde_json.specs.Data.{Data}
 
 pub ok_inj : {A : Type 0} (a b : A) → ◌≡◌ {A = Result A JsonFault} (Ok a) (Ok b) → a ≡ b
 ok_inj a b h = cc
+
+-- a fact of what is given is one of what was read
+pub at_ok : {A : Type 0} (P : A → Type 0) (a b : A) → ◌≡◌ {A = Result A JsonFault} (Ok a) (Ok b) → P a → P b
+at_ok P a b h p = subst P (ok_inj a b h) p
+
+-- the cells that are left
+pub rest_ok : {A : Type 0} (a b : A × ℕ) → ◌≡◌ {A = Result (A × ℕ) JsonFault} (Ok a) (Ok b) → a.1 ≡ b.1
+rest_ok a b h = cc
 
 pub bind_ok : {A B : Type 0} (r : Result A JsonFault) (f : A → Result B JsonFault) (y : B) → (r >>= f) ≡ Ok y
     → (x : A) × (r ≡ Ok x) × (f x ≡ Ok y)

@@ -16,7 +16,7 @@ use Rattle.fb_json.specs.Meant.{as_absent, as_member, union_meant, plain_meant, 
 use Rattle.fb_json.specs.Laws.{Over}
 use Rattle.fb_json.specs.TreeCounts.{cells_measure, depth_measure, Counter, member_count, slot_count, tree_cells}
 use Rattle.fb_json.specs.TreeCounts.{tree_depth}
-use Rattle.fb_json.proofs.laws.EachStepOfABindSucceeds.{bind_err, bind_ok, ok_inj}
+use Rattle.fb_json.proofs.laws.EachStepOfABindSucceeds.{rest_ok, bind_err, bind_ok}
 use Rattle.fb_json.proofs.laws.FaultOfALeafIsABrokenRule.{err_inj, no_err}
 use Rattle.fb_json.proofs.laws.LeavesSpendTheirCells.{over_map, count_of, SpentAt, LimitAt}
 
@@ -25,9 +25,9 @@ use Rattle.fb_json.proofs.laws.LeavesSpendTheirCells.{over_map, count_of, SpentA
 module _ (L : LaidSchema) (unknown : Bool) where
   pub absent_left : (a : Option ℤ) (required : Bool) (at : Place) (left : ℕ) (e : Option Datum × ℕ)
       → as_absent a required at left ≡ Ok e → e.1 ≡ left
-  absent_left (Some n) required at left e h = let same = ap (λ (q : Option Datum × ℕ). q.1) (ok_inj _ e h) in sym same
+  absent_left (Some n) required at left e h = let same = rest_ok _ e h in sym same
   absent_left None true at left e h = cc
-  absent_left None false at left e h = let same = ap (λ (q : Option Datum × ℕ). q.1) (ok_inj _ e h) in sym same
+  absent_left None false at left e h = let same = rest_ok _ e h in sym same
 
   pub absent_over : (a : Option ℤ) (required : Bool) (at : Place) (d c levels left : ℕ) (f : JsonFault)
       → as_absent a required at left ≡ Err f → Over d c levels left f
@@ -45,7 +45,7 @@ module _ (L : LaidSchema) (unknown : Bool) where
       omega arith
   plain_spent s shape (Some t) at levels left e spends h =
       let got = bind_ok (meant L unknown t shape at levels left) _ e h in
-      let same = ap (λ (q : Option Datum × ℕ). q.1) (ok_inj _ e got.2) in
+      let same = rest_ok _ e got.2 in
       let sum = spends t refl shape at levels left got.0 got.1 in
       omega arith
 
@@ -69,7 +69,7 @@ module _ (L : LaidSchema) (unknown : Bool) where
     member_spent c t None at levels left e is spends h = cc
     member_spent c t (Some table) at levels left e is spends h =
         let got = bind_ok (meant L unknown t (One (Table (record { 0 = table }))) at levels left) _ e h in
-        let same = ap (λ (q : Option Datum × ℕ). q.1) (ok_inj _ e got.2) in
+        let same = rest_ok _ e got.2 in
         let sum = spends (One (Table (record { 0 = table }))) at levels left got.0 got.1 in
         let counts : many name (One (Table (record { 0 = table })))
         ≡ tree_cells L t (One (Table (record { 0 = table }))) = is_many (One (Table (record { 0 = table })))
@@ -128,8 +128,7 @@ module _ (L : LaidSchema) (unknown : Bool) where
         → ((t : Data) → o ≡ Some t → SpentAt L unknown t)
         → used_meant L s c (option_map (meant L unknown) o) at levels left shape ≡ Ok e
         → e.1 + slot_count L many c name false shape ≡ left
-    used_spent s c at levels left (One (Code u)) e spends h = let same =
-        ap (λ (q : Option Datum × ℕ). q.1) (ok_inj _ e h) in omega arith
+    used_spent s c at levels left (One (Code u)) e spends h = let same = rest_ok _ e h in omega arith
     used_spent s c at levels left (One (Union u)) e spends h =
         union_spent (slot_of L.schema s) u.0 c o at levels left e refl spends h
     used_spent s c at levels left (One (Scalar b)) e spends h =

@@ -1,6 +1,6 @@
 -- What leaves and codes spend, and a fault of the limits in them.
 use Rattle.std.proofs.Common.{◌≡◌, ◌∙◌, inl, inr, ℕ, ◌+◌, ◌≤◌, ◌<◌, length, Bool, true, false, Option, Some, None}
-use Rattle.std.proofs.Common.{Result, Ok, Err, nat_lt, if◌then◌else◌, Ordering, Less, Equal, Greater, refl, sym, ap}
+use Rattle.std.proofs.Common.{Result, Ok, Err, nat_lt, if◌then◌else◌, Ordering, Less, Equal, Greater, refl, sym}
 use Rattle.std.proofs.Common.{subst, arith}
 use Rattle.std.specs.Ordering.{nat_cmp, match_ordering}
 use Rattle.std.specs.Cmp.Lexicographic.{slice_cmp}
@@ -25,7 +25,7 @@ use Rattle.std.proofs.lemmas.Bool.Decides.{nat_tests}
 use Rattle.fb_json.specs.Breaks.{OwnBreaks, ToldBreaks}
 use Rattle.fb_json.specs.Laws.{Over}
 use Rattle.fb_json.specs.TreeCounts.{Measure, code_of, code_behind, counted, counter, tree_cells, tree_depth}
-use Rattle.fb_json.proofs.laws.EachStepOfABindSucceeds.{bind_err, bind_ok, ok_inj, spent_ok}
+use Rattle.fb_json.proofs.laws.EachStepOfABindSucceeds.{rest_ok, bind_err, bind_ok, spent_ok}
 use Rattle.fb_json.proofs.laws.MeantLeafIsComputed.{told_full}
 use Rattle.fb_json.proofs.laws.FaultOfALeafIsABrokenRule.{err_inj, no_err, scalar_broken, enum_broken}
 use Rattle.fb_json.specs.Means.{CodeMeans}
@@ -135,14 +135,10 @@ module _ (L : LaidSchema) (unknown : Bool) where
   unfolding text_meant
   text_spent (string s) at left p h =
       let got = bind_ok (spent (1 + length s) at left) _ p h in
-      let same = ap (λ (q : Datum × ℕ). q.1) (ok_inj _ p got.2) in
+      let same = rest_ok _ p got.2 in
       let sum = spent_ok (1 + length s) at left got.0 got.1 in
       omega arith
-  text_spent null at left p h = cc
-  text_spent (boolean b) at left p h = cc
-  text_spent (number x) at left p h = cc
-  text_spent (array ts) at left p h = cc
-  text_spent (object ms) at left p h = cc
+  text_spent _ at left p h = cc
 
   pub text_limit : (t : Data) (at : Place) (levels left : ℕ) (f : JsonFault) → text_meant t at left ≡ Err f
       → Over (tree_depth L t (One Text)) (tree_cells L t (One Text)) levels left f
@@ -169,20 +165,16 @@ module _ (L : LaidSchema) (unknown : Bool) where
   unfolding leaf_meant
   leaf_spent t (One (Scalar base)) at left p leaf h =
       let got = bind_ok (scalar_meant base t at) _ p h in
-      let same = ap (λ (q : Datum × ℕ). q.1) (ok_inj _ p got.2) in
+      let same = rest_ok _ p got.2 in
       let none = leaf.0 base in
       omega arith
   leaf_spent t (One (Enum id)) at left p leaf h =
       let got = bind_ok (enum_meant L.schema id.0 t at) _ p h in
-      let same = ap (λ (q : Datum × ℕ). q.1) (ok_inj _ p got.2) in
+      let same = rest_ok _ p got.2 in
       let none = leaf.1 id in
       omega arith
   leaf_spent t (One Text) at left p leaf h = text_spent t at left p h
-  leaf_spent t (One (Struct s)) at left p leaf h = cc
-  leaf_spent t (One (Table s)) at left p leaf h = cc
-  leaf_spent t (One (Union s)) at left p leaf h = cc
-  leaf_spent t (One (Code s)) at left p leaf h = cc
-  leaf_spent t (Many k) at left p leaf h = cc
+  leaf_spent t _ at left p leaf h = cc
 
   pub leaf_limit : (t : Data) (shape : Shape) (at : Place) (levels left : ℕ) (f : JsonFault)
       → leaf_meant L.schema t shape at left ≡ Err f → Over (tree_depth L t shape) (tree_cells L t shape) levels left f

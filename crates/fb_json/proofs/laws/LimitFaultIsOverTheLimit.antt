@@ -1,5 +1,5 @@
 -- A fault of the limits comes only where a tree is over them.
-use Rattle.std.proofs.Common.{◌≡◌, inl, inr, ℕ, ◌+◌, List, Bool, Some, Ok, Err, Less, Equal, Greater, refl, ap, subst}
+use Rattle.std.proofs.Common.{◌≡◌, inl, inr, ℕ, ◌+◌, List, Bool, Some, Ok, Err, Less, Equal, Greater, refl, subst}
 use Rattle.std.proofs.Common.{arith}
 use Rattle.std.specs.Ordering.{nat_cmp, match_ordering}
 use Rattle.std.specs.Cmp.Lexicographic.{slice_cmp}
@@ -17,7 +17,7 @@ use Rattle.fb_json.specs.Outcome.{spent}
 use Rattle.fb_json.specs.Meant.{vector_meant, meant, items_meant, count as items_count}
 use Rattle.fb_json.specs.Laws.{Over}
 use Rattle.fb_json.specs.TreeCounts.{cells_measure, depth_measure, items_counted, tree_cells, tree_depth}
-use Rattle.fb_json.proofs.laws.EachStepOfABindSucceeds.{bind_err, bind_ok, ok_inj, spent_ok, some_inj}
+use Rattle.fb_json.proofs.laws.EachStepOfABindSucceeds.{rest_ok, bind_err, bind_ok, spent_ok, some_inj}
 use Rattle.fb_json.proofs.laws.FaultOfALeafIsABrokenRule.{no_err}
 use Rattle.fb_json.proofs.laws.LeavesSpendTheirCells.{over_map, over_wrong, spent_over, SpentAt, LimitAt, leaf_spent}
 use Rattle.fb_json.proofs.laws.LeavesSpendTheirCells.{leaf_limit}
@@ -35,7 +35,7 @@ unfolding vector_meant
 vector_spent L unknown ts (Many kind) at levels left p each h =
     let paid = bind_ok (spent (1 + items_count ts) at left) _ p h in
     let given = bind_ok (items_meant L unknown ts kind at levels paid.0) _ p paid.2 in
-    let same = ap (λ (q : Datum × ℕ). q.1) (ok_inj _ p given.2) in
+    let same = rest_ok _ p given.2 in
     let one = spent_ok (1 + items_count ts) at left paid.0 paid.1 in
     let rest = each kind paid.0 given.0 given.1 in
     omega arith
@@ -80,12 +80,11 @@ mutual
   items_spend : (L : LaidSchema) (unknown : Bool) (ts : Items) (kind : Kind) (at : Place) (levels left : ℕ)
       (xs : List Datum × ℕ) → items_meant L unknown ts kind at levels left ≡ Ok xs
       → xs.1 + items_counted L cells_measure ts kind ≡ left
-  items_spend L unknown no_items kind at levels left xs h = let same =
-      ap (λ (q : List Datum × ℕ). q.1) (ok_inj _ xs h) in omega arith
+  items_spend L unknown no_items kind at levels left xs h = let same = rest_ok _ xs h in omega arith
   items_spend L unknown (item t ts) kind at levels left xs h =
       let given = bind_ok (meant L unknown t (One kind) at levels left) _ xs h in
       let later = bind_ok (items_meant L unknown ts kind at levels given.0.1) _ xs given.2 in
-      let same = ap (λ (q : List Datum × ℕ). q.1) (ok_inj _ xs later.2) in
+      let same = rest_ok _ xs later.2 in
       let one = spends L unknown t (One kind) at levels left given.0 given.1 in
       let rest = items_spend L unknown ts kind at levels given.0.1 later.0 later.1 in
       omega arith

@@ -21,7 +21,7 @@ use Rattle.fb_json.specs.Means.{member_called}
 use Rattle.fb_json.specs.Laws.{Over}
 use Rattle.fb_json.specs.TreeCounts.{cells_measure, depth_measure, slot_count, slots_count, parts_count, counter}
 use Rattle.fb_json.specs.TreeCounts.{tree_cells, tree_depth}
-use Rattle.fb_json.proofs.laws.EachStepOfABindSucceeds.{bind_err, bind_ok, ok_inj, spent_ok}
+use Rattle.fb_json.proofs.laws.EachStepOfABindSucceeds.{rest_ok, bind_err, bind_ok, spent_ok}
 use Rattle.fb_json.proofs.members.MapFindsTheMembers.{with_meaning, looked, found_in}
 use Rattle.fb_json.proofs.laws.ComputedEntryIsMeant.{present_is, code_ok}
 use Rattle.fb_json.proofs.laws.FaultOfALeafIsABrokenRule.{err_inj, no_err, told_broken}
@@ -45,7 +45,7 @@ module _ (L : LaidSchema) (unknown : Bool) (ms : Members) where
       → ◌≡◌ {A = Counted (Option Datum)}
       (if deprecated then Ok (None, left) else used_meant L s c (present (look L unknown ms s.name)) at levels left
       s.shape) (Ok e) → e.1 + many_in c s deprecated ≡ left
-  entry_spent_if spends s at c levels left true e h = let same = ap (λ (q : Option Datum × ℕ). q.1) (ok_inj _ e h) in
+  entry_spent_if spends s at c levels left true e h = let same = rest_ok _ e h in
       omega arith
   entry_spent_if spends s at c levels left false e h =
       let P : Option Meaner → Type 0 = λ m. used_meant L s c m at levels left s.shape ≡ Ok e in
@@ -104,14 +104,13 @@ module _ (L : LaidSchema) (unknown : Bool) (ms : Members) where
       → (fs : List DeclaredField) (id k before levels left : ℕ) (es : List (Option Datum) × ℕ)
       → slots_meant L (look L unknown ms) id fs k before levels left ≡ Ok es → es.1 + many_from before fs ≡ left
   unfolding slots_meant
-  slots_spent spends [] id k before levels left es h = let same =
-      ap (λ (q : List (Option Datum) × ℕ). q.1) (ok_inj _ es h) in omega arith
+  slots_spent spends [] id k before levels left es h = let same = rest_ok _ es h in omega arith
   slots_spent spends (s ∷ fs) id k before levels left es h =
       let told = bind_ok (code_after L.schema (look L unknown ms) (slot_place id k) before s.deprecated s.name s.shape)
       _ es h in
       let given = bind_ok (entry_meant L (look L unknown ms) s (slot_place id k) told.0 levels left) _ es told.2 in
       let later = bind_ok (slots_meant L (look L unknown ms) id fs (k + 1) told.0 levels given.0.1) _ es given.2 in
-      let same = ap (λ (q : List (Option Datum) × ℕ). q.1) (ok_inj _ es later.2) in
+      let same = rest_ok _ es later.2 in
       let one = entry_spent spends s (slot_place id k) told.0 levels left given.0 given.1 in
       let rest = slots_spent spends fs id (k + 1) told.0 levels given.0.1 later.0 later.1 in
       let behind = behind_is L unknown ms s before told.0 s.deprecated s.shape
@@ -193,12 +192,12 @@ module _ (L : LaidSchema) (unknown : Bool) (ms : Members) where
   pub parts_spent : Spends L unknown ms → (fs : List DeclaredField) (id k levels left : ℕ) (xs : List Datum × ℕ)
       → parts_meant (look L unknown ms) id fs k levels left ≡ Ok xs → xs.1 + many_parts fs ≡ left
   unfolding parts_meant
-  parts_spent spends [] id k levels left xs h = let same = ap (λ (q : List Datum × ℕ). q.1) (ok_inj _ xs h) in
+  parts_spent spends [] id k levels left xs h = let same = rest_ok _ xs h in
       omega arith
   parts_spent spends (s ∷ fs) id k levels left xs h =
       let given = bind_ok (part_meant (look L unknown ms s.name) s.shape (slot_place id k) levels left) _ xs h in
       let later = bind_ok (parts_meant (look L unknown ms) id fs (k + 1) levels given.0.1) _ xs given.2 in
-      let same = ap (λ (q : List Datum × ℕ). q.1) (ok_inj _ xs later.2) in
+      let same = rest_ok _ xs later.2 in
       let P : Option (Data × Meaner) → Type 0 = λ o. part_meant o s.shape (slot_place id k) levels left ≡ Ok given.0 in
       let one = part_spent spends (get_member s.name ms) s (slot_place id k) levels left given.0 refl
       (subst P (looked L unknown ms s.name) given.1) in
@@ -243,13 +242,12 @@ module _ (L : LaidSchema) (unknown : Bool) (ms : Members) where
       → object_meant L unknown ms (look L unknown ms) shape at levels left ≡ Ok p
       → p.1 + tree_cells L (object ms) shape ≡ left
   unfolding object_meant table_meant struct_meant
-  object_spent spends (One (Table id)) at zero left p h = cc
   object_spent spends (One (Table id)) at (suc levels) left p h =
       let paid = bind_ok (spent 1 at left) _ p h in
       let known = bind_ok (if_known (unknown || names_known (body_at L.schema id.0) ms) (type_place id.0)) _ p paid.2 in
       let given = bind_ok (slots_meant L (look L unknown ms) id.0 (slots_in (body_at L.schema id.0)) 0 0 levels paid.0)
       _ p known.2 in
-      let same = ap (λ (q : Datum × ℕ). q.1) (ok_inj _ p given.2) in
+      let same = rest_ok _ p given.2 in
       let one = spent_ok 1 at left paid.0 paid.1 in
       let rest = slots_spent spends (slots_in (body_at L.schema id.0)) id.0 0 0 levels paid.0 given.0 given.1 in
       omega arith
@@ -257,15 +255,10 @@ module _ (L : LaidSchema) (unknown : Bool) (ms : Members) where
       let known = bind_ok (if_known (unknown || names_known (body_at L.schema id.0) ms) (type_place id.0)) _ p h in
       let given = bind_ok (parts_meant (look L unknown ms) id.0 (fields_of_struct (body_at L.schema id.0)) 0 levels
       left) _ p known.2 in
-      let same = ap (λ (q : Datum × ℕ). q.1) (ok_inj _ p given.2) in
+      let same = rest_ok _ p given.2 in
       let rest = parts_spent spends (fields_of_struct (body_at L.schema id.0)) id.0 0 levels left given.0 given.1 in
       omega arith
-  object_spent spends (One (Scalar b)) at levels left p h = cc
-  object_spent spends (One (Enum b)) at levels left p h = cc
-  object_spent spends (One (Union b)) at levels left p h = cc
-  object_spent spends (One (Code b)) at levels left p h = cc
-  object_spent spends (One Text) at levels left p h = cc
-  object_spent spends (Many kind) at levels left p h = cc
+  object_spent spends _ at _ left p h = cc
 
   pub table_limit : Spends L unknown ms → Limits L unknown ms
       → (id : TypeId) (at : Place) (levels left : ℕ) (f : JsonFault)

@@ -9,7 +9,7 @@ use Rattle.fb_schema.specs.declared.kinds.Kind.{Kind}
 use Rattle.fb_schema.specs.declared.kinds.Kind.TheVariants.{Scalar, Enum, Struct, Table, Union, Code, Text}
 use Rattle.fb_schema.specs.declared.kinds.Shape.{Shape}
 use Rattle.fb_schema.specs.declared.kinds.Shape.TheVariants.{One, Many}
-use Rattle.fb_schema.specs.Schema.{DeclaredField, DeclaredBody, table_body, struct_body, enum_body, union_body}
+use Rattle.fb_schema.specs.Schema.{DeclaredField, DeclaredBody, table_body, struct_body}
 use Rattle.fb_schema.specs.Schema.{DeclaredType, DeclaredSchema, body_in, body_at, base_in, slots_in, parts_in}
 use Rattle.fb_schema.specs.Schema.{is_table}
 use Rattle.fb_schema.specs.WellDeclared.{InRange, MarksFit, IsPart, IsBody, IsDeclared}
@@ -56,16 +56,12 @@ enum_fits S declared e _ n h = absurd h
 slots_kept : (S : DeclaredSchema) (t : ℕ) (body : DeclaredBody) → IsBody S t body → (k : ℕ) (f : DeclaredField)
     → slice_get (slots_in body) k ≡ Some f → MarksFit S f f.shape
 slots_kept S t (table_body fs) is k f e = (is.shapes k f e).1
-slots_kept S t (struct_body fs align) is k f e = cc
-slots_kept S t (enum_body base flags values) is k f e = cc
-slots_kept S t (union_body members) is k f e = cc
+slots_kept S t _ is k f e = cc
 
 parts_kept : (S : DeclaredSchema) (t : ℕ) (body : DeclaredBody) → IsBody S t body → (k : ℕ) (f : DeclaredField)
     → slice_get (parts_in body) k ≡ Some f → IsPart S t f.shape
-parts_kept S t (table_body fs) is k f e = cc
 parts_kept S t (struct_body fs align) is k f e = (is.parts k f e).0
-parts_kept S t (enum_body base flags values) is k f e = cc
-parts_kept S t (union_body members) is k f e = cc
+parts_kept S t _ is k f e = cc
 
 module _ (S : DeclaredSchema) (declared : IsDeclared S) (t : ℕ) where
   slots_by : (o : Option DeclaredType) → slice_get S.types t ≡ o → (k : ℕ) (f : DeclaredField)
@@ -127,20 +123,7 @@ module _ (L : LaidSchema) (f : DeclaredField) where
   default_fits false (One (Scalar base)) n marks e = let same : f.default ≡ n = cc in subst (InRange base) same marks.0
   default_fits false (One (Enum id)) n marks e = let same : f.default ≡ n = cc in
       subst (InRange (base_in (body_at L.schema id.0))) same marks.0
-  default_fits true (One (Scalar base)) n marks e = cc
-  default_fits true (One (Enum id)) n marks e = cc
-  default_fits false (One (Struct id)) n marks e = cc
-  default_fits true (One (Struct id)) n marks e = cc
-  default_fits false (One (Table id)) n marks e = cc
-  default_fits true (One (Table id)) n marks e = cc
-  default_fits false (One (Union id)) n marks e = cc
-  default_fits true (One (Union id)) n marks e = cc
-  default_fits false (One (Code id)) n marks e = cc
-  default_fits true (One (Code id)) n marks e = cc
-  default_fits false (One Text) n marks e = cc
-  default_fits true (One Text) n marks e = cc
-  default_fits false (Many kind) n marks e = cc
-  default_fits true (Many kind) n marks e = cc
+  default_fits _ _ n marks e = cc
 
   -- an entry, where its own value or its member fits
   module _ (c : ℕ) (d : Datum) (own : Data → Type 0) (member : Data → ℕ → Type 0) (own_fits : (t : Data) → own t
@@ -234,9 +217,7 @@ module _ (L : LaidSchema) (d : Datum) where
   by_body : (t : ℕ) (type : DeclaredType) (body : DeclaredBody) → type.body ≡ body → is_table body ≡ true
       → Fits L (one_of (table_kind t)) d → FitsKind L (kind_of_type t (Some type)) d
   by_body t type (table_body fs) is table h = rw is h
-  by_body t type (struct_body fs align) is table h = cc
-  by_body t type (enum_body base flags values) is table h = cc
-  by_body t type (union_body members) is table h = cc
+  by_body t type _ is table h = cc
 
   by_place : (t : ℕ) (type : DeclaredType) → slice_get L.schema.types t ≡ Some type
       → IsTrue (is_table (body_at L.schema t)) → Fits L (one_of (table_kind t)) d → FitsType L t d

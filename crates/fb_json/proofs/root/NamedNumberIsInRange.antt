@@ -11,7 +11,7 @@ use Rattle.std.proofs.lemmas.Nat.{or_lt, pow_pos}
 use Rattle.fb_schema.specs.declared.kinds.Base.{Base}
 use Rattle.fb_schema.specs.declared.kinds.Base.TheVariants.{Bool as Boolean, I8, U8, I16, U16, I32, U32, I64, U64}
 use Rattle.fb_schema.specs.Alignments.{base_size}
-use Rattle.fb_schema.specs.Schema.{Name, DeclaredBody, table_body, struct_body, enum_body, union_body, DeclaredType}
+use Rattle.fb_schema.specs.Schema.{Name, DeclaredBody, table_body, enum_body, DeclaredType}
 use Rattle.fb_schema.specs.Schema.{DeclaredSchema, body_in, body_at, base_in}
 use Rattle.fb_schema.specs.WellDeclared.{InRange, IsFlag, is_unsigned, IsBody, IsDeclared}
 use Rattle.fb_schema.specs.Found.{name_at, number_named}
@@ -62,20 +62,15 @@ named_by_path S e path n h =
 
 body_in_range : (S : DeclaredSchema) (t : ℕ) (body : DeclaredBody) → IsBody S t body → (name : Name) (n : ℤ)
     → number_named body name ≡ Some n → InRange (base_in body) n
-body_in_range S t (table_body fs) is name n e = cc
-body_in_range S t (struct_body fs align) is name n e = cc
 body_in_range S t (enum_body base flags values) is name n e = named_keeps (InRange base) values is.ranges name n e
-body_in_range S t (union_body members) is name n e = cc
+body_in_range S t _ is name n e = cc
 
 body_flags : (S : DeclaredSchema) (t : ℕ) (body : DeclaredBody) → IsBody S t body → has_flags body ≡ true
     → IsTrue (is_unsigned (base_in body))
     × ((name : Name) (n : ℤ) → number_named body name ≡ Some n → IsFlag (base_in body) n)
-body_flags S t (table_body fs) is flagged = cc
-body_flags S t (struct_body fs align) is flagged = cc
 body_flags S t (enum_body base true values) is flagged =
     ((is.bits refl).0, λ name n e. named_keeps (IsFlag base) values (is.bits refl).1 name n e)
-body_flags S t (enum_body base false values) is flagged = cc
-body_flags S t (union_body members) is flagged = cc
+body_flags S t _ is flagged = cc
 
 -- flags stay below the number of bits
 flags_below : (bits : ℕ) (flag : Name → Option ℤ) → bits ≤ 64
@@ -102,11 +97,7 @@ unsigned_range U8 m is small = (grind (arith, ints), grind (arith, ints, small))
 unsigned_range U16 m is small = (grind (arith, ints), grind (arith, ints, small))
 unsigned_range U32 m is small = (grind (arith, ints), grind (arith, ints, small))
 unsigned_range U64 m is small = (grind (arith, ints), grind (arith, ints, small))
-unsigned_range Boolean m is small = cc
-unsigned_range I8 m is small = cc
-unsigned_range I16 m is small = cc
-unsigned_range I32 m is small = cc
-unsigned_range I64 m is small = cc
+unsigned_range _ m is small = cc
 
 few_bits : (base : Base) → 8 * base_size base ≤ 64
 few_bits Boolean = omega arith

@@ -14,7 +14,7 @@ use Rattle.serde_json.specs.Data.{Data, Members, member, no_members}
 use Rattle.serde_json.specs.Find.{get_member}
 use Rattle.serde_json.specs.View.{view, members_view}
 use Rattle.serde_json.proofs.Views.{Entry, view-lookup}
-use Rattle.fb_schema.specs.Schema.{Name, DeclaredField, DeclaredBody, table_body, struct_body, enum_body, union_body}
+use Rattle.fb_schema.specs.Schema.{Name, DeclaredField, DeclaredBody, table_body}
 use Rattle.fb_schema.specs.Schema.{DeclaredType, DeclaredSchema, body_in, body_at, slots_in}
 use Rattle.fb_schema.specs.Found.{field_named}
 use Rattle.fb_schema.specs.WellDeclared.{IsBody, IsDeclared}
@@ -37,9 +37,6 @@ found_there {X} p (y ∷ ys) x e = by (p y) refl e (found_there p ys x)
 named_in_body : (S : DeclaredSchema) (t : ℕ) (body : DeclaredBody) → IsBody S t body → (name : Name)
     (g f : DeclaredField) (k : ℕ) → field_named body name ≡ Some g → slice_get (slots_in body) k ≡ Some f
     → k ≡ g.slot → f.name ≡ name
-named_in_body S t (struct_body fs align) is name g f k found there at = absurd cc
-named_in_body S t (enum_body base flags values) is name g f k found there at = absurd cc
-named_in_body S t (union_body members) is name g f k found there at = absurd cc
 named_in_body S t (table_body fs) is name g f k found there at =
     let place = found_there (λ h. bytes_eq name h.name) fs g found in
     let same : k ≡ place.0 = at ∙ is.slots place.0 g place.1 in
@@ -47,6 +44,7 @@ named_in_body S t (table_body fs) is name g f k found there at =
     let both : Some f ≡ Some g = sym here ∙ place.1 in
     let one : f ≡ g = cc in
     ap (λ (h : DeclaredField). h.name) one ∙ sym ((bytes_eq-Decides name g.name).0 place.2)
+named_in_body S t _ is name g f k found there at = absurd cc
 
 pub named_at : (S : DeclaredSchema) (t : ℕ) → IsDeclared S → (name : Name) (g f : DeclaredField) (k : ℕ)
     → field_named (body_at S t) name ≡ Some g → slice_get (slots_in (body_at S t)) k ≡ Some f → k ≡ g.slot

@@ -11,7 +11,7 @@ use Rattle.std.proofs.lemmas.Slice.Eq.{bytes_eq-Decides}
 use Rattle.std.proofs.lemmas.Map.Text.{is_eq-slice_cmp}
 use Rattle.serde_json.specs.Data.{Data, Members, member}
 use Rattle.serde_json.specs.Find.{get_member}
-use Rattle.fb_schema.specs.Schema.{Name, DeclaredField, DeclaredBody, table_body, struct_body, enum_body, union_body}
+use Rattle.fb_schema.specs.Schema.{Name, DeclaredField, DeclaredBody, table_body}
 use Rattle.fb_schema.specs.Schema.{DeclaredType, DeclaredSchema, body_in, body_at, slots_in}
 use Rattle.fb_schema.specs.Found.{field_named}
 use Rattle.fb_schema.specs.WellDeclared.{IsBody, IsDeclared}
@@ -23,9 +23,6 @@ IsFoundAs body k f = (field_named body f.name ≡ Some f) × (f.slot ≡ k)
 
 found_in_body : (S : DeclaredSchema) (t : ℕ) (body : DeclaredBody) → IsBody S t body → (k : ℕ)
     (f : DeclaredField) → slice_get (slots_in body) k ≡ Some f → IsFoundAs body k f
-found_in_body S t (struct_body fs align) is k f there = absurd cc
-found_in_body S t (enum_body base flags values) is k f there = absurd cc
-found_in_body S t (union_body members) is k f there = absurd cc
 found_in_body S t (table_body fs) is k f there =
     let at : slice_get (map (λ g. g.name) fs) k ≡ Some f.name =
     slice_get-map (λ g. g.name) fs k ∙ ap (option_map (λ g. g.name)) there in
@@ -36,6 +33,7 @@ found_in_body S t (table_body fs) is k f there =
           (sym (position-map (λ g. g.name) (bytes_eq f.name) fs) ∙ placed) ∙ there),
       is.slots k f there,
     )
+found_in_body S t _ is k f there = absurd cc
 
 -- each slot is found by its name
 pub found_as : (S : DeclaredSchema) (t : ℕ) → IsDeclared S → (k : ℕ) (f : DeclaredField)

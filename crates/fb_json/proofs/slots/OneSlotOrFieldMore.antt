@@ -79,12 +79,15 @@ drop_at : {A : Type 0} (xs : List A) (k : ℕ) (x : A) → k < length xs → x �
 drop_at xs k x h is = let there : drop k xs ≡ get_or xs k x ∷ drop (k + 1) xs = rw (add-one, drop-cons xs k x) refl in
     there ∙ ap (λ y. y ∷ drop (k + 1) xs) (sym is)
 
--- what is declared of the slot at a place
+-- what is seen at a place
+pub seen_at : {A B : Type 0} (view : A → B) (xs : List A) (k : ℕ) (x : A) → k < length xs → x ≡ get_or xs k x
+    → slice_get (map view xs) k ≡ Some (view x)
+seen_at view xs k x within is = slice_get-map view xs k
+    ∙ ap (option_map view) (slice_get-get_or xs k x within ∙ ap Some (sym is))
+
 pub slot_at : (slots : List FieldInfo) (k : ℕ) (f : FieldInfo) → k < length slots → f ≡ get_or slots k f
     → slice_get (map field_seen slots) k ≡ Some (field_seen f)
-slot_at slots k f within is =
-    slice_get-map field_seen slots k
-    ∙ ap (option_map field_seen) (slice_get-get_or slots k f within ∙ ap Some (sym is))
+slot_at slots k f within is = seen_at field_seen slots k f within is
 
 module _ (L : LaidSchema) (look : Look) (t : ℕ) (slots : List FieldInfo) (k : ℕ) (f : FieldInfo)
     (within : k < length slots) (is : f ≡ get_or slots k f) where

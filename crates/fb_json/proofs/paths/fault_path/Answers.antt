@@ -1,36 +1,39 @@
-use Rattle.std.proofs.Common.{◌∙◌, ap, sym}
-use Rattle.serde_json.specs.View.{view}
-use Rattle.fb_schema.specs.declared.kinds.Kind.TheVariants.{Table}
-use Rattle.fb_schema.specs.declared.kinds.Shape.TheVariants.{One}
+use Rattle.std.proofs.Common.{◌∙◌, ap, subst, sym, Vec, Global}
+use Rattle.serde_json.specs.View.{view as tree_view}
 use Rattle.fb_schema.specs.Schema.{DeclaredSchema}
-use Rattle.fb_json.specs.Meant.{type_place, meant}
-use Rattle.fb_json.proofs.root.RootMeaningDecides.{means_root}
-use Rattle.fb_json.proofs.paths.PathLeadsToItsFault.{leads, whole, broken}
+use Rattle.fb_value.specs.View.{view}
+use Rattle.fb_json.specs.declared.step.Step.{Step}
+use Rattle.fb_json.specs.FaultPaths.{IsFirstAt, LeadsToFirst, Spot, tree_spot}
+use Rattle.fb_json.proofs.root.RootMeaningDecides.{at_root, from_root, means_root}
+use Rattle.fb_json.proofs.tree.TrailLeadsToTheFault.{fault_given, kept_steps}
 use Rattle.fb_json.proofs.paths.fault_path.Goals as goal
 
-pub returns-then-is_some : goal.returns-then-is_some
-returns-then-is_some c =
-    let place = type_place c.root-owner.result.0 in
-    let given = meant c.args.layout.now c.args.unknown (view c.args.tree.now) (One (Table c.root-owner.result)) place
-    c.most_depth-depth.result c.most_cells-cells.result in
-    let found = whole given c.in_ok-tree_read.field-0 (sym c.is_some.ensures ∙ c.if-is_some.true)
-    c.in_ok-tree_read.ensures
-    in (
-      found.0,
-      means_root c.args.layout.now c.args.limits c.args.unknown (view c.args.tree.now) c.root-owner.result place
-          c.most_depth-depth.result c.most_cells-cells.result
-          (c.root-owner.ensures ∙ ap (λ (s : DeclaredSchema). s.root) c.schema.ensures.schema)
-          c.most_depth-depth.ensures.exact c.most_cells-cells.ensures found.0 found.1 found.2,
-    )
+pub returns-in_default : goal.returns-in_default
+returns-in_default c = (
+  view c.in_default.field-0.0,
+  means_root c.args.layout.now c.args.limits c.args.unknown (tree_view c.args.tree.now) (view c.in_default.field-0.0)
+      c.in_default.field-0.1 (sym (at_root c.args.layout.now c.args.limits c.args.unknown c.root-owner.result
+      c.most_depth.result
+      c.most_cells.result (c.root-owner.ensures ∙ ap (λ (s : DeclaredSchema). s.root) c.schema.ensures.schema)
+      c.most_depth.ensures.exact c.most_cells.ensures (tree_view c.args.tree.now))
+      ∙ c.in_default.ensures.gives),
+)
 
-pub returns : goal.returns
-returns c =
-    let given = meant c.args.layout.now c.args.unknown (view c.args.tree.now) (One (Table c.root-owner.result))
-    (type_place c.root-owner.result.0) c.most_depth-depth.result c.most_cells-cells.result in
-    leads c.args.layout.now c.args.limits c.args.unknown (view c.args.tree.now) c.root-owner.result
-    c.most_depth-depth.result c.most_cells-cells.result
-    (c.root-owner.ensures ∙ ap (λ (s : DeclaredSchema). s.root) c.schema.ensures.schema)
-    c.most_depth-depth.ensures.exact c.most_cells-cells.ensures c.new-steps.result.items c.walk_tree.new.steps.items
-    c.new-steps.ensures.items
-    (c.in_ok-walk_tree.ensures
-    (broken given c.in_ok-tree_read.field-0 (sym c.is_some.ensures ∙ c.if-is_some.false) c.in_ok-tree_read.ensures))
+pub returns-in_default-fault : goal.returns-in_default-fault
+returns-in_default-fault c =
+    let L = c.args.layout.now in
+    let t = tree_view c.args.tree.now in
+    let kept = c.in_default-fault.not-Memory in
+    let first = sym (at_root c.args.layout.now c.args.limits c.args.unknown c.root-owner.result
+    c.most_depth.result c.most_cells.result
+    (c.root-owner.ensures ∙ ap (λ (s : DeclaredSchema). s.root) c.schema.ensures.schema) c.most_depth.ensures.exact
+    c.most_cells.ensures t) ∙ fault_given c.in-Err.fault _ c.in-Err.ensures.gives kept in
+    let found = c.in-Err.ensures.trail kept in
+    let path = subst (λ (x : Spot). IsFirstAt L c.args.unknown x found.0 c.in-Err.fault)
+    (from_root c.args.layout.now c.args.limits c.args.unknown c.root-owner.result
+    c.most_depth.result c.most_cells.result
+    (c.root-owner.ensures ∙ ap (λ (s : DeclaredSchema). s.root) c.schema.ensures.schema) c.most_depth.ensures.exact
+    c.most_cells.ensures (tree_spot t)) found.2 in
+    kept_steps _ (λ (v : Vec Step Global). v.items) c.into_steps.result c.new-trail.result c.value.new.trail
+    (LeadsToFirst L c.args.limits c.args.unknown t) c.new-trail.ensures c.into_steps.ensures found.0 found.1
+    (c.in-Err.fault, first, path)

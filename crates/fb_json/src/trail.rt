@@ -1,0 +1,67 @@
+//! The way back from a refusal.
+use crate::faults::JsonFault;
+use crate::step::Step;
+use std::alloc::Global;
+use std::marker::Model;
+
+/// The steps from where a walk is to what was refused. Each level adds its step on the way out of a refusal; a trail
+/// that is not kept takes no memory.
+#[derive(Drop)]
+pub(crate) struct Trail {
+    // the last step first
+    steps: Option<Vec<Step>>,
+}
+
+impl Model for Trail {
+    ghost use Rattle.std.specs.Prelude.{List, Option, option_map, reverse};
+    ghost use Rattle.fb_json.specs.declared.step.Step.{Step};
+
+    ghost Value = { Option (List Step) };
+
+    ghost view = { λ t. option_map (λ steps. reverse steps.items) t.steps };
+}
+
+impl Trail {
+    ghost use Rattle.std.specs.Prelude.{◌≡◌, ◌⊎◌, [], ◌∷◌, Some, None, option_map};
+    ghost use Rattle.fb_json.specs.declared.faults.JsonFault.TheVariants.{Memory};
+
+    /// A trail that is not kept.
+    pub(crate) fn unkept() -> Trail
+        ensures { result ≡ None }
+    {
+        Trail { steps: None }
+    }
+
+    /// A trail without steps.
+    pub(crate) fn new(alloc: Global) -> Trail
+        ensures { result ≡ Some [] }
+    {
+        Trail {
+            steps: Some(Vec::new(alloc)),
+        }
+    }
+
+    /// The fault behind this step, which is added in front of the others; `Memory` where there is none for it.
+    pub(crate) fn behind(&mut self, step: Step, fault: JsonFault) -> JsonFault
+        ensures step { (result ≡ Memory)
+            ⊎ ((result ≡ fault) × (self.new ≡ option_map (λ steps. step ∷ steps) self.old)) }
+        ensures unkept { self.old ≡ None → result ≡ fault }
+    {
+        match &mut self.steps {
+            None => fault,
+            Some(steps) => match steps.push(step) {
+                Ok(()) => fault,
+                Err(_) => JsonFault::Memory,
+            },
+        }
+    }
+
+    /// The steps from the first, where they were kept.
+    pub(crate) fn into_steps(self) -> Option<Vec<Step>>
+        ensures { option_map (λ steps. steps.items) result ≡ self }
+    {
+        let mut steps = self.steps?;
+        steps.reverse();
+        Some(steps)
+    }
+}
