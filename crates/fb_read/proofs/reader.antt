@@ -1,4 +1,3 @@
 -- What the proofs of src/reader.rt use.
-pub mod PathEndsAtTheFault
 pub mod RootValueIsHeld
 pub mod RootVisitDecides

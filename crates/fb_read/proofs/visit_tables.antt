@@ -1,4 +1,7 @@
 -- What the proofs of src/visit_tables.rt use.
 pub mod EnteredPartsAreCounted
+pub mod FrontIsFreeOfFaults
+pub mod HearsTheWayBack
+pub mod KeepsWhatLies
+pub mod StepLeadsToTheLeast
 pub mod VisitsOnePlaceAfterAnother
-pub mod VisitsSlotAfterSlot

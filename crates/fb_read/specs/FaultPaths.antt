@@ -1,25 +1,21 @@
 -- The path of the least fault, by steps that name what they lead to.
 -- From the FlatBuffers documentation, "FlatBuffer Internals": Tables, Strings and vectors.
-use Rattle.std.specs.Prelude.{ℕ, ◌+◌, ◌≡◌, ◌≤◌, List, [], ◌∷◌, map, take, Option, None, Some, Ok, Err, slice_get}
-use Rattle.std.specs.Prelude.{Bool}
-use Rattle.fb_layout.specs.Laid.{LaidSchema, stored_kind}
+use Rattle.std.specs.Prelude.{ℕ, ◌≡◌, List, [], ◌∷◌, map, take, Option, None, Some, Ok, slice_get}
+use Rattle.std.specs.Prelude.{Bool, Result, MatchResult}
+use Rattle.fb_layout.specs.Laid.{LaidSchema}
 use Rattle.fb_value.specs.declared.faults.ReadFault.{ReadFault}
 use Rattle.fb_value.specs.Bounds.{Bounds}
 use Rattle.fb_value.specs.Num.{Bytes}
-use Rattle.fb_value.specs.Places.{Target, table_part, member_part, text_part, vector_part, Sort, ref_place, part_place}
-use Rattle.fb_value.specs.Places.{Place, named}
+use Rattle.fb_value.specs.Places.{table_part, member_part, vector_part, Sort, ref_place, part_place}
+use Rattle.fb_value.specs.Places.{Place}
 use Rattle.fb_value.specs.Reached.{Path, Names, ComesBefore}
-use Rattle.fb_value.specs.Faults.{own_cells, own_tables, limited_fault, FaultFrom}
+use Rattle.fb_value.specs.Faults.{FaultFrom}
 use Rattle.fb_value.specs.Holds.{header_fault, checked_identifier, root_place}
 use Rattle.fb_read.specs.declared.step.Step.{Step}
 use Rattle.fb_read.specs.declared.step.Step.TheVariants.{Reference, Slot, Element}
-use Rattle.fb_read.specs.declared.spot.Part.{Part}
-use Rattle.fb_read.specs.declared.spot.Part.TheVariants.{Table, Member, Text, Vector}
-use Rattle.fb_read.specs.declared.spot.Spot.{Spot}
-use Rattle.fb_read.specs.declared.spot.Spot.TheVariants.{Found, Entered}
-use Rattle.fb_read.specs.declared.source.Source.{Source}
-use Rattle.fb_read.specs.Stored.{stored_place, stored_at}
-use Rattle.fb_read.specs.Walks.{limits_of, visit_entry_in, visit_each_in}
+use Rattle.fb_read.specs.declared.buffer.Buffer.{Buffer}
+use Rattle.fb_read.specs.Values.{MemoryLasts}
+use Rattle.fb_read.specs.Walks.{limits_of, visit_each_in}
 
 -- which of the places that a place names a step leads to
 abbrev pub number_of : Step → ℕ
@@ -53,64 +49,45 @@ pub record IsFaultPath (L : LaidSchema) (most : Bounds) (raw : Bool) (b : Bytes)
   pub least : LeastAt L b most (root_place L) 0 0 (map number_of steps) f
   pub each : AreStepsFrom L b (root_place L) steps
 
--- what a reference leads to
-abbrev pub target_of_part : LaidSchema → Part → Target
-target_of_part L (Table t) = table_part t.0
-target_of_part L (Member c t) = member_part c t.0
-target_of_part L Text = text_part
-target_of_part L (Vector kind) = vector_part (stored_kind L.schema kind)
-
--- the place that a walk has come to
-abbrev pub spot_place : LaidSchema → Spot → Option Place
-spot_place L (Found stored) = stored_place L stored
-spot_place L (Entered part p) = Some (record { sort = part_place (target_of_part L part); at = p })
-
-abbrev pub spot_at : Spot → ℕ
-spot_at (Found stored) = stored_at stored
-spot_at (Entered part p) = p
-
 -- The least fault from a place, if there is one, is at the end of these steps.
 abbrev pub LeadsToLeast : LaidSchema → Bytes → Bounds → Option Place → ℕ → ℕ → List Step → ReadFault → Type 0
 LeadsToLeast L b most None tables spent steps f = ⊥
 LeadsToLeast L b most (Some x) tables spent steps f =
     LeastAt L b most x tables spent (map number_of steps) f × AreStepsFrom L b x steps
 
--- The place names no other, in any bytes.
-abbrev pub NamesNothing : Option Place → Type 0
-NamesNothing None = Unit {0}
-NamesNothing (Some x) = (L : LaidSchema) (b : Bytes) → named L b x.sort x.at ≡ []
-
--- A visit finds a fault.
-abbrev pub Fails : Source → Option Place → ℕ → ℕ → Type 0
-Fails source o tables spent = (f : ReadFault) × (visit_entry_in source o tables spent ≡ Err f)
-
--- The place breaks a rule, or passes a limit, itself.
-abbrev pub IsFaulty : Source → Option Place → ℕ → ℕ → Type 0
-IsFaulty source None tables spent = ⊥
-IsFaulty source (Some x) tables spent = (f : ReadFault)
-    × (limited_fault source.layout.now source.bytes.now (limits_of source) x (tables + own_tables x.sort)
-    (spent + own_cells source.bytes.now x.sort x.at) ≡ Some f)
-
--- The first of some places under which a visit finds a fault is that at k, with so many cells spent before it.
-pub record FailsFirstAt (source : Source) (xs : List (Option Place)) (tables old new k : ℕ) (o : Option Place)
+-- Behind those of some places that come before number k no fault is found, and so many cells are spent then.
+pub record ComesTo (buffer : Buffer) (xs : List (Option Place)) (tables old new k : ℕ) (o : Option Place)
     : Type 0 where
   pub names : slice_get xs k ≡ Some o
-  pub before : visit_each_in source (take k xs) tables old ≡ Ok new
-  pub fails : Fails source o tables new
-  pub few : new ≤ source.most_cells
+  pub before : visit_each_in buffer (take k xs) tables old ≡ Ok new
 
--- One step from x towards the least fault: x has none itself, and there is none under the places before.
-pub record StepsTowards (source : Source) (x : Place) (tables spent : ℕ) (step : Step) (o : Option Place)
-    (tables2 spent2 : ℕ) : Type 0 where
-  pub fine : limited_fault source.layout.now source.bytes.now (limits_of source) x (tables + own_tables x.sort) (spent
-      + own_cells source.bytes.now x.sort x.at) ≡ None
-  pub of_sort : IsStepOf x.sort step
-  pub names : slice_get (named source.layout.now source.bytes.now x.sort x.at) (number_of step) ≡ Some o
-  pub above : tables2 ≡ tables + own_tables x.sort
-  pub before : visit_each_in source (take (number_of step) (named source.layout.now source.bytes.now x.sort x.at))
-      tables2 (spent + own_cells source.bytes.now x.sort x.at) ≡ Ok spent2
-  pub fails : Fails source o tables2 spent2
+-- A visitor was told the steps from a place to the least fault.
+pub record HearsFrom {V : Type 0} (told : V → List Step → V → Type 0) (buffer : Buffer) (o : Option Place)
+    (tables spent : ℕ) (old new : V) : Type 0 where
+  pub steps : List Step
+  pub fault : ReadFault
+  pub heard : told old steps new
+  pub leads : LeadsToLeast buffer.layout.now buffer.bytes.now (limits_of buffer) o tables spent steps fault
 
-abbrev pub Steps : Source → Option Place → ℕ → ℕ → Step → Option Place → ℕ → ℕ → Type 0
-Steps source None tables spent step o tables2 spent2 = ⊥
-Steps source (Some x) tables spent step o tables2 spent2 = StepsTowards source x tables spent step o tables2 spent2
+-- The same from some places, with the step to one of them before.
+pub record HearsAmong {V : Type 0} (told : V → List Step → V → Type 0) (step_to : ℕ → Step) (buffer : Buffer)
+    (xs : List (Option Place)) (tables spent : ℕ) (old new : V) : Type 0 where
+  pub index : ℕ
+  pub there : Option Place
+  pub spent_there : ℕ
+  pub comes : ComesTo buffer xs tables spent spent_there index there
+  pub steps : List Step
+  pub fault : ReadFault
+  pub heard : told old (step_to index ∷ steps) new
+  pub leads : LeadsToLeast buffer.layout.now buffer.bytes.now (limits_of buffer) there tables spent_there steps fault
+
+-- A visitor hears nothing of what was visited, or of the steps to its least fault, as far as memory lasts.
+abbrev pub Hears : {V T : Type 0} → Type 0 → (V → List Step → V → Type 0) → Buffer → Option Place → ℕ → ℕ → V → V
+    → Result T ReadFault → Type 0
+Hears takes_memory told buffer o tables spent old new result = MatchResult result (λ _. new ≡ old)
+    (λ f. MemoryLasts takes_memory f → HearsFrom told buffer o tables spent old new)
+
+abbrev pub HearsEach : {V T : Type 0} → Type 0 → (V → List Step → V → Type 0) → (ℕ → Step) → Buffer
+    → List (Option Place) → ℕ → ℕ → V → V → Result T ReadFault → Type 0
+HearsEach takes_memory told step_to buffer xs tables spent old new result = MatchResult result (λ _. new ≡ old)
+    (λ f. MemoryLasts takes_memory f → HearsAmong told step_to buffer xs tables spent old new)

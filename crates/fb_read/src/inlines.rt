@@ -4,9 +4,7 @@ ghost use Rattle.std.specs.Prelude.{option_map, None, Some};
 ghost use Rattle.fb_layout.specs.Laid.{stored_kind, size_of, struct_kind, struct_at};
 ghost use Rattle.fb_value.specs.Places.{target_of};
 ghost use Rattle.fb_value.specs.View.{view, parts_view};
-ghost use Rattle.fb_value.specs.Counts.{entered, parts_entered};
 ghost use Rattle.fb_read.specs.Values.{IsInline, AreItems};
-ghost use Rattle.fb_read.specs.Walks.{entered_in};
 
 use crate::numbers::number_at;
 use fb_layout::{Layout, kind_in};
@@ -25,9 +23,8 @@ pub fn read_inline(
 ) -> Result<Option<Value>, AllocError>
     requires within { at + size_of layout.now (stored_kind layout.now.schema kind) ≤ length bytes.now }
     requires short { length bytes.now < 2 ^ 31 }
-    ensures value { IfOk result (λ o. IsInline layout.now bytes.now
+    ensures { IfOk result (λ o. IsInline layout.now bytes.now
         (stored_kind layout.now.schema kind) at (option_map view o)) }
-    ensures flat { IfOk result (λ o. entered_in (option_map view o) ≡ 0) }
 {
     match kind {
         Kind::Scalar(base) => Ok(Some(Value::Number(number_at(bytes, at, base)))),
@@ -47,9 +44,8 @@ fn read_struct(
 ) -> Result<Value, AllocError>
     requires within { at + (struct_at layout.now structure.0).size ≤ length bytes.now }
     requires short { length bytes.now < 2 ^ 31 }
-    ensures value { IfOk result (λ v. IsInline layout.now bytes.now
+    ensures { IfOk result (λ v. IsInline layout.now bytes.now
         (struct_kind structure.0) at (Some (view v))) }
-    ensures flat { IfOk result (λ v. entered (view v) ≡ 0) }
 {
     let _schema = layout.schema(); // its contract: the layout is well made
     let fields = layout.parts_of(structure);
@@ -76,9 +72,8 @@ pub fn read_inlines(
     requires within { at + count * size_of layout.now (stored_kind layout.now.schema kind) ≤ length bytes.now }
     requires short { length bytes.now < 2 ^ 31 }
     requires inline { target_of (stored_kind layout.now.schema kind) ≡ None }
-    ensures value { IfOk result (λ vs. AreItems layout.now bytes.now
+    ensures { IfOk result (λ vs. AreItems layout.now bytes.now
         (stored_kind layout.now.schema kind) at count (parts_view vs.items)) }
-    ensures flat { IfOk result (λ vs. parts_entered (parts_view vs.items) ≡ 0) }
 {
     let size = layout.size_of(kind) as usize;
     let mut items = Vec::with_capacity(alloc, count as usize)?;

@@ -1,9 +1,9 @@
 //! Reading typed values from bytes.
 #![tactic(auto)]
 
+mod buffer;
 mod entries;
 mod entry;
-mod fault_steps;
 mod fixed_view;
 mod header;
 mod inlines;
@@ -11,18 +11,18 @@ mod items;
 mod kinds;
 mod numbers;
 mod places;
-mod read_leaves;
-mod read_tables;
 mod reader;
 mod reference;
 mod rules;
-mod source;
-mod spot;
 mod step;
 mod stored;
+mod trail;
+mod values;
+mod verdict;
 mod view;
 mod visit_leaves;
 mod visit_tables;
+mod visitor;
 mod walk;
 
 pub use entries::Entries;

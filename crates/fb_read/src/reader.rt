@@ -11,11 +11,12 @@ ghost use Rattle.fb_read.specs.Shows.{Shows};
 pub(crate) mod paths;
 pub(crate) mod ticks;
 
+use crate::buffer::Buffer;
 use crate::entries::Entries;
 use crate::header::{check_front, identifier_of};
 use crate::numbers::u32_at;
-use crate::read_tables::read_table_behind;
-use crate::source::Source;
+use crate::values::Values;
+use crate::verdict::{Nobody, Verdict};
 use crate::view::View;
 use crate::visit_tables::visit_table_behind;
 use crate::walk::Walk;
@@ -34,7 +35,7 @@ use ticks::Ticks;
 /// the limits, with no fault at or before it: it may be reported in place of a later fault.
 ///
 /// A struct takes some 0.4 KiB of stack for each level of its nesting, and so does its drop.
-#[tactic(auto, using(crate::proofs::source::AlignmentsArePositive::layout_sizes))]
+#[tactic(auto, using(crate::proofs::buffer::AlignmentsArePositive::layout_sizes))]
 pub fn read<'a>(
     alloc: Global,
     layout: &'a Layout,
@@ -61,7 +62,7 @@ pub fn read<'a>(
     check_front(bytes, identifier_of(layout, raw))?;
     let most_depth = limits.most_depth();
     let most_cells = limits.most_cells();
-    let source = Source {
+    let buffer = Buffer {
         layout,
         bytes,
         most_depth,
@@ -70,8 +71,9 @@ pub fn read<'a>(
     let mut walk = Walk {
         spent: 0,
         ticks: Ticks::new(),
+        visitor: Values { alloc },
     };
-    let value = read_table_behind(alloc, source, &mut walk, schema.root(), 0, 0);
+    let value = visit_table_behind(&buffer, &mut walk, schema.root(), 0, 0);
     walk.ticks.add_to(entries);
     value
 }
@@ -80,7 +82,7 @@ pub fn read<'a>(
 ///
 /// `raw` skips the file identifier check. `entries` rises by one for each table, vector
 /// and text that is entered. Nothing is allocated.
-#[tactic(auto, using(crate::proofs::source::AlignmentsArePositive::layout_sizes))]
+#[tactic(auto, using(crate::proofs::buffer::AlignmentsArePositive::layout_sizes))]
 pub fn verify<'a>(
     layout: &'a Layout,
     bytes: &'a [u8],
@@ -103,7 +105,7 @@ pub fn verify<'a>(
     check_front(bytes, identifier_of(layout, raw))?;
     let most_depth = limits.most_depth();
     let most_cells = limits.most_cells();
-    let source = Source {
+    let buffer = Buffer {
         layout,
         bytes,
         most_depth,
@@ -112,8 +114,9 @@ pub fn verify<'a>(
     let mut walk = Walk {
         spent: 0,
         ticks: Ticks::new(),
+        visitor: Verdict { hearer: Nobody },
     };
-    let visited = visit_table_behind(&source, &mut walk, schema.root(), 0, 0);
+    let visited = visit_table_behind(&buffer, &mut walk, schema.root(), 0, 0);
     walk.ticks.add_to(entries);
     visited?;
     let at = u32_at(bytes, 0) as usize;

@@ -133,9 +133,9 @@ impl Stored {
 /// A number's default, where it has one.
 #[inline(always)]
 pub fn default_of(layout: &Layout, field: &FieldInfo) -> Option<i128>
-    ensures { field.now.deprecated ≡ false → result ≡ (slot_seen layout.now field.now).if_absent }
+    ensures { result ≡ (slot_seen layout.now field.now).if_absent }
 {
-    if field.optional {
+    if field.deprecated || field.optional {
         return None;
     }
     let _ = layout; // the contract names it, the code needs none of it

@@ -1,117 +1,151 @@
-//! Visits of what names no table, without memory.
-ghost use Rattle.std.specs.Prelude.{◌≡◌, ℕ, ◌+◌, ◌*◌, ◌<◌, ◌≤◌, ◌^◌, length, List, IsTrue, Ok, OnOk};
+//! Visits of what names no table.
+ghost use Rattle.std.specs.Prelude.{◌≡◌, ℕ, ◌+◌, ◌*◌, ◌<◌, ◌≤◌, ◌^◌, length, List, IsTrue};
+ghost use Rattle.std.specs.Prelude.{Ok, OnOk, IfOk, IfErr, Some, Option};
 ghost use Rattle.fb_layout.specs.Laid.{LaidSchema, Slot, stored_kind};
 ghost use Rattle.fb_value.specs.Num.{num};
 ghost use Rattle.fb_value.specs.Places.{is_present, text_part, ref_place, part_place, inline_place};
 ghost use Rattle.fb_value.specs.Places.{code_place, next_required};
 ghost use Rattle.fb_value.specs.Nth.{slot_place};
+ghost use Rattle.fb_value.specs.Datum.{Datum, SlotEntries};
+ghost use Rattle.fb_read.specs.Values.{Gives, KeepsAt, KeepsInline, KeepsEntry};
+ghost use Rattle.fb_read.specs.Stored.{number_entry, defaults_of};
+ghost use Rattle.fb_read.specs.Tails.{entries_from, entry_before};
 ghost use Rattle.fb_read.specs.Visits.{Visits, slot_seen, slots_seen};
+ghost use Rattle.fb_read.specs.FaultPaths.{Hears};
 ghost use Rattle.fb_read.specs.Walks.{place, visit_in, visit_entry_in, HasVtable, TicksWithin, EntersAt, EntersSlot};
 
+use crate::buffer::Buffer;
 use crate::kinds::base_of;
 use crate::places::{follow, held_slot, is_stored};
 use crate::rules::{check_code, check_inline, check_number, open_text};
-use crate::source::Source;
-use crate::walk::{TableAt, Walk};
+use crate::step::Step;
+use crate::stored::default_of;
+use crate::visitor::Visitor;
+use crate::walk::{TableAt, Walk, tell};
+use fb_layout::Layout;
 use fb_schema::{FieldInfo, Kind, Shape};
 use fb_value::ReadFault;
+use std::alloc::AllocError;
 
 /// Visits the text at a position.
 #[inline(always)]
 #[tactic(auto, using(crate::proofs::visit_tables::VisitsOnePlaceAfterAnother::text_visits))]
-pub fn visit_text(source: &Source, walk: &mut Walk, at: usize) -> Result<(), ReadFault>
+pub fn visit_text<V: Visitor>(
+    buffer: &Buffer,
+    walk: &mut Walk<V>,
+    at: usize,
+) -> Result<V::Kept, ReadFault>
     requires low { at < 2 ^ 33 }
-    requires few { walk.old.spent ≤ source.now.most_cells }
-    ensures visit { (tables : ℕ) → Visits result walk.new.spent (visit_in source.now (place
+    requires few { walk.old.spent ≤ buffer.now.most_cells }
+    ensures visit { (tables : ℕ) → Gives V.takes_memory result walk.new.spent (visit_in buffer.now (place
         (part_place text_part) at) tables walk.old.spent) }
-    ensures few { OnOk result (walk.new.spent ≤ source.now.most_cells) }
-    ensures ticks { TicksWithin source.now walk.old walk.new result }
-    ensures each { OnOk result (EntersAt source.now (place
+    ensures few { OnOk result (walk.new.spent ≤ buffer.now.most_cells) }
+    ensures ticks { TicksWithin buffer.now walk.old walk.new result }
+    ensures each { OnOk result (EntersAt buffer.now (place
         (part_place text_part) at) walk.old.ticks walk.new.ticks) }
+    ensures hears { (tables : ℕ) → Hears V.takes_memory V.told buffer.now (Some (place (part_place text_part) at))
+        tables walk.old.spent walk.old.visitor walk.new.visitor result }
+    ensures kept { IfOk result (KeepsAt V.keeps buffer.now (place (part_place text_part) at)) }
 {
     walk.ticks.tick();
-    let text = open_text(source.bytes, at)?;
-    let most = u64::from(source.most_cells);
+    let text = open_text(buffer.bytes, at)?;
+    let most = u64::from(buffer.most_cells);
     let after = walk.spent + 1 + text.len() as u64;
     if after > most {
         return Err(ReadFault::TooManyCells(at as u64));
     }
     walk.spent = after;
-    Ok(())
+    Ok(walk.visitor.text(text)?)
 }
 
 /// Visits the text behind a reference.
 #[inline(always)]
 #[tactic(auto, using(crate::proofs::visit_tables::VisitsOnePlaceAfterAnother::text_references))]
-pub fn visit_text_behind(source: &Source, walk: &mut Walk, at: usize) -> Result<(), ReadFault>
+pub fn visit_text_behind<V: Visitor>(
+    buffer: &Buffer,
+    walk: &mut Walk<V>,
+    at: usize,
+) -> Result<V::Kept, ReadFault>
     requires low { at < 2 ^ 33 }
-    requires few { walk.old.spent ≤ source.now.most_cells }
-    ensures visit { (tables : ℕ) → Visits result walk.new.spent (visit_in source.now (place
+    requires few { walk.old.spent ≤ buffer.now.most_cells }
+    ensures visit { (tables : ℕ) → Gives V.takes_memory result walk.new.spent (visit_in buffer.now (place
         (ref_place text_part) at) tables walk.old.spent) }
-    ensures few { OnOk result (walk.new.spent ≤ source.now.most_cells) }
-    ensures ticks { TicksWithin source.now walk.old walk.new result }
-    ensures each { OnOk result (EntersAt source.now (place
+    ensures few { OnOk result (walk.new.spent ≤ buffer.now.most_cells) }
+    ensures ticks { TicksWithin buffer.now walk.old walk.new result }
+    ensures each { OnOk result (EntersAt buffer.now (place
         (ref_place text_part) at) walk.old.ticks walk.new.ticks) }
+    ensures hears { (tables : ℕ) → Hears V.takes_memory V.told buffer.now (Some (place (ref_place text_part) at)) tables
+        walk.old.spent walk.old.visitor walk.new.visitor result }
+    ensures kept { IfOk result (KeepsAt V.keeps buffer.now (place (ref_place text_part) at)) }
 {
-    let target = follow(source.bytes, at)?;
-    visit_text(source, walk, target)
+    let target = follow(buffer.bytes, at)?;
+    let visited = visit_text(buffer, walk, target);
+    tell(walk, Step::Reference, &visited);
+    visited
 }
 
 /// Visits a number or struct.
 #[inline(always)]
 #[tactic(auto, using(crate::proofs::visit_tables::VisitsOnePlaceAfterAnother::inline_visits))]
-pub fn visit_inline(source: &Source, kind: Kind, at: usize) -> Result<(), ReadFault>
+pub fn visit_inline<V: Visitor>(
+    buffer: &Buffer,
+    visitor: &V,
+    kind: Kind,
+    at: usize,
+) -> Result<Option<V::Kept>, ReadFault>
     requires low { at < 2 ^ 33 }
-    ensures { (tables spent : ℕ) → Visits result spent (visit_in source.now (place (inline_place
-        (stored_kind source.now.layout.now.schema kind)) at) tables spent) }
+    ensures visit { (tables spent : ℕ) → Gives V.takes_memory result spent (visit_in buffer.now (place (inline_place
+        (stored_kind buffer.now.layout.now.schema kind)) at) tables spent) }
+    ensures kept { IfOk result (KeepsInline V.keeps buffer.now.layout.now buffer.now.bytes.now
+        (stored_kind buffer.now.layout.now.schema kind) at) }
 {
     check_inline(
-        source.bytes,
+        buffer.bytes,
         at,
-        source.layout.size_of(kind),
-        source.layout.align_of(kind),
+        buffer.layout.size_of(kind),
+        buffer.layout.align_of(kind),
     )?;
-    Ok(())
+    Ok(visitor.inline(buffer.layout, buffer.bytes, kind, at)?)
 }
 
 /// Visits the code of a union, at a position, in a slot of a table.
 #[inline(always)]
 #[tactic(auto, using(crate::proofs::visit_tables::VisitsOnePlaceAfterAnother::code_visits))]
 pub fn visit_code(
-    source: &Source,
+    buffer: &Buffer,
     later: &[FieldInfo],
     table: TableAt,
     slot: usize,
     at: usize,
 ) -> Result<(), ReadFault>
-    requires vtable { HasVtable source.now.bytes.now table }
+    requires vtable { HasVtable buffer.now.bytes.now table }
     requires few { slot < 2 ^ 15 }
     requires low { at < 2 ^ 33 }
-    ensures { (tables spent u : ℕ) → Visits result spent (visit_in source.now (place (code_place u (slot + 1)
-        (next_required (slots_seen source.now.layout.now later.now))
-        (is_present source.now.bytes.now table.at (slot + 1))) at) tables spent) }
+    ensures { (tables spent u : ℕ) → Visits result spent (visit_in buffer.now (place (code_place u (slot + 1)
+        (next_required (slots_seen buffer.now.layout.now later.now))
+        (is_present buffer.now.bytes.now table.at (slot + 1))) at) tables spent) }
 {
-    let present = is_stored(source.bytes, table.at, table.vtable_at, slot + 1);
+    let present = is_stored(buffer.bytes, table.at, table.vtable_at, slot + 1);
     let required = is_first_required(later);
-    check_code(source.bytes, at, slot as u16 + 1, required, present)?;
+    check_code(buffer.bytes, at, slot as u16 + 1, required, present)?;
     Ok(())
 }
 
 /// Whether nothing is to visit at a slot: it is absent, or a number that keeps its rules. Most slots are
 /// such, and a walk that passes by them at once makes no result for each.
 #[inline(always)]
-pub fn is_settled(source: &Source, field: &FieldInfo, table: TableAt, slot: usize) -> bool
-    requires vtable { HasVtable source.now.bytes.now table }
-    requires held { 6 + 2 * slot ≤ num source.now.bytes.now table.vtable_at 2 }
+pub fn is_settled(buffer: &Buffer, field: &FieldInfo, table: TableAt, slot: usize) -> bool
+    requires vtable { HasVtable buffer.now.bytes.now table }
+    requires held { 6 + 2 * slot ≤ num buffer.now.bytes.now table.vtable_at 2 }
     requires few { slot < 2 ^ 15 }
     ensures visit { IsTrue result → (fs : List Slot) (tables spent : ℕ)
-        → visit_entry_in source.now (slot_place source.now.layout.now source.now.bytes.now table.at slot fs
-        (slot_seen source.now.layout.now field.now)) tables spent ≡ Ok spent }
+        → visit_entry_in buffer.now (slot_place buffer.now.layout.now buffer.now.bytes.now table.at slot fs
+        (slot_seen buffer.now.layout.now field.now)) tables spent ≡ Ok spent }
     ensures each { IsTrue result → (fs : List Slot) (n : ℕ)
-        → EntersSlot source.now (slot_place source.now.layout.now source.now.bytes.now table.at slot fs
-        (slot_seen source.now.layout.now field.now)) n n }
+        → EntersSlot buffer.now (slot_place buffer.now.layout.now buffer.now.bytes.now table.at slot fs
+        (slot_seen buffer.now.layout.now field.now)) n n }
 {
-    let offset = held_slot(source.bytes, table.at, table.vtable_at, slot);
+    let offset = held_slot(buffer.bytes, table.at, table.vtable_at, slot);
     if offset == 0 {
         return true;
     }
@@ -121,10 +155,10 @@ pub fn is_settled(source: &Source, field: &FieldInfo, table: TableAt, slot: usiz
     let Shape::One(kind) = field.shape else {
         return false;
     };
-    let Some(base) = base_of(source.layout, kind) else {
+    let Some(base) = base_of(buffer.layout, kind) else {
         return false;
     };
-    check_number(source.bytes, table.at + offset, base).is_ok()
+    check_number(buffer.bytes, table.at + offset, base).is_ok()
 }
 
 /// Whether the first of some slots is required.
@@ -136,4 +170,79 @@ pub fn is_first_required(slots: &[FieldInfo]) -> bool
         Some(slot) => slot.required && !slot.deprecated,
         None => false,
     }
+}
+
+/// Whether a visitor passes by a slot: nothing is to visit there.
+#[inline(always)]
+pub fn is_passed_by<V: Visitor>(
+    buffer: &Buffer,
+    visitor: &V,
+    field: &FieldInfo,
+    table: TableAt,
+    slot: usize,
+) -> bool
+    requires vtable { HasVtable buffer.now.bytes.now table }
+    requires held { 6 + 2 * slot ≤ num buffer.now.bytes.now table.vtable_at 2 }
+    requires few { slot < 2 ^ 15 }
+    ensures visit { IsTrue result → (fs : List Slot) (tables spent : ℕ)
+        → visit_entry_in buffer.now (slot_place buffer.now.layout.now buffer.now.bytes.now table.at slot fs
+        (slot_seen buffer.now.layout.now field.now)) tables spent ≡ Ok spent }
+    ensures each { IsTrue result → (fs : List Slot) (n : ℕ)
+        → EntersSlot buffer.now (slot_place buffer.now.layout.now buffer.now.bytes.now table.at slot fs
+        (slot_seen buffer.now.layout.now field.now)) n n }
+    ensures kept { IsTrue result → (entries : V.KeptEntries) (k : ℕ) (es : SlotEntries) → V.has_entries entries k es
+        → V.has_entries entries (k + 1) es }
+{
+    visitor.passes_by() && is_settled(buffer, field, table, slot)
+}
+
+/// Has a visitor keep what a slot has.
+#[inline(always)]
+pub fn add_entry<V: Visitor>(
+    visitor: &V,
+    entries: &mut V::KeptEntries,
+    kept: Option<V::Kept>,
+) -> Result<(), AllocError>
+    ensures kept { OnOk result ((k : ℕ) (es : SlotEntries) (o : Option Datum) → V.has_entries entries.old k es
+        → entries_from k es ≡ entry_before o (entries_from (k + 1) es) → KeepsEntry V.keeps kept o
+        → V.has_entries entries.new (k + 1) es) }
+    ensures memory { IfErr result (λ _. V.takes_memory) }
+{
+    match kept {
+        Some(value) => visitor.add_present(entries, value),
+        None => visitor.add_absent(entries),
+    }
+}
+
+/// What a visitor keeps of a slot that has nothing stored.
+#[inline(always)]
+pub fn default_kept<V: Visitor>(visitor: &V, layout: &Layout, field: &FieldInfo) -> Option<V::Kept>
+    ensures { KeepsEntry V.keeps result (number_entry (slot_seen layout.now field.now).if_absent) }
+{
+    match default_of(layout, field) {
+        Some(number) => Some(visitor.number(number)),
+        None => None,
+    }
+}
+
+/// Has a visitor keep the entries of slots that have nothing stored.
+#[inline(always)]
+pub fn add_defaults<V: Visitor>(
+    visitor: &V,
+    entries: &mut V::KeptEntries,
+    layout: &Layout,
+    slots: &[FieldInfo],
+) -> Result<(), AllocError>
+    ensures kept { OnOk result ((k : ℕ) (es : SlotEntries) → V.has_entries entries.old k es
+        → entries_from k es ≡ defaults_of (slots_seen layout.now slots.now)
+        → V.has_entries entries.new (k + length slots.now) es) }
+    ensures memory { IfErr result (λ _. V.takes_memory) }
+{
+    if visitor.passes_by() {
+        return Ok(());
+    }
+    for field in slots {
+        add_entry(visitor, entries, default_kept(visitor, layout, field))?;
+    }
+    Ok(())
 }

@@ -1,24 +1,32 @@
-//! A walk over all that is reached from a place, without memory.
+//! A walk over all that is reached from a place.
 //!
 //! A call passes slices and results through memory, which costs more than most rules. So all that is
 //! done at a table is inlined into `visit_table`, but for what is seldom or has a loop of its own.
-ghost use Rattle.std.specs.Prelude.{◌≡◌, ◌+◌, ◌*◌, ◌<◌, ◌≤◌, ◌^◌, length, OnOk, Some};
-ghost use Rattle.fb_layout.specs.Laid.{StoredKind, stored_kind, member_by_code};
+ghost use Rattle.std.specs.Prelude.{◌≡◌, ◌+◌, ◌*◌, ◌<◌, ◌≤◌, ◌^◌, length, OnOk, IfOk, Some, None, Err};
+ghost use Rattle.fb_layout.specs.Laid.{StoredKind, Slot, stored_kind, member_by_code};
 ghost use Rattle.fb_value.specs.Num.{num};
 ghost use Rattle.fb_value.specs.Places.{table_part, vector_part, ref_place, part_place, named_slots};
 ghost use Rattle.fb_value.specs.Places.{named_elements, target_of};
 ghost use Rattle.fb_value.specs.Nth.{slot_place};
-ghost use Rattle.fb_read.specs.Visits.{Visits, slot_seen, slots_seen, union_place};
-ghost use Rattle.fb_read.specs.Values.{led_to};
+ghost use Rattle.fb_read.specs.Visits.{slot_seen, slots_seen, union_place};
+ghost use Rattle.fb_read.specs.Values.{led_to, Gives, KeepsAt, KeepsInSlot, KeepsSlots, KeepsItems};
+ghost use Rattle.fb_read.specs.Values.{IsOpen, IsOpenBehind};
+ghost use Rattle.fb_read.specs.declared.step.Step.{Step};
+ghost use Rattle.fb_read.specs.FaultPaths.{Hears, HearsEach};
 ghost use Rattle.fb_read.specs.Walks.{place, visit_in, visit_each_in, visit_entry_in, HasVtable, IsWithin};
 ghost use Rattle.fb_read.specs.Walks.{TicksWithin, EntersAt, EntersSlot, EntersSlots, EntersItems};
 
+use crate::buffer::Buffer;
 use crate::places::{follow, held_slot, stored_slots};
 use crate::reference::Reference;
 use crate::rules::{enter_table, open_vector, union_code};
-use crate::source::Source;
-use crate::visit_leaves::{is_settled, visit_code, visit_inline, visit_text_behind};
-use crate::walk::{TableAt, Walk};
+use crate::step::Step;
+use crate::visit_leaves::{
+    add_defaults, add_entry, default_kept, is_passed_by, visit_code, visit_inline,
+    visit_text_behind,
+};
+use crate::visitor::Visitor;
+use crate::walk::{TableAt, Walk, tell};
 use fb_schema::{FieldInfo, Kind, Shape, TypeId};
 use fb_value::ReadFault;
 
@@ -26,213 +34,274 @@ use fb_value::ReadFault;
 #[inline(always)]
 #[cycle(visit)]
 #[tactic(auto, using(crate::proofs::visit_tables::VisitsOnePlaceAfterAnother::visit_ref))]
-pub fn visit_table_behind(
-    source: &Source,
-    walk: &mut Walk,
+pub fn visit_table_behind<V: Visitor>(
+    buffer: &Buffer,
+    walk: &mut Walk<V>,
     table: TypeId,
     at: usize,
     tables: u8,
-) -> Result<(), ReadFault>
+) -> Result<V::Kept, ReadFault>
     requires low { at < 2 ^ 33 }
-    requires limits { IsWithin source.now tables walk.old }
-    ensures visit { Visits result walk.new.spent (visit_in source.now (place (ref_place
+    requires limits { IsWithin buffer.now tables walk.old }
+    ensures visit { Gives V.takes_memory result walk.new.spent (visit_in buffer.now (place (ref_place
         (table_part table.0)) at) tables walk.old.spent) }
-    ensures few { OnOk result (walk.new.spent ≤ source.now.most_cells) }
-    ensures ticks { TicksWithin source.now walk.old walk.new result }
-    ensures each { OnOk result (EntersAt source.now (place (ref_place
+    ensures few { OnOk result (walk.new.spent ≤ buffer.now.most_cells) }
+    ensures ticks { TicksWithin buffer.now walk.old walk.new result }
+    ensures each { OnOk result (EntersAt buffer.now (place (ref_place
         (table_part table.0)) at) walk.old.ticks walk.new.ticks) }
+    ensures hears { Hears V.takes_memory V.told buffer.now (Some (place (ref_place (table_part table.0)) at)) tables
+        walk.old.spent walk.old.visitor walk.new.visitor result }
+    ensures kept { IfOk result (KeepsAt V.keeps buffer.now (place (ref_place (table_part table.0)) at)) }
+    ensures open { result ≡ Err ReadFault.Memory → IsOpenBehind buffer.now table.0 at tables walk.old.spent }
 {
-    let target = follow(source.bytes, at)?;
-    visit_table(source, walk, table, target, tables)
+    let target = follow(buffer.bytes, at)?;
+    let visited = visit_table(buffer, walk, table, target, tables);
+    tell(walk, Step::Reference, &visited);
+    visited
 }
 
 #[cycle(visit)]
 #[tactic(auto, using(crate::proofs::visit_tables::VisitsOnePlaceAfterAnother::table_limits))]
-fn visit_table(
-    source: &Source,
-    walk: &mut Walk,
+fn visit_table<V: Visitor>(
+    buffer: &Buffer,
+    walk: &mut Walk<V>,
     table: TypeId,
     at: usize,
     tables: u8,
-) -> Result<(), ReadFault>
+) -> Result<V::Kept, ReadFault>
     requires low { at < 2 ^ 33 }
-    requires limits { IsWithin source.now tables walk.old }
-    ensures visit { Visits result walk.new.spent (visit_in source.now (place (part_place
+    requires limits { IsWithin buffer.now tables walk.old }
+    ensures visit { Gives V.takes_memory result walk.new.spent (visit_in buffer.now (place (part_place
         (table_part table.0)) at) tables walk.old.spent) }
-    ensures few { OnOk result (walk.new.spent ≤ source.now.most_cells) }
-    ensures ticks { TicksWithin source.now walk.old walk.new result }
-    ensures each { OnOk result (EntersAt source.now (place (part_place
+    ensures few { OnOk result (walk.new.spent ≤ buffer.now.most_cells) }
+    ensures ticks { TicksWithin buffer.now walk.old walk.new result }
+    ensures each { OnOk result (EntersAt buffer.now (place (part_place
         (table_part table.0)) at) walk.old.ticks walk.new.ticks) }
+    ensures hears { Hears V.takes_memory V.told buffer.now (Some (place (part_place (table_part table.0)) at)) tables
+        walk.old.spent walk.old.visitor walk.new.visitor result }
+    ensures kept { IfOk result (KeepsAt V.keeps buffer.now (place (part_place (table_part table.0)) at)) }
+    ensures open { result ≡ Err ReadFault.Memory → IsOpen buffer.now table.0 at tables walk.old.spent }
 {
     walk.ticks.tick();
-    let vtable_at = enter_table(source.layout, table, source.bytes, at)?;
-    if tables >= source.most_depth {
+    let vtable_at = enter_table(buffer.layout, table, buffer.bytes, at)?;
+    if tables >= buffer.most_depth {
         return Err(ReadFault::TooDeep(at as u64));
     }
-    if walk.spent >= u64::from(source.most_cells) {
+    if walk.spent >= u64::from(buffer.most_cells) {
         return Err(ReadFault::TooManyCells(at as u64));
     }
     walk.spent += 1;
-    let slots = source.layout.slots_of(table);
+    let slots = buffer.layout.slots_of(table);
     let table_at = TableAt { at, vtable_at };
-    visit_slots(source, walk, slots, table_at, tables + 1)
+    let entries = visit_slots(buffer, walk, table, slots, table_at, tables + 1)?;
+    Ok(walk.visitor.table(table, entries))
 }
 
 #[inline(always)]
 #[cycle(visit)]
-fn visit_slots(
-    source: &Source,
-    walk: &mut Walk,
+fn visit_slots<V: Visitor>(
+    buffer: &Buffer,
+    walk: &mut Walk<V>,
+    owner: TypeId,
     slots: &[FieldInfo],
     table: TableAt,
     tables: u8,
-) -> Result<(), ReadFault>
-    requires vtable { HasVtable source.now.bytes.now table }
+) -> Result<V::KeptEntries, ReadFault>
+    requires vtable { HasVtable buffer.now.bytes.now table }
     requires slots { length slots.now < 2 ^ 15 }
-    requires limits { IsWithin source.now tables walk.old }
-    ensures visit { Visits result walk.new.spent (visit_each_in source.now
-        (named_slots source.now.layout.now source.now.bytes.now table.at 0
-        (slots_seen source.now.layout.now slots.now)) tables walk.old.spent) }
-    ensures few { OnOk result (walk.new.spent ≤ source.now.most_cells) }
-    ensures ticks { TicksWithin source.now walk.old walk.new result }
-    ensures each { OnOk result (EntersSlots source.now (slots_seen source.now.layout.now slots.now)
-        (named_slots source.now.layout.now source.now.bytes.now table.at 0
-        (slots_seen source.now.layout.now slots.now)) walk.old.ticks walk.new.ticks) }
+    requires limits { IsWithin buffer.now tables walk.old }
+    ensures visit { Gives V.takes_memory result walk.new.spent (visit_each_in buffer.now
+        (named_slots buffer.now.layout.now buffer.now.bytes.now table.at 0
+        (slots_seen buffer.now.layout.now slots.now)) tables walk.old.spent) }
+    ensures few { OnOk result (walk.new.spent ≤ buffer.now.most_cells) }
+    ensures ticks { TicksWithin buffer.now walk.old walk.new result }
+    ensures each { OnOk result (EntersSlots buffer.now (slots_seen buffer.now.layout.now slots.now)
+        (named_slots buffer.now.layout.now buffer.now.bytes.now table.at 0
+        (slots_seen buffer.now.layout.now slots.now)) walk.old.ticks walk.new.ticks) }
+    ensures hears { HearsEach V.takes_memory V.told (λ k. Step.Slot owner k) buffer.now
+        (named_slots buffer.now.layout.now buffer.now.bytes.now table.at 0
+        (slots_seen buffer.now.layout.now slots.now)) tables walk.old.spent
+        walk.old.visitor walk.new.visitor result }
+    ensures kept { IfOk result (KeepsSlots V.has_entries buffer.now
+        (slots_seen buffer.now.layout.now slots.now)
+        (named_slots buffer.now.layout.now buffer.now.bytes.now table.at 0
+        (slots_seen buffer.now.layout.now slots.now)) (length slots.now)) }
 {
-    let present = stored_slots(source.bytes, table.at, table.vtable_at, slots.len());
+    let present = stored_slots(buffer.bytes, table.at, table.vtable_at, slots.len());
+    let mut entries = walk.visitor.no_entries(slots.len())?;
     for slot in 0..present {
         let field = &slots[slot];
-        if is_settled(source, field, table, slot) {
+        if is_passed_by(buffer, &walk.visitor, field, table, slot) {
             continue;
         }
         let (_before, later) = slots.split_at(slot + 1);
-        visit_slot(source, walk, field, later, table, slot, tables)?;
+        let visited = visit_slot(buffer, walk, field, later, table, slot, tables);
+        tell(walk, Step::Slot(owner, slot as u16), &visited);
+        add_entry(&walk.visitor, &mut entries, visited?)?;
     }
-    Ok(())
+    let (_present, absent) = slots.split_at(present);
+    add_defaults(&walk.visitor, &mut entries, buffer.layout, absent)?;
+    Ok(entries)
 }
 
 // Visits what a slot names that the vtable reaches to.
 #[inline(always)]
 #[cycle(visit)]
-fn visit_slot(
-    source: &Source,
-    walk: &mut Walk,
+fn visit_slot<V: Visitor>(
+    buffer: &Buffer,
+    walk: &mut Walk<V>,
     field: &FieldInfo,
     later: &[FieldInfo],
     table: TableAt,
     slot: usize,
     tables: u8,
-) -> Result<(), ReadFault>
-    requires vtable { HasVtable source.now.bytes.now table }
-    requires held { 6 + 2 * slot ≤ num source.now.bytes.now table.vtable_at 2 }
+) -> Result<Option<V::Kept>, ReadFault>
+    requires vtable { HasVtable buffer.now.bytes.now table }
+    requires held { 6 + 2 * slot ≤ num buffer.now.bytes.now table.vtable_at 2 }
     requires slots { slot < 2 ^ 15 }
-    requires limits { IsWithin source.now tables walk.old }
-    ensures visit { Visits result walk.new.spent (visit_entry_in source.now (slot_place source.now.layout.now
-        source.now.bytes.now table.at slot (slots_seen source.now.layout.now later.now)
-        (slot_seen source.now.layout.now field.now)) tables walk.old.spent) }
-    ensures few { OnOk result (walk.new.spent ≤ source.now.most_cells) }
-    ensures ticks { TicksWithin source.now walk.old walk.new result }
-    ensures each { OnOk result (EntersSlot source.now (slot_place source.now.layout.now
-        source.now.bytes.now table.at slot (slots_seen source.now.layout.now later.now)
-        (slot_seen source.now.layout.now field.now)) walk.old.ticks walk.new.ticks) }
+    requires limits { IsWithin buffer.now tables walk.old }
+    ensures visit { Gives V.takes_memory result walk.new.spent (visit_entry_in buffer.now (slot_place
+        buffer.now.layout.now buffer.now.bytes.now table.at slot (slots_seen buffer.now.layout.now later.now)
+        (slot_seen buffer.now.layout.now field.now)) tables walk.old.spent) }
+    ensures few { OnOk result (walk.new.spent ≤ buffer.now.most_cells) }
+    ensures ticks { TicksWithin buffer.now walk.old walk.new result }
+    ensures each { OnOk result (EntersSlot buffer.now (slot_place buffer.now.layout.now
+        buffer.now.bytes.now table.at slot (slots_seen buffer.now.layout.now later.now)
+        (slot_seen buffer.now.layout.now field.now)) walk.old.ticks walk.new.ticks) }
+    ensures hears { Hears V.takes_memory V.told buffer.now (slot_place buffer.now.layout.now buffer.now.bytes.now
+        table.at slot (slots_seen buffer.now.layout.now later.now) (slot_seen buffer.now.layout.now field.now))
+        tables walk.old.spent walk.old.visitor walk.new.visitor result }
+    ensures kept { IfOk result (KeepsInSlot V.keeps buffer.now (slot_seen buffer.now.layout.now field.now)
+        (slot_place buffer.now.layout.now buffer.now.bytes.now table.at slot
+        (slots_seen buffer.now.layout.now later.now) (slot_seen buffer.now.layout.now field.now))) }
 {
     if field.deprecated {
-        return Ok(());
+        return Ok(None);
     }
-    let offset = held_slot(source.bytes, table.at, table.vtable_at, slot);
+    let offset = held_slot(buffer.bytes, table.at, table.vtable_at, slot);
     if offset == 0 {
-        return Ok(());
+        return Ok(default_kept(&walk.visitor, buffer.layout, field));
     }
     let found = table.at + offset;
     match field.shape {
-        Shape::Many(kind) => visit_vector_behind(source, walk, kind, found, tables),
-        Shape::One(Kind::Text) => visit_text_behind(source, walk, found),
-        Shape::One(Kind::Table(type_id)) => visit_table_behind(
-            source, walk, type_id, found, tables,
-        ),
+        Shape::Many(kind) => Ok(Some(visit_vector_behind(buffer, walk, kind, found, tables)?)),
+        Shape::One(Kind::Text) => Ok(Some(visit_text_behind(buffer, walk, found)?)),
+        Shape::One(Kind::Table(type_id)) => Ok(Some(visit_table_behind(
+            buffer, walk, type_id, found, tables,
+        )?)),
         Shape::One(Kind::Union(union)) => {
-            let code = union_code(source.bytes, table.at, table.vtable_at, slot);
-            visit_union(source, walk, union, code, found, tables)
+            let code = union_code(buffer.bytes, table.at, table.vtable_at, slot);
+            visit_union(buffer, walk, union, code, found, tables)
         }
-        Shape::One(Kind::Code(_)) => visit_code(source, later, table, slot, found),
-        Shape::One(Kind::Scalar(base)) => visit_inline(source, Kind::Scalar(base), found),
-        Shape::One(Kind::Enum(values)) => visit_inline(source, Kind::Enum(values), found),
-        Shape::One(Kind::Struct(structure)) => visit_inline(source, Kind::Struct(structure), found),
+        Shape::One(Kind::Code(_)) => {
+            visit_code(buffer, later, table, slot, found)?;
+            Ok(None)
+        }
+        Shape::One(Kind::Scalar(base)) => {
+            visit_inline(buffer, &walk.visitor, Kind::Scalar(base), found)
+        }
+        Shape::One(Kind::Enum(values)) => {
+            visit_inline(buffer, &walk.visitor, Kind::Enum(values), found)
+        }
+        Shape::One(Kind::Struct(structure)) => {
+            visit_inline(buffer, &walk.visitor, Kind::Struct(structure), found)
+        }
     }
 }
 
 // Visits a union's value under a code.
 #[inline(always)]
 #[cycle(visit)]
-fn visit_union(
-    source: &Source,
-    walk: &mut Walk,
+fn visit_union<V: Visitor>(
+    buffer: &Buffer,
+    walk: &mut Walk<V>,
     union: TypeId,
     code: u8,
     at: usize,
     tables: u8,
-) -> Result<(), ReadFault>
+) -> Result<Option<V::Kept>, ReadFault>
     requires low { at < 2 ^ 33 }
-    requires limits { IsWithin source.now tables walk.old }
-    ensures visit { Visits result walk.new.spent (visit_entry_in source.now (union_place code at
-        (member_by_code source.now.layout.now union.0 code)) tables walk.old.spent) }
-    ensures few { OnOk result (walk.new.spent ≤ source.now.most_cells) }
-    ensures ticks { TicksWithin source.now walk.old walk.new result }
-    ensures each { OnOk result (EntersSlot source.now (union_place code at
-        (member_by_code source.now.layout.now union.0 code)) walk.old.ticks walk.new.ticks) }
+    requires limits { IsWithin buffer.now tables walk.old }
+    ensures visit { Gives V.takes_memory result walk.new.spent (visit_entry_in buffer.now (union_place code at
+        (member_by_code buffer.now.layout.now union.0 code)) tables walk.old.spent) }
+    ensures few { OnOk result (walk.new.spent ≤ buffer.now.most_cells) }
+    ensures ticks { TicksWithin buffer.now walk.old walk.new result }
+    ensures each { OnOk result (EntersSlot buffer.now (union_place code at
+        (member_by_code buffer.now.layout.now union.0 code)) walk.old.ticks walk.new.ticks) }
+    ensures hears { Hears V.takes_memory V.told buffer.now (union_place code at
+        (member_by_code buffer.now.layout.now union.0 code)) tables walk.old.spent
+        walk.old.visitor walk.new.visitor result }
+    ensures kept { IfOk result (λ kept. (f : Slot) → f.if_absent ≡ None → KeepsInSlot V.keeps buffer.now f
+        (union_place code at (member_by_code buffer.now.layout.now union.0 code)) kept) }
 {
-    match source.layout.schema().member_by_code(union, code) {
-        Some(table) => visit_table_behind(source, walk, table, at, tables),
-        None => Ok(()),
+    match buffer.layout.schema().member_by_code(union, code) {
+        Some(table) => {
+            let behind = visit_table_behind(buffer, walk, table, at, tables)?;
+            Ok(Some(walk.visitor.member(code, behind)?))
+        }
+        None if code == 0 => Ok(None),
+        None => Ok(Some(walk.visitor.unknown(code))),
     }
 }
 
 #[inline(always)]
 #[cycle(visit)]
 #[tactic(auto, using(crate::proofs::visit_tables::VisitsOnePlaceAfterAnother::visit_ref))]
-pub fn visit_vector_behind(
-    source: &Source,
-    walk: &mut Walk,
+pub fn visit_vector_behind<V: Visitor>(
+    buffer: &Buffer,
+    walk: &mut Walk<V>,
     kind: Kind,
     at: usize,
     tables: u8,
-) -> Result<(), ReadFault>
+) -> Result<V::Kept, ReadFault>
     requires low { at < 2 ^ 33 }
-    requires limits { IsWithin source.now tables walk.old }
-    ensures visit { Visits result walk.new.spent (visit_in source.now (place (ref_place (vector_part
-        (stored_kind source.now.layout.now.schema kind))) at) tables walk.old.spent) }
-    ensures few { OnOk result (walk.new.spent ≤ source.now.most_cells) }
-    ensures ticks { TicksWithin source.now walk.old walk.new result }
-    ensures each { OnOk result (EntersAt source.now (place (ref_place (vector_part
-        (stored_kind source.now.layout.now.schema kind))) at) walk.old.ticks walk.new.ticks) }
+    requires limits { IsWithin buffer.now tables walk.old }
+    ensures visit { Gives V.takes_memory result walk.new.spent (visit_in buffer.now (place (ref_place (vector_part
+        (stored_kind buffer.now.layout.now.schema kind))) at) tables walk.old.spent) }
+    ensures few { OnOk result (walk.new.spent ≤ buffer.now.most_cells) }
+    ensures ticks { TicksWithin buffer.now walk.old walk.new result }
+    ensures each { OnOk result (EntersAt buffer.now (place (ref_place (vector_part
+        (stored_kind buffer.now.layout.now.schema kind))) at) walk.old.ticks walk.new.ticks) }
+    ensures hears { Hears V.takes_memory V.told buffer.now (Some (place (ref_place (vector_part
+        (stored_kind buffer.now.layout.now.schema kind))) at)) tables walk.old.spent
+        walk.old.visitor walk.new.visitor result }
+    ensures kept { IfOk result (KeepsAt V.keeps buffer.now (place (ref_place (vector_part
+        (stored_kind buffer.now.layout.now.schema kind))) at)) }
 {
-    let target = follow(source.bytes, at)?;
-    visit_vector(source, walk, kind, target, tables)
+    let target = follow(buffer.bytes, at)?;
+    let visited = visit_vector(buffer, walk, kind, target, tables);
+    tell(walk, Step::Reference, &visited);
+    visited
 }
 
 #[inline(always)]
 #[cycle(visit)]
 #[tactic(auto, using(crate::proofs::visit_tables::VisitsOnePlaceAfterAnother::visit_vector_over))]
-fn visit_vector(
-    source: &Source,
-    walk: &mut Walk,
+fn visit_vector<V: Visitor>(
+    buffer: &Buffer,
+    walk: &mut Walk<V>,
     kind: Kind,
     at: usize,
     tables: u8,
-) -> Result<(), ReadFault>
+) -> Result<V::Kept, ReadFault>
     requires low { at < 2 ^ 33 }
-    requires limits { IsWithin source.now tables walk.old }
-    ensures visit { Visits result walk.new.spent (visit_in source.now (place (part_place (vector_part
-        (stored_kind source.now.layout.now.schema kind))) at) tables walk.old.spent) }
-    ensures few { OnOk result (walk.new.spent ≤ source.now.most_cells) }
-    ensures ticks { TicksWithin source.now walk.old walk.new result }
-    ensures each { OnOk result (EntersAt source.now (place (part_place (vector_part
-        (stored_kind source.now.layout.now.schema kind))) at) walk.old.ticks walk.new.ticks) }
+    requires limits { IsWithin buffer.now tables walk.old }
+    ensures visit { Gives V.takes_memory result walk.new.spent (visit_in buffer.now (place (part_place (vector_part
+        (stored_kind buffer.now.layout.now.schema kind))) at) tables walk.old.spent) }
+    ensures few { OnOk result (walk.new.spent ≤ buffer.now.most_cells) }
+    ensures ticks { TicksWithin buffer.now walk.old walk.new result }
+    ensures each { OnOk result (EntersAt buffer.now (place (part_place (vector_part
+        (stored_kind buffer.now.layout.now.schema kind))) at) walk.old.ticks walk.new.ticks) }
+    ensures hears { Hears V.takes_memory V.told buffer.now (Some (place (part_place (vector_part
+        (stored_kind buffer.now.layout.now.schema kind))) at)) tables walk.old.spent
+        walk.old.visitor walk.new.visitor result }
+    ensures kept { IfOk result (KeepsAt V.keeps buffer.now (place (part_place (vector_part
+        (stored_kind buffer.now.layout.now.schema kind))) at)) }
 {
     walk.ticks.tick();
-    let size = source.layout.size_of(kind);
-    let count = open_vector(source.bytes, at, size, source.layout.align_of(kind))?;
-    let most = u64::from(source.most_cells);
+    let size = buffer.layout.size_of(kind);
+    let count = open_vector(buffer.bytes, at, size, buffer.layout.align_of(kind))?;
+    let most = u64::from(buffer.most_cells);
     let after = walk.spent + (1 + u64::from(count));
     if after > most {
         return Err(ReadFault::TooManyCells(at as u64));
@@ -240,10 +309,10 @@ fn visit_vector(
     walk.spent = after;
     let first = at + 4;
     match kind {
-        Kind::Text => visit_elements(source, walk, Reference::ToText, first, count, tables),
+        Kind::Text => visit_elements(buffer, walk, Reference::ToText, first, count, tables),
         Kind::Table(table) => {
             visit_elements(
-                source,
+                buffer,
                 walk,
                 Reference::ToTable(table),
                 first,
@@ -251,58 +320,73 @@ fn visit_vector(
                 tables,
             )
         }
-        Kind::Scalar(_) | Kind::Enum(_) | Kind::Struct(_) | Kind::Union(_) | Kind::Code(_) => Ok(
-            (),
-        ),
+        Kind::Scalar(_) | Kind::Enum(_) | Kind::Struct(_) | Kind::Union(_) | Kind::Code(_) => {
+            let bytes = buffer.bytes;
+            Ok(
+                walk.visitor
+                    .inlines(buffer.layout, bytes, kind, first, count)?,
+            )
+        }
     }
 }
 
 // Visits what the references from a position on lead to.
 #[inline(never)]
 #[cycle(visit)]
-fn visit_elements(
-    source: &Source,
-    walk: &mut Walk,
+fn visit_elements<V: Visitor>(
+    buffer: &Buffer,
+    walk: &mut Walk<V>,
     reference: Reference,
     at: usize,
     count: u32,
     tables: u8,
-) -> Result<(), ReadFault>
-    requires within { at + count * 4 ≤ length source.now.bytes.now }
-    requires limits { IsWithin source.now tables walk.old }
-    ensures visit { Visits result walk.new.spent (visit_each_in source.now
+) -> Result<V::Kept, ReadFault>
+    requires within { at + count * 4 ≤ length buffer.now.bytes.now }
+    requires limits { IsWithin buffer.now tables walk.old }
+    ensures visit { Gives V.takes_memory result walk.new.spent (visit_each_in buffer.now
         (named_elements (led_to reference) at count) tables walk.old.spent) }
-    ensures few { OnOk result (walk.new.spent ≤ source.now.most_cells) }
-    ensures ticks { TicksWithin source.now walk.old walk.new result }
+    ensures few { OnOk result (walk.new.spent ≤ buffer.now.most_cells) }
+    ensures ticks { TicksWithin buffer.now walk.old walk.new result }
     ensures each { (kind : StoredKind) → target_of kind ≡ Some (led_to reference)
-        → OnOk result (EntersItems source.now kind at count walk.old.ticks walk.new.ticks) }
+        → OnOk result (EntersItems buffer.now kind at count walk.old.ticks walk.new.ticks) }
+    ensures hears { HearsEach V.takes_memory V.told (λ i. Step.Element i) buffer.now
+        (named_elements (led_to reference) at count) tables walk.old.spent
+        walk.old.visitor walk.new.visitor result }
+    ensures kept { IfOk result (λ kept. (kind : StoredKind) → target_of kind ≡ Some (led_to reference)
+        → KeepsItems V.keeps buffer.now.layout.now buffer.now.bytes.now kind at count kept) }
 {
+    let mut elements = walk.visitor.no_elements(count)?;
     for i in 0..count {
-        visit_behind(source, walk, reference, at + 4 * i as usize, tables)?;
+        let visited = visit_behind(buffer, walk, reference, at + 4 * i as usize, tables);
+        tell(walk, Step::Element(i), &visited);
+        walk.visitor.add_element(&mut elements, visited?)?;
     }
-    Ok(())
+    Ok(walk.visitor.vector(elements))
 }
 
 #[inline(always)]
 #[cycle(visit)]
-fn visit_behind(
-    source: &Source,
-    walk: &mut Walk,
+fn visit_behind<V: Visitor>(
+    buffer: &Buffer,
+    walk: &mut Walk<V>,
     reference: Reference,
     at: usize,
     tables: u8,
-) -> Result<(), ReadFault>
+) -> Result<V::Kept, ReadFault>
     requires low { at < 2 ^ 33 }
-    requires limits { IsWithin source.now tables walk.old }
-    ensures visit { Visits result walk.new.spent (visit_in source.now (place
+    requires limits { IsWithin buffer.now tables walk.old }
+    ensures visit { Gives V.takes_memory result walk.new.spent (visit_in buffer.now (place
         (ref_place (led_to reference)) at) tables walk.old.spent) }
-    ensures few { OnOk result (walk.new.spent ≤ source.now.most_cells) }
-    ensures ticks { TicksWithin source.now walk.old walk.new result }
-    ensures each { OnOk result (EntersAt source.now (place
+    ensures few { OnOk result (walk.new.spent ≤ buffer.now.most_cells) }
+    ensures ticks { TicksWithin buffer.now walk.old walk.new result }
+    ensures each { OnOk result (EntersAt buffer.now (place
         (ref_place (led_to reference)) at) walk.old.ticks walk.new.ticks) }
+    ensures hears { Hears V.takes_memory V.told buffer.now (Some (place (ref_place (led_to reference)) at)) tables
+        walk.old.spent walk.old.visitor walk.new.visitor result }
+    ensures kept { IfOk result (KeepsAt V.keeps buffer.now (place (ref_place (led_to reference)) at)) }
 {
     match reference {
-        Reference::ToText => visit_text_behind(source, walk, at),
-        Reference::ToTable(table) => visit_table_behind(source, walk, table, at, tables),
+        Reference::ToText => visit_text_behind(buffer, walk, at),
+        Reference::ToTable(table) => visit_table_behind(buffer, walk, table, at, tables),
     }
 }

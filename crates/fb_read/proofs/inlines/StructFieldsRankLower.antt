@@ -14,8 +14,8 @@ use Rattle.fb_value.specs.declared.values.Value.{Value}
 use Rattle.fb_value.proofs.types.StoredKindsAreResolved.{LowerParts, resolved}
 use Rattle.fb_value.proofs.held.EachPartLiesInItsPlace.{parts_long}
 use Rattle.fb_read.proofs.items.PartsLieInTheirPlaces.{field_kind, kind_there, kinds_long}
-use Rattle.fb_read.specs.Tails.{parts_from}
-use Rattle.fb_read.proofs.read_tables.OneValueMore.{parts_before, parts_whole}
+use Rattle.fb_read.specs.Tails.{parts_from, parts_before}
+use Rattle.fb_read.proofs.values.OneValueMore.{parts_whole, parts_end}
 
 -- Structs rank above those that stand in them.
 abbrev pub rank : StoredKind → ℕ
@@ -49,8 +49,8 @@ module _ (L : LaidSchema) (made : IsWellMade L) (s : ℕ) (xs : List FieldInfo) 
       → parts_before vs (parts_from i ds) ≡ ds) → i ≡ length xs → LiesInline L b (struct_kind s) p d
       → a_struct (parts_view vs) ≡ d
   fields_whole b p i vs (a_struct ds) before end lies =
-      ap (λ (x : Parts). a_struct x) (parts_whole vs i ds (before ds lies) (end
-      ∙ sym (parts_long L b (parts_of L s) (struct_at L s).offsets p ds lies ∙ kinds_count)))
+      ap (λ (x : Parts). a_struct x) (parts_whole vs i ds (before ds lies) (parts_end i ds (end
+      ∙ sym (parts_long L b (parts_of L s) (struct_at L s).offsets p ds lies ∙ kinds_count))))
   fields_whole b p i vs _ before end lies = absurd lies
 
 -- what was found is what lies there

@@ -1,6 +1,6 @@
 -- What the fields of a struct and the elements of a vector are.
 use Rattle.std.proofs.Common.{◌≡◌, ℕ, zero, suc, ◌+◌, ◌*◌, ◌<◌, ◌≤◌, true, false, List, [], ◌∷◌, length, map, slice_get}
-use Rattle.std.proofs.Common.{slice_index, slice_index_or, Option, None, Some, IsTrue, refl, sym, ap, subst, mul_comm}
+use Rattle.std.proofs.Common.{slice_index, slice_index_or, Option, None, Some, IsTrue, refl, sym, ap, mul_comm}
 use Rattle.std.proofs.Common.{arith}
 use Rattle.std.proofs.lemmas.Bool.{leb-true}
 use Rattle.fb_schema.specs.declared.kinds.Base.{Base}
@@ -110,7 +110,7 @@ offset_there L p (x ∷ ks) (o ∷ os) end zero kind stand e =
     let is : x ≡ kind = cc in
     let rest = order_rises L (o + size_of L x) ks os end stand.1 in (
       refl,
-      subst (λ (y : StoredKind). o + size_of L y ≤ end) is rest,
+      rw is at rest,
       let low = stand.0.above in
           omega (arith, low, rest),
     )

@@ -1,6 +1,6 @@
 -- What a reading of the root table says of the whole buffer.
 use Rattle.std.proofs.Common.{◌≡◌, ℕ, ◌≢◌, ◌+◌, ◌<◌, ◌≤◌, [], ◌∷◌, Bool, true, nat_le, All, None, Some, Result, Ok, Err}
-use Rattle.std.proofs.Common.{IfOk, IfErr, refl, arith, inl, inr}
+use Rattle.std.proofs.Common.{IfOk, IfErr, OnOk, refl, arith, inl, inr}
 use Rattle.std.proofs.lemmas.Bool.{le-leb}
 use Rattle.fb_layout.specs.Laid.{LaidSchema}
 use Rattle.fb_layout.specs.WellMade.{IsWellMade}
@@ -17,7 +17,7 @@ use Rattle.fb_value.specs.Holds.{Holds, RootKeeps, Refuses, header_fault, checke
 use Rattle.fb_value.specs.declared.faults.ReadFault.TheVariants.{Memory}
 use Rattle.fb_value.specs.declared.values.Value.{Value}
 use Rattle.fb_value.specs.View.{view}
-use Rattle.fb_value.specs.Counts.{depth, nesting}
+use Rattle.fb_value.specs.Counts.{depth, entered, nesting}
 use Rattle.fb_value.specs.Fits.{FitsRoot}
 use Rattle.fb_value.proofs.held.HeldValueFitsTheRoot.{fits_where_held_shown}
 use Rattle.fb_value.proofs.types.NestingIsBoundedByDepth.{nesting_of_depth_shown}
@@ -37,7 +37,7 @@ module _ (L : LaidSchema) (most : Bounds) (raw : Bool) (b : Bytes) where
 
   -- the same of an answer
   pub answer_held : IsWellMade L → (r : Result Value ReadFault) (n : ℕ)
-      → header_fault b (checked_identifier L raw) ≡ None → Gives r n (visit L b most (root_place L) 0 0)
+      → header_fault b (checked_identifier L raw) ≡ None → Gives (Unit {0}) r n (visit L b most (root_place L) 0 0)
       → IfOk r (λ v. (d : Datum) → LiesAt L b (ref_place (table_part L.schema.root)) 0 d → view v ≡ d)
       → IfOk r (λ v. Holds L most raw b (view v))
   answer_held made (Ok v) n header fine known = value_held made n (view v) header fine known
@@ -48,6 +48,15 @@ module _ (L : LaidSchema) (most : Bounds) (raw : Bool) (b : Bytes) where
       → IfOk r (λ v. Holds L most raw b (view v)) → IfOk r (λ v. FitsRoot L (view v))
   answer_fits made small (Ok v) held = fits_where_held_shown L most raw b (view v) made small held
   answer_fits made small (Err f) held = tt
+
+  -- What was counted are its tables, vectors and texts.
+  pub answer_entered : (r : Result Value ReadFault) (start ticks old new : ℕ) → start ≡ 0 → new ≡ old + ticks
+      → IfOk r (λ v. Holds L most raw b (view v))
+      → OnOk r ((d : Datum) → LiesAt L b (ref_place (table_part L.schema.root)) 0 d → ticks ≡ start + entered d)
+      → IfOk r (λ v. new ≡ old + entered (view v))
+  answer_entered (Ok v) start ticks old new none is held each = let all = each (view v) held.lies in
+      omega (arith, none, is, all)
+  answer_entered (Err f) start ticks old new none is held each = tt
 
   -- It is as deep as the limits allow, and so is nested at most 300 deep.
   pub answer_deep : most.depth ≤ 127 → (r : Result Value ReadFault) → IfOk r (λ v. Holds L most raw b (view v))
@@ -62,10 +71,11 @@ module _ (L : LaidSchema) (most : Bounds) (raw : Bool) (b : Bytes) where
 
   -- A refusal is the least fault, unless memory ran out.
   pub answer_refused : IsWellMade L → (r : Result Value ReadFault) (n : ℕ)
-      → header_fault b (checked_identifier L raw) ≡ None → Gives r n (visit L b most (root_place L) 0 0)
+      → header_fault b (checked_identifier L raw) ≡ None → Gives (Unit {0}) r n (visit L b most (root_place L) 0 0)
       → IfErr r (λ f. f ≢ Memory → Refuses L most raw b f)
   answer_refused made (Ok v) n header given = tt
-  answer_refused made (Err f) n header given = λ other. refused_root L most raw b made f header (given other)
+  answer_refused made (Err f) n header given = λ other. refused_root L most raw b made f header
+      (given (λ takes. other))
 
   ref_passes : Keeps L b (root_place L).sort 0 → (tables cells : ℕ)
       → limited_fault L b most (root_place L) tables cells ≡ None

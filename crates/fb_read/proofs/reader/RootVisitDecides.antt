@@ -9,7 +9,8 @@ use Rattle.fb_value.specs.Num.{Bytes, num}
 use Rattle.fb_value.specs.Lies.{Lies}
 use Rattle.fb_value.specs.Places.{part_place, table_part}
 use Rattle.fb_value.specs.Faults.{fault_from}
-use Rattle.fb_value.specs.Holds.{Holds, Refuses, header_fault, checked_identifier, root_place}
+use Rattle.fb_value.proofs.rules.ComputedFaultIsTheLeast.{from_none}
+use Rattle.fb_value.specs.Holds.{Holds, HasNoFault, Refuses, header_fault, checked_identifier, root_place}
 use Rattle.fb_value.proofs.held.BytesHoldAValueOrAFault.{outcome_shown}
 use Rattle.fb_read.specs.Visits.{outcome, visit}
 
@@ -44,3 +45,11 @@ module _ (L : LaidSchema) (most : Bounds) (raw : Bool) (b : Bytes) (made : IsWel
       let held = held_root n header fine in
       let here : 0 + num b 0 4 ≡ num b 0 4 = omega arith in
       (held.0, rw (root, place) (rw here at held.1.lies.1))
+
+module _ (L : LaidSchema) (most : Bounds) (raw : Bool) (b : Bytes) where
+  -- no fault behind a header that keeps its rules
+  pub no_fault : (n : ℕ) → header_fault b (checked_identifier L raw) ≡ None → visit L b most (root_place L) 0 0 ≡ Ok n
+      → HasNoFault L most raw b
+  unfolding visit
+  no_fault n header fine =
+      (header, from_none L b most (root_place L) 0 0 (ok_told (fault_from L b most (root_place L) 0 0) _ n fine))

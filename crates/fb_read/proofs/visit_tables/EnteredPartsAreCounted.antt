@@ -109,7 +109,7 @@ entries_step (suc k) (present_entry d es) = let one : suc k + 1 ≡ suc (k + 1) 
     rw one (entries_step k es)
 
 -- what lies from slot k on
-lies_from : (L : LaidSchema) (b : Bytes) (p j k : ℕ) (fs : List Slot) (es : SlotEntries)
+pub lies_from : (L : LaidSchema) (b : Bytes) (p j k : ℕ) (fs : List Slot) (es : SlotEntries)
     → LiesSlots L b fs (named_slots L b p j fs) es → LiesSlots L b (drop k fs) (named_slots L b p (j + k) (drop k fs))
     (entries_from k es)
 unfolding named_slots

@@ -1,22 +1,21 @@
 -- A visit of several places is one of each, place after place.
-use Rattle.std.proofs.Common.{◌==◌, ◌≡◌, ℕ, suc, ◌+◌, ◌-◌, ◌*◌, ◌<◌, ◌≤◌, List, [], ◌∷◌, Bool, true, false, Option}
+use Rattle.std.proofs.Common.{◌==◌, ◌≡◌, ℕ, ◌+◌, ◌<◌, ◌≤◌, List, [], ◌∷◌, Bool, true, false, Option}
 use Rattle.std.proofs.Common.{None, Some, Result, Ok, Err, nat_le, cond, refl, sym, ap, ◌∙◌, arith, add-zero, add_assoc}
 use Rattle.std.proofs.lemmas.Bool.{le-leb}
 use Rattle.std.proofs.lemmas.Bool.Decides.{nat_tests}
-use Rattle.fb_layout.specs.Laid.{LaidSchema, Slot, StoredKind, slots_of}
+use Rattle.fb_layout.specs.Laid.{LaidSchema, StoredKind, slots_of}
 use Rattle.fb_value.specs.declared.faults.ReadFault.{ReadFault}
 use Rattle.fb_value.specs.declared.faults.ReadFault.TheVariants.{TooDeep, TooManyCells}
 use Rattle.fb_value.specs.Bounds.{Bounds}
 use Rattle.fb_value.specs.Num.{Bytes, num}
 use Rattle.fb_value.specs.Places.{Target, table_part, member_part, text_part, vector_part, ref_place, part_place}
-use Rattle.fb_value.specs.Places.{inline_place, code_place, unknown_place, Place, named, named_slots, named_elements}
+use Rattle.fb_value.specs.Places.{inline_place, code_place, unknown_place, Place, named, named_slots}
 use Rattle.fb_value.specs.Places.{target_of, named_vector}
 use Rattle.fb_value.specs.Rules.{Keeps, fault_at, fault_by, first_failing}
 use Rattle.fb_value.specs.Faults.{own_cells, own_tables, sum_over, all, or_else, limit_rules, limited_fault}
 use Rattle.fb_value.specs.Faults.{first_among, fault_from}
 use Rattle.fb_value.proofs.rules.ComputedFaultIsTheLeast.{all_is}
 use Rattle.fb_value.proofs.rules.FaultOfAPlaceByOneStep.{fault_from_is}
-use Rattle.fb_value.specs.Nth.{slot_place}
 use Rattle.fb_read.specs.Visits.{outcome, visit, visit_each, visit_entry, union_place}
 
 module _ (L : LaidSchema) (b : Bytes) (most : Bounds) where
@@ -138,7 +137,8 @@ module _ (L : LaidSchema) (b : Bytes) (most : Bounds) where
 
   -- ---- limits
 
-  pub small_yes : (p cells : ℕ) → cells ≤ most.cells → first_failing ((TooManyCells p, nat_le cells most.cells) ∷ []) ≡ None
+  pub small_yes : (p cells : ℕ) → cells ≤ most.cells → first_failing ((TooManyCells p, nat_le cells most.cells) ∷ [])
+      ≡ None
   unfolding first_failing
   small_yes p cells h = let yes : nat_le cells most.cells ≡ true = le-leb _ _ h in rw yes refl
 
@@ -222,7 +222,11 @@ module _ (L : LaidSchema) (b : Bytes) (most : Bounds) where
 
   -- ---- a member is visited at as its table
 
-  pub member_fault : (c t p tables spent : ℕ) → fault_from L b most (record { sort = part_place (member_part c t); at = p })
+  pub member_fault : (c t p tables spent : ℕ) → fault_from L b most (record {
+    sort = part_place (member_part c t);
+    at
+        = p;
+  })
       tables spent ≡ fault_from L b most (record { sort = part_place (table_part t); at = p }) tables spent
   unfolding limited_fault fault_by
   member_fault c t p tables spent = fault_from_is L b most (record { sort = part_place (member_part c t); at = p })
@@ -246,58 +250,6 @@ module _ (L : LaidSchema) (b : Bytes) (most : Bounds) where
         member_fault c t (p + num b p 4) (tables + 0) (spent + 0),
         member_all c t (p + num b p 4),
       ) refl
-
-  -- ---- slots, one after another
-
-  pub slots_step : (p k : ℕ) (f : Slot) (fs : List Slot) (tables spent after : ℕ)
-      → visit_entry L b most (slot_place L b p k fs f) tables spent ≡ Ok after
-      → visit_each L b most (named_slots L b p k (f ∷ fs)) tables spent
-      ≡ visit_each L b most (named_slots L b p (suc k) fs) tables after
-  unfolding named_slots
-  slots_step p k f fs tables spent after e = each_step (slot_place L b p k fs f) (named_slots L b p (suc k) fs) tables
-      spent after e
-
-  pub slots_stop : (p k : ℕ) (f : Slot) (fs : List Slot) (tables spent : ℕ) (fault : ReadFault)
-      → visit_entry L b most (slot_place L b p k fs f) tables spent ≡ Err fault
-      → visit_each L b most (named_slots L b p k (f ∷ fs)) tables spent ≡ Err fault
-  unfolding named_slots
-  slots_stop p k f fs tables spent fault e = each_stop (slot_place L b p k fs f) (named_slots L b p (suc k) fs) tables
-      spent fault e
-
-  pub slots_end : (p k tables spent : ℕ) → visit_each L b most (named_slots L b p k []) tables spent ≡ Ok spent
-  unfolding named_slots
-  slots_end p k tables spent = each_nil tables spent
-
-  -- ---- elements, one after another
-
-  -- the element i, and those behind it
-  elements_at : (X : Target) (p i n : ℕ) → i < n → named_elements X (p + 4 * i) (n - i)
-      ≡ Some (record { sort = ref_place X; at = p + 4 * i }) ∷ named_elements X (p + 4 * (i + 1)) (n - (i + 1))
-  unfolding named_elements
-  elements_at X p i n less =
-      let one : n - i ≡ suc (n - (i + 1)) = omega arith in
-      let next : p + 4 * i + 4 ≡ p + 4 * (i + 1) = omega arith in
-      rw (one, ← next) refl
-
-  pub elements_step : (X : Target) (p i n tables spent after : ℕ) → i < n
-      → visit L b most (record { sort = ref_place X; at = p + 4 * i }) tables spent ≡ Ok after
-      → visit_each L b most (named_elements X (p + 4 * i) (n - i)) tables spent
-      ≡ visit_each L b most (named_elements X (p + 4 * (i + 1)) (n - (i + 1))) tables after
-  elements_step X p i n tables spent after less e = rw (elements_at X p i n less)
-      (each_step (Some (record { sort = ref_place X; at = p + 4 * i }))
-      (named_elements X (p + 4 * (i + 1)) (n - (i + 1))) tables spent after e)
-
-  pub elements_stop : (X : Target) (p i n tables spent : ℕ) (fault : ReadFault) → i < n
-      → visit L b most (record { sort = ref_place X; at = p + 4 * i }) tables spent ≡ Err fault
-      → visit_each L b most (named_elements X (p + 4 * i) (n - i)) tables spent ≡ Err fault
-  elements_stop X p i n tables spent fault less e = rw (elements_at X p i n less)
-      (each_stop (Some (record { sort = ref_place X; at = p + 4 * i }))
-      (named_elements X (p + 4 * (i + 1)) (n - (i + 1))) tables spent fault e)
-
-  pub elements_end : (X : Target) (p i n tables spent : ℕ) → i ≡ n
-      → visit_each L b most (named_elements X (p + 4 * i) (n - i)) tables spent ≡ Ok spent
-  unfolding named_elements
-  elements_end X p i n tables spent same = let none : n - i ≡ 0 = omega arith in rw none (each_nil tables spent)
 
   pub no_references : (p : ℕ) (tables spent : ℕ) → visit_each L b most (named_vector b p None) tables spent ≡ Ok spent
   no_references p tables spent = each_nil tables spent

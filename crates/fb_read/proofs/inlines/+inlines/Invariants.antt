@@ -1,11 +1,8 @@
 use Rattle.std.proofs.Common.{◌≡◌, ◌+◌, ◌*◌}
 use Rattle.fb_layout.specs.Laid.{stored_kind, parts_of, struct_at}
 use Rattle.fb_value.specs.Datum.{Parts}
-use Rattle.fb_value.specs.Counts.{parts_entered}
 use Rattle.fb_value.specs.Lies.{LiesParts}
-use Rattle.fb_value.specs.View.{parts_view}
-use Rattle.fb_read.specs.Tails.{parts_from}
-use Rattle.fb_read.proofs.read_tables.OneValueMore.{parts_before}
+use Rattle.fb_read.specs.Tails.{parts_from, parts_before}
 use Rattle.fb_read.proofs.inlines.StructFieldsRankLower.{rank}
 use Rattle.fb_read.proofs.inlines.+inlines.Given as goal
 
@@ -16,8 +13,6 @@ abbrev pub decreases-read_struct : goal.decreases-read_struct
 decreases-read_struct l = 2 * l.structure.0 + 1
 
 abbrev pub invariant-read_struct-loop-index : goal.invariant-read_struct-loop-index
-invariant-read_struct-loop-index l = record {
-  parts : (ds : Parts) → LiesParts l.layout l.bytes (parts_of l.layout l.structure.0)
-      (struct_at l.layout l.structure.0).offsets l.at ds → parts_before l.parts.items (parts_from l.index ds) ≡ ds;
-  flat : parts_entered (parts_view l.parts.items) ≡ 0;
-}
+invariant-read_struct-loop-index l =
+    (ds : Parts) → LiesParts l.layout l.bytes (parts_of l.layout l.structure.0)
+    (struct_at l.layout l.structure.0).offsets l.at ds → parts_before l.parts.items (parts_from l.index ds) ≡ ds

@@ -1,16 +1,11 @@
 use Rattle.std.proofs.Common.{◌≡◌}
 use Rattle.fb_layout.specs.Laid.{stored_kind}
 use Rattle.fb_value.specs.Datum.{Parts, count}
-use Rattle.fb_value.specs.Counts.{parts_entered}
 use Rattle.fb_value.specs.Lies.{LiesItems}
-use Rattle.fb_value.specs.View.{parts_view}
-use Rattle.fb_read.specs.Tails.{parts_from}
-use Rattle.fb_read.proofs.read_tables.OneValueMore.{parts_before}
+use Rattle.fb_read.specs.Tails.{parts_from, parts_before}
 use Rattle.fb_read.proofs.inlines.read_inlines.Given as goal
 
 abbrev pub invariant-loop-i : goal.invariant-loop-i
-invariant-loop-i l = record {
-  made : (ds : Parts) → count ds ≡ l.count → LiesItems l.layout l.bytes (stored_kind l.layout.schema l.kind) l.at ds
-      → parts_before l.items.items (parts_from l.i ds) ≡ ds;
-  flat : parts_entered (parts_view l.items.items) ≡ 0;
-}
+invariant-loop-i l =
+    (ds : Parts) → count ds ≡ l.count → LiesItems l.layout l.bytes (stored_kind l.layout.schema l.kind) l.at ds
+    → parts_before l.items.items (parts_from l.i ds) ≡ ds

@@ -10,12 +10,13 @@ returns-in_err-visited-clause-fault c =
     let p = err_from_is_err_and c.from_residual-in_err-visited.result c.from_residual-in_err-visited.ensures.1 in
     let header : header_fault c.args.bytes.now (checked_identifier c.args.layout.now c.args.raw) ≡ None =
     rw c.identifier_of.ensures at c.in_ok-check_front.ensures.rules in
-    let fails = rw (
+    let given = rw (
       c.most_depth-most_depth.ensures.exact,
       c.most_cells-most_cells.ensures,
       c.root.ensures,
       c.schema-schema.ensures.schema,
     ) at (rw c.in_err-visited.was at c.visit_table_behind-visited.ensures.visit) in
+    let fails = given (λ never. absurd never) in
     rw (p.1, p.2) (refused_root c.args.layout.now c.args.limits c.args.raw c.args.bytes.now c.schema-schema.ensures.made
     _ header fails)
 

@@ -26,9 +26,9 @@ number_kind text_kind base is = cc
 
 pub returns-clause-visit : goal.returns-clause-visit
 returns-clause-visit c fine fs tables spent =
-    let L = c.args.source.now.layout.now in
-    let b = c.args.source.now.bytes.now in
-    let most : Bounds = record { depth = c.args.source.now.most_depth; cells = c.args.source.now.most_cells } in
+    let L = c.args.buffer.now.layout.now in
+    let b = c.args.buffer.now.bytes.now in
+    let most : Bounds = record { depth = c.args.buffer.now.most_depth; cells = c.args.buffer.now.most_cells } in
     let keeps = of_ok c.check_number.result _ _ (c.check_number.ensures.rules L) (sym c.is_ok.ensures.value ∙ fine) in
     let number : stored_kind L.schema c.in-One.kind ≡ scalar_kind c.in-Some.base =
     number_kind _ _ (sym c.in-Some.ensures) in

@@ -1,0 +1,2 @@
+-- What the proofs of src/buffer.rt use.
+pub mod AlignmentsArePositive

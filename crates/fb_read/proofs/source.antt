@@ -1,2 +1,0 @@
--- What the proofs of src/source.rt use.
-pub mod AlignmentsArePositive
