@@ -8,7 +8,7 @@
 # make valgrind   runs the C example under valgrind, outside the gate
 # make test       the gate: every proof from nothing, the must-fail edits, the tests, the program
 # make check CRATE=NAME  proves one crate over the libraries below it
-# make rows       tries the rows of crates/rows, with nothing proved
+# make rows       tries the rows of crates/test_rows, with nothing proved
 # make fmt        formats all crates
 # make mutations  further edits that the prover has to refuse, outside the gate; CRATE=NAME tries those of one crate
 # make soak       a million damaged buffers of schemas made from SEED, and files of gigabytes, outside the gate
@@ -81,7 +81,7 @@ check:
 	@cd crates/$(CRATE) && rt check
 
 rows:
-	@cd crates/rows && rt try --steps 1 --seconds 900 < stdin | head -n 1
+	@cd crates/test_rows && rt try --steps 1 --seconds 900 < stdin | head -n 1
 
 fmt:
 	@for crate in crates/*/; do (cd $$crate && rt fmt) || exit 1; done
@@ -90,11 +90,11 @@ mutations:
 	@python3 tools/mutations.py $(CRATE)
 
 soak: build
-	@python3 tools/build.py hostile
-	@python3 tests/soak.py crates/hostile/out/hostile --seed $(SEED) --schemas 2000 --damages 500 --size $(PROGRAM)
+	@python3 tools/build.py test_hostile
+	@python3 tests/soak.py crates/test_hostile/out/test_hostile --seed $(SEED) --schemas 2000 --damages 500 --size $(PROGRAM)
 
 bench: build
-	@python3 tools/build.py json_parse
+	@python3 tools/build.py bench_json_parse
 	@python3 bench/bench.py $(PROGRAM)
 
 bench-library: lib

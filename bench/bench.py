@@ -5,7 +5,7 @@ usage: bench/bench.py PROGRAM [--only WORD] [--rounds N] [--keep FOLDER] [--flat
 
 Prints tables in Markdown: CPU time (user and system), time by the clock and peak memory of each program, the least of
 all rounds, in which the programs take turns, and the ratio of the first to the second. `--keep` leaves the documents in
-a folder. Where the program json_parse is built (by `tools/build.py json_parse`; `--parse` names another), the peak
+a folder. Where the program bench_json_parse is built (by `tools/build.py bench_json_parse`; `--parse` names another), the peak
 memory of parsing a JSON text alone is printed as well.
 """
 import argparse
@@ -21,7 +21,7 @@ import sys
 import tempfile
 
 ROOT = os.path.dirname(os.path.dirname(os.path.abspath(__file__)))
-PARSER = f"{ROOT}/crates/json_parse/out/json_parse"
+PARSER = f"{ROOT}/crates/bench_json_parse/out/bench_json_parse"
 # Both programs nest this many tables.
 LEVELS = 60
 

@@ -8,8 +8,8 @@
 set -uo pipefail
 cd "$(dirname "$0")/.."
 program=crates/flatc/out/flatc
-hostile=crates/hostile/out/hostile
-parser=crates/json_parse/out/json_parse
+hostile=crates/test_hostile/out/test_hostile
+parser=crates/bench_json_parse/out/bench_json_parse
 logs=$(mktemp -d)
 trap 'rm -rf "$logs"' EXIT
 status=0
@@ -26,10 +26,10 @@ if [ ! -x "$program" ]; then
     make --silent build || status=1
 fi
 if [ ! -x "$hostile" ]; then
-    python3 tools/build.py hostile || status=1
+    python3 tools/build.py test_hostile || status=1
 fi
 if [ ! -x "$parser" ]; then
-    python3 tools/build.py json_parse || status=1
+    python3 tools/build.py bench_json_parse || status=1
 fi
 python3 tools/mutations.py --not-compiled | tee "$logs/not-compiled" || status=1
 for part in command outputs streams batches terminal hostile explain told_alike costs; do

@@ -3,7 +3,7 @@
 
 usage: tests/memory.py PROGRAM PARSER
 
-PARSER is built of crates/json_parse. The last line is 'N passed, M failed'.
+PARSER is built of crates/bench_json_parse. The last line is 'N passed, M failed'.
 """
 import os
 import sys

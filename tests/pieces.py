@@ -4,7 +4,7 @@ at once.
 
 usage: tests/pieces.py PROGRAM [--seed N] [--texts N]
 
-PROGRAM is built of crates/hostile. The schemas and values are those of tests/soak.py. A fault is one of the text, as a
+PROGRAM is built of crates/test_hostile. The schemas and values are those of tests/soak.py. A fault is one of the text, as a
 byte that is lost, or one of what it means, as a number in place of a text. Whether a text is JSON is judged here too.
 The last line is 'N passed, M failed'.
 """

@@ -1,2 +1,2 @@
-pub use Rattle.fb_pages.specs.Lines
-pub use Rattle.fb_pages.specs.Positions
+pub use Rattle.fb_explain_pages.specs.Lines
+pub use Rattle.fb_explain_pages.specs.Positions

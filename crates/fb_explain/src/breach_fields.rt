@@ -1,8 +1,8 @@
 //! Breaches in a field of a table.
 use crate::sides::Sides;
-use fb_pages::Page;
+use fb_explain_pages::Page;
+use fb_explain_words::shapes::{field_at, push_default, push_shape, type_name};
 use fb_schema::{FieldInfo, Schema, TypeId};
-use fb_schema_words::shapes::{field_at, push_default, push_shape, type_name};
 
 /// What of a field is compared.
 #[derive(Clone, Copy)]

@@ -2,9 +2,9 @@
 use crate::memory::layout_of;
 use crate::places::Places;
 use crate::sides::{Side, Sides};
+use fb_explain_pages::{Page, Source};
+use fb_explain_schema::declared::declarations_of;
 use fb_layout::Layout;
-use fb_pages::{Page, Source};
-use fb_schema_faults::declared::declarations_of;
 
 /// What to do with two schemas side by side.
 #[derive(Clone, Copy)]

@@ -12,5 +12,5 @@ mod shifts;
 mod sides;
 
 pub use explanations::{explain, warnings};
-pub use fb_input_faults::{FileFailure, Lost, Sources};
-pub use fb_pages::{COLUMNS, Position, Source, fault_page};
+pub use fb_explain_inputs::{FileFailure, Lost, Sources};
+pub use fb_explain_pages::{COLUMNS, Position, Source, fault_page};

@@ -1,0 +1,229 @@
+//! What is wrong with a buffer.
+use crate::buffer_paths::push_path;
+use crate::sources::Sources;
+use fb_explain_pages::{Page, push_dump};
+use fb_explain_words::{FileKind, kind_of_file};
+use fb_layout::Layout;
+use fb_read::{Step, fault_path};
+use fb_value::{Limits, ReadFault};
+
+/// The bytes of a number at an offset.
+fn word_at(bytes: &[u8], offset: usize) -> Option<[u8; 4]> {
+    match bytes.get(offset..)? {
+        [a, b, c, d, ..] => Some([*a, *b, *c, *d]),
+        _ => None,
+    }
+}
+
+/// Adds texts, each with a number behind it, and ends the line behind the last text.
+fn push_sentence(page: &mut Page, parts: &[(&str, u64)], rest: &str) {
+    for (text, number) in parts {
+        page.push_str(text);
+        page.push_number(*number);
+    }
+    page.push_line(rest);
+}
+
+/// Adds what is wrong with a table's vtable.
+fn push_vtable(page: &mut Page, bytes: &[u8], offset: u64) {
+    let table = ("the vtable of the table at ", offset);
+    let end = (", and the buffer ends at ", bytes.len() as u64);
+    let Some(word) = word_at(bytes, offset as usize) else {
+        push_sentence(
+            page,
+            &[table],
+            " can't be found: the table ends past the buffer",
+        );
+        return;
+    };
+    let place = i128::from(offset) - i128::from(i32::from_le_bytes(word));
+    let Ok(start) = u64::try_from(place) else {
+        push_sentence(page, &[table], " would be before the buffer");
+        return;
+    };
+    let start_part = (" would be at ", start);
+    if start % 2 != 0 {
+        push_sentence(page, &[table, start_part], ", which isn't even");
+        return;
+    }
+    match bytes.get(start as usize..) {
+        Some([low, high, ..]) => {
+            let size = u16::from_le_bytes([*low, *high]);
+            let size_part = (" and have a size of ", u64::from(size));
+            if size % 2 != 0 || size < 4 {
+                push_sentence(
+                    page,
+                    &[table, start_part, size_part],
+                    ", where an even number from 4 on is right",
+                );
+                return;
+            }
+            push_sentence(page, &[table, start_part, size_part, end], "")
+        }
+        _ => push_sentence(page, &[table, start_part, end], ""),
+    }
+}
+
+fn push_identifiers(page: &mut Page, layout: &Layout, bytes: &[u8]) {
+    page.push_str("the file identifier is ");
+    page.push_name(bytes.get(4..8).unwrap_or(&[]));
+    if let Some(identifier) = layout.schema().identifier() {
+        page.push_str(", the schema's is ");
+        page.push_name(&identifier);
+    }
+    page.push_line(" (--raw-binary skips this check)");
+}
+
+fn push_byte(page: &mut Page, bytes: &[u8], offset: u64, rest: &str) {
+    match bytes.get(offset as usize) {
+        Some(byte) => push_sentence(
+            page,
+            &[("the byte at ", offset), (" is ", u64::from(*byte))],
+            rest,
+        ),
+        None => push_sentence(page, &[("there is no byte at ", offset)], rest),
+    }
+}
+
+/// Adds a sentence on the rule that a buffer breaks, with the numbers that break it.
+fn push_rule(page: &mut Page, layout: &Layout, limits: Limits, bytes: &[u8], fault: ReadFault) {
+    let end = (" ends past the buffer, which ends at ", bytes.len() as u64);
+    match fault {
+        ReadFault::Short(len) => push_sentence(
+            page,
+            &[("the buffer's length is ", len)],
+            ": too short for the root's offset and the file identifier",
+        ),
+        ReadFault::TooLong(most) => {
+            push_sentence(page, &[("the buffer is longer than ", most)], " bytes")
+        }
+        ReadFault::WrongIdentifier(_) => push_identifiers(page, layout, bytes),
+        ReadFault::Misaligned(at) => push_sentence(
+            page,
+            &[("what is stored at ", at)],
+            " must be at a multiple of its alignment, and isn't",
+        ),
+        ReadFault::OutOfBounds(at) => {
+            push_sentence(page, &[("what is stored at ", at), end], "")
+        }
+        ReadFault::ZeroOffset(at) => push_sentence(
+            page,
+            &[("the offset at ", at)],
+            " is 0: it must lead on to a table, string or vector",
+        ),
+        ReadFault::BadVtable(at) => push_vtable(page, bytes, at),
+        ReadFault::MissingRequired(at, slot) => push_sentence(
+            page,
+            &[
+                ("the table at ", at),
+                (" has nothing in slot ", u64::from(slot)),
+            ],
+            ", which is required",
+        ),
+        ReadFault::NoTerminator(at) => {
+            push_byte(page, bytes, at, ", where a string's final 0 must be")
+        }
+        ReadFault::BadUtf8(at) => push_byte(
+            page,
+            bytes,
+            at,
+            ": the string isn't UTF-8 from here on",
+        ),
+        ReadFault::UnionMismatch(at) => push_byte(
+            page,
+            bytes,
+            at,
+            ": the union's type says that it has a value, and it has none",
+        ),
+        ReadFault::TooDeep(at) => {
+            let depth = u64::from(limits.most_depth());
+            push_sentence(
+                page,
+                &[("the table at ", at), (" is nested deeper than ", depth)],
+                " levels",
+            )
+        }
+        ReadFault::TooManyCells(at) => {
+            let cells = u64::from(limits.most_cells());
+            push_sentence(
+                page,
+                &[("at ", at), (" the buffer has more than ", cells)],
+                " tables, strings, vectors, elements and bytes of strings",
+            )
+        }
+        ReadFault::Memory => {}
+    }
+}
+
+/// Adds the path to what is wrong behind a buffer's header; returns whether that is the root.
+fn push_fault_path(page: &mut Page, layout: &Layout, sources: &Sources<'_>) -> bool {
+    let steps = fault_path(
+        page.alloc(),
+        layout,
+        sources.input.bytes,
+        sources.limits,
+        sources.raw_binary,
+    );
+    let Some(Some(steps)) = page.keep(steps) else {
+        return false;
+    };
+    push_path(page, layout, steps.as_slice());
+    page.push_str(": ");
+    steps.iter().all(|step| matches!(step, Step::Reference))
+}
+
+/// Adds what is wrong with the offset of the root, which a buffer's first bytes have.
+fn push_root_offset(page: &mut Page, bytes: &[u8], fault: ReadFault) -> bool {
+    let len = bytes.len() as u64;
+    match fault {
+        ReadFault::Misaligned(at) if at < len => push_sentence(
+            page,
+            &[("bytes 0 to 3 say that it is at ", at)],
+            ", which isn't a multiple of 4",
+        ),
+        ReadFault::OutOfBounds(at) | ReadFault::Misaligned(at) => push_sentence(
+            page,
+            &[
+                ("bytes 0 to 3 say that it is at ", at),
+                (", and the buffer has ", len),
+            ],
+            " bytes",
+        ),
+        _ => return false,
+    }
+    true
+}
+
+/// Adds what a file is that isn't a buffer at all; returns whether it is clear.
+fn push_another_kind(page: &mut Page, bytes: &[u8]) -> bool {
+    page.push_line(match kind_of_file(bytes) {
+        Some(FileKind::Json) => "this looks like JSON: 'flatc binary' makes a buffer of it",
+        Some(FileKind::Schema) => "this looks like a schema: SCHEMA comes first, then BIN",
+        _ => return false,
+    });
+    true
+}
+
+/// Adds what is wrong with a buffer.
+pub fn push_buffer_fault(
+    page: &mut Page,
+    layout: &Layout,
+    sources: &Sources<'_>,
+    fault: ReadFault,
+) {
+    let source = &sources.input;
+    page.push_str(source.path);
+    page.push_str(": ");
+    if push_another_kind(page, source.bytes) {
+        return;
+    }
+    let is_root = push_fault_path(page, layout, sources);
+    if is_root && push_root_offset(page, source.bytes, fault) {
+        push_dump(page, source.bytes, 0);
+        return;
+    }
+    push_rule(page, layout, sources.limits, source.bytes, fault);
+    if let Some(offset) = fault.offset() {
+        push_dump(page, source.bytes, offset as usize);
+    }
+}

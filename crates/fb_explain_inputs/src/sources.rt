@@ -1,0 +1,39 @@
+//! What a job was done with.
+use fb_explain_pages::Source;
+use fb_value::Limits;
+
+/// A file that couldn't be read or written: its path, and the reason as the system says it.
+#[derive(Clone, Copy)]
+pub struct FileFailure<'a> {
+    pub path: &'a str,
+    pub reason: &'a str,
+}
+
+/// Why what was read of an input isn't there to be shown.
+#[derive(Clone, Copy)]
+pub enum Lost {
+    /// It came through a pipe or a device.
+    Streamed,
+    /// The file has changed since, or is gone.
+    Changed,
+}
+
+/// What a job was done with, as far as it had been read.
+#[derive(Clone, Copy)]
+pub struct Sources<'a> {
+    /// The schema text; of `conform` the old one.
+    pub schema: Source<'a>,
+    /// The JSON text, the buffer, or the new schema text.
+    pub input: Source<'a>,
+    /// Why the input's bytes aren't there; `None` where they are.
+    pub lost: Option<Lost>,
+    pub limits: Limits,
+    /// Whether unknown JSON fields are ignored.
+    pub unknown_json: bool,
+    /// Whether the file identifier check is skipped.
+    pub raw_binary: bool,
+    /// How many columns lines take at most: 48 or more, and 120 or less.
+    pub columns: usize,
+    /// The file that can't be read or written, or standard output.
+    pub failure: Option<FileFailure<'a>>,
+}
