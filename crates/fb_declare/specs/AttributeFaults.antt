@@ -14,9 +14,11 @@ use Rattle.fb_resolve.specs.RepeatedNames.{is_again}
 use Rattle.fb_declare.specs.declared.faults.SchemaFault.{SchemaFault}
 use Rattle.fb_declare.specs.declared.faults.SchemaFault.TheVariants.{BadAttribute, UnknownAttribute, Unsupported}
 use Rattle.fb_syntax.specs.declared.attributes.BuiltInAttribute.{BuiltInAttribute}
-use Rattle.fb_syntax.specs.declared.attributes.BuiltInAttribute.TheVariants.{Id, Required, Deprecated, ForceAlign, BitFlags, OriginalOrder}
+use Rattle.fb_syntax.specs.declared.attributes.BuiltInAttribute.TheVariants.{Id, Required, Deprecated, ForceAlign}
+use Rattle.fb_syntax.specs.declared.attributes.BuiltInAttribute.TheVariants.{BitFlags, OriginalOrder}
 use Rattle.fb_declare.specs.declared.attribute_faults.AttributeHost.{AttributeHost}
-use Rattle.fb_declare.specs.declared.attribute_faults.AttributeHost.TheVariants.{Table, Struct, Enum, ScalarField, TableField, StructField}
+use Rattle.fb_declare.specs.declared.attribute_faults.AttributeHost.TheVariants.{Table, Struct, Enum, ScalarField}
+use Rattle.fb_declare.specs.declared.attribute_faults.AttributeHost.TheVariants.{TableField, StructField}
 
 -- the attributes of FlatBuffers that this project leaves out
 abbrev pub is_left_out : Name → Bool

@@ -4,7 +4,8 @@ use Rattle.std.specs.Prelude.{ℕ, ◌≡◌, false, List, [], Some, map, slice_
 use Rattle.std.specs.List.{AllZip, Contains}
 use Rattle.std.specs.Option.{option_map}
 use Rattle.fb_syntax.specs.DeclsRead.{DeclsRead}
-use Rattle.fb_schema.specs.Schema.{DeclaredBody, table_body, struct_body, enum_body, union_body, DeclaredType, DeclaredSchema}
+use Rattle.fb_schema.specs.Schema.{DeclaredBody, table_body, struct_body, enum_body, union_body, DeclaredType}
+use Rattle.fb_schema.specs.Schema.{DeclaredSchema}
 use Rattle.fb_resolve.specs.Outline.{Outline, outline_of, name_of_type}
 use Rattle.fb_resolve.specs.Resolved.{resolved_types, meaning_of_root}
 use Rattle.fb_resolve.specs.ResolvedType.{ResolvedType}
@@ -20,7 +21,8 @@ use Rattle.fb_declare.specs.declared.faults.SchemaFault.{SchemaFault}
 -- what a declaration gives
 abbrev pub HasBody : ResolvedDecl → DeclaredBody → Type 0
 HasBody (resolved.Table t) (table_body slots) = AreInPlace (slots_read t.fields) slots
-HasBody (resolved.Struct s) (struct_body parts force) = (parts ≡ parts_from 0 s.fields) × (force ≡ forced_align 0 s.force_align)
+HasBody (resolved.Struct s) (struct_body parts force) = (parts ≡ parts_from 0 s.fields)
+    × (force ≡ forced_align 0 s.force_align)
 HasBody (resolved.Enum e) (enum_body base flags values) = let under = integer_type e.underlying in
     (base ≡ base_or_ubyte under) × (flags ≡ e.bit_flags) × (values ≡ values_over under e.bit_flags e.values)
 HasBody (resolved.Union u) (union_body members) = members ≡ map member_read u.members

@@ -1,6 +1,8 @@
--- Where each rule on declarations fails: of names, types, defaults, ids, structs, enums, unions, the root and the identifier.
+-- Where each rule on declarations fails: of names, types, defaults, ids, structs, enums, unions, the root and the
+-- identifier.
 -- From the FlatBuffers documentation, "Writing a schema".
-use Rattle.std.specs.Prelude.{ℕ, ◌==◌, ◌++◌, ◌&&◌, ◌||◌, not, Bool, false, List, [], ◌∷◌, length, Option, None, Some, ℤ, codes, if◌then◌else◌, nat_le}
+use Rattle.std.specs.Prelude.{ℕ, ◌==◌, ◌++◌, ◌&&◌, ◌||◌, not, Bool, false, List, [], ◌∷◌, length, Option, None, Some, ℤ}
+use Rattle.std.specs.Prelude.{codes, if◌then◌else◌, nat_le}
 use Rattle.std.specs.List.{list_any, list_all}
 use Rattle.std.specs.Option.{is_none}
 use Rattle.std.specs.Ordering.{int_eq}
@@ -26,7 +28,9 @@ use Rattle.fb_resolve.specs.declared.defaults.Given.TheVariants.{Wrong}
 use Rattle.fb_declare.specs.declared.field_faults.FieldHost.{FieldHost}
 use Rattle.fb_declare.specs.declared.field_faults.FieldHost.TheVariants as fields
 use Rattle.fb_declare.specs.declared.faults.SchemaFault.{SchemaFault}
-use Rattle.fb_declare.specs.declared.faults.SchemaFault.TheVariants.{DuplicateName, UnknownType, BadDefault, IncompleteStruct, Unsupported, BadEnumValue, BadMember, BadRoot, BadIdentifier}
+use Rattle.fb_declare.specs.declared.faults.SchemaFault.TheVariants.{DuplicateName, UnknownType, BadDefault}
+use Rattle.fb_declare.specs.declared.faults.SchemaFault.TheVariants.{IncompleteStruct, Unsupported, BadEnumValue}
+use Rattle.fb_declare.specs.declared.faults.SchemaFault.TheVariants.{BadMember, BadRoot, BadIdentifier}
 
 abbrev pub when : Bool → SchemaFault → List SchemaFault
 when fails fault = if fails then fault ∷ [] else []

@@ -1,5 +1,6 @@
 -- Which of several faults is reported: the one of least offset, then of lowest number.
-use Rattle.std.specs.Prelude.{ℕ, ◌==◌, ◌&&◌, ◌||◌, Bool, List, [], ◌∷◌, Option, None, Some, if◌then◌else◌, nat_lt, unwrap_or}
+use Rattle.std.specs.Prelude.{ℕ, ◌==◌, ◌&&◌, ◌||◌, Bool, List, [], ◌∷◌, Option, None, Some, if◌then◌else◌, nat_lt}
+use Rattle.std.specs.Prelude.{unwrap_or}
 use Rattle.fb_declare.specs.FaultTable.{number_of, offset_of}
 use Rattle.fb_declare.specs.declared.faults.SchemaFault.{SchemaFault}
 

@@ -16,7 +16,9 @@ use Rattle.fb_declare.specs.AttributeFaults.{metadata_faults}
 use Rattle.fb_resolve.specs.EnumsRead.{integer_type}
 use Rattle.fb_resolve.specs.SlotsRead.{slots_of_field, are_ids_wrong}
 use Rattle.fb_resolve.specs.StructsRead.{natural_align, align_of_type}
-use Rattle.fb_declare.specs.FaultRows.{when, faults_behind, faults_in_turn, is_among, name_again, field_type, bad_default, underlying_faults, value_faults, member_faults, root_faults, identifier_faults}
+use Rattle.fb_declare.specs.FaultRows.{when, faults_behind, faults_in_turn, is_among, name_again, field_type}
+use Rattle.fb_declare.specs.FaultRows.{bad_default, underlying_faults, value_faults, member_faults, root_faults}
+use Rattle.fb_declare.specs.FaultRows.{identifier_faults}
 use Rattle.fb_resolve.specs.RepeatedNames.{is_again}
 use Rattle.fb_schema.specs.declared.kinds.Base.{Base}
 use Rattle.fb_schema.specs.declared.kinds.Kind.TheVariants.{Scalar, Enum}

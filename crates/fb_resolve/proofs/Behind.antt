@@ -6,11 +6,13 @@ use Rattle.fb_syntax.specs.Signs.{dot}
 use Rattle.fb_schema.specs.Schema.{Name}
 use Rattle.fb_resolve.specs.EnumsRead.{behind}
 
-behind-cons : (a : ℕ) (prefix : Name) (c : ℕ) (name : Name) → behind (a ∷ prefix) (c ∷ name) ≡ (if a == c then behind prefix name else None)
+behind-cons : (a : ℕ) (prefix : Name) (c : ℕ) (name : Name)
+    → behind (a ∷ prefix) (c ∷ name) ≡ (if a == c then behind prefix name else None)
 unfolding behind
 behind-cons a prefix c name = grind arith
 
-pub behind_inside : (scope n name : Name) → behind (scope ++ dot ∷ n) name ≡ option_and_then (behind n) (behind scope name)
+pub behind_inside : (scope n name : Name) → behind (scope ++ dot ∷ n) name ≡ option_and_then (behind n)
+    (behind scope name)
 unfolding behind
 behind_inside [] n [] = refl
 behind_inside [] n (c ∷ name) = grind (arith, nat_tests, behind-cons dot n c name)

@@ -23,7 +23,8 @@ basic_type name =
     if either (codes "uint") (codes "uint32") name then Some (Scalar U32) else
     if either (codes "long") (codes "int64") name then Some (Scalar I64) else
     if either (codes "ulong") (codes "uint64") name then Some (Scalar U64) else
-    if either (codes "float") (codes "float32") name || either (codes "double") (codes "float64") name then Some Float else None
+    if either (codes "float") (codes "float32") name || either (codes "double")
+    (codes "float64") name then Some Float else None
 
 -- no declared type may have such a name
 abbrev pub is_reserved : Name → Bool

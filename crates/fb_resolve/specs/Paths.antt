@@ -62,7 +62,8 @@ pub record AreNotesOf (tree used : PathTree) (notes : TypeNotes) (r : TypeRead) 
 
 -- the namespace of a root has a path of this number, and this is noted of the root's name
 abbrev pub IsRootPlaced : PathTree → PathTree → ℕ → TypeUse → Option RootRead → Type 0
-IsRootPlaced tree used n named root = ForSome root (λ r. IsPath tree n (words_of_scope r.scope) × IsNoted used named r.name.bytes)
+IsRootPlaced tree used n named root = ForSome root
+    (λ r. IsPath tree n (words_of_scope r.scope) × IsNoted used named r.name.bytes)
 
 -- what is read so far
 abbrev pub walk_read : Walk → WalkRead

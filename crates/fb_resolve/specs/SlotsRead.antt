@@ -1,6 +1,7 @@
 -- The slots that a table's fields take.
 -- From the FlatBuffers documentation, "Writing a schema": Tables, Unions, Attributes (`id`, `required`, `deprecated`).
-use Rattle.std.specs.Prelude.{ℕ, suc, ◌+◌, ◌==◌, ◌≡◌, ◌++◌, ◌&&◌, not, Bool, true, false, List, [], ◌∷◌, length, map, Option, None, Some, ℤ, pos, codes, slice_get, string_bytes, IfSome, if◌then◌else◌}
+use Rattle.std.specs.Prelude.{ℕ, suc, ◌+◌, ◌==◌, ◌≡◌, ◌++◌, ◌&&◌, not, Bool, true, false, List, [], ◌∷◌, length, map}
+use Rattle.std.specs.Prelude.{Option, None, Some, ℤ, pos, codes, slice_get, string_bytes, IfSome, if◌then◌else◌}
 use Rattle.std.specs.List.{list_any, list_all, flat_map, range_with_len}
 use Rattle.std.specs.List.Sorted.{IsPermutation}
 use Rattle.std.specs.Option.{is_some, unwrap_or, option_map}

@@ -1,7 +1,8 @@
 -- The fields and the alignment of a struct as it is declared.
 -- From the FlatBuffers documentation, "Writing a schema": Structs, Attributes (`force_align`);
 -- "FlatBuffer Internals": Structs.
-use Rattle.std.specs.Prelude.{ℕ, ◌+◌, false, List, [], ◌∷◌, map, Option, None, Some, ℤ, pos, negsuc, slice_index, if◌then◌else◌}
+use Rattle.std.specs.Prelude.{ℕ, ◌+◌, false, List, [], ◌∷◌, map, Option, None, Some, ℤ, pos, negsuc, slice_index}
+use Rattle.std.specs.Prelude.{if◌then◌else◌}
 use Rattle.std.specs.Option.{option_map_or, unwrap_or, option_and_then}
 use Rattle.fb_syntax.specs.declared.declarations.FieldType.{FieldType}
 use Rattle.fb_syntax.specs.declared.declarations.FieldType.TheVariants.{One}

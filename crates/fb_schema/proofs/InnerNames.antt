@@ -18,13 +18,20 @@ module _ (body : Body) where
     pub table_names : body ≡ Table fields → inner_names (body_seen body) ≡ map (λ f. string_bytes f.name) xs
     table_names is = ap (λ (b : Body). inner_names (body_seen b)) is ∙ field_names
 
-    pub struct_names : {align : Option ℕ} → body ≡ Struct fields align → inner_names (body_seen body) ≡ map (λ f. string_bytes f.name) xs
+    pub struct_names : {align : Option ℕ} → body ≡ Struct fields align
+        → inner_names (body_seen body) ≡ map (λ f. string_bytes f.name) xs
     struct_names is = ap (λ (b : Body). inner_names (body_seen b)) is ∙ field_names
 
-  pub enum_names : {base : Base} {flags : Bool} (values : Vec (String Global × ℤ) Global) (xs : List (String Global × ℤ)) → xs ≡ values.items → body ≡ Enum base flags values
+  pub enum_names : {base : Base} {flags : Bool} (values : Vec (String Global × ℤ) Global)
+      (xs : List (String Global × ℤ)) → xs ≡ values.items → body ≡ Enum base flags values
       → inner_names (body_seen body) ≡ map (λ v. string_bytes v.0) xs
-  enum_names values xs lent is = ap (λ (b : Body). inner_names (body_seen b)) is ∙ (map-map (λ v. v.0) (λ (x : String Global × ℤ). (string_bytes x.0, x.1)) values.items ∙ ap (map (λ v. string_bytes v.0)) (sym lent))
+  enum_names values xs lent is = ap (λ (b : Body). inner_names (body_seen b)) is
+      ∙ (map-map (λ v. v.0) (λ (x : String Global × ℤ). (string_bytes x.0, x.1)) values.items
+      ∙ ap (map (λ v. string_bytes v.0)) (sym lent))
 
-  pub union_names : (members : Vec (String Global × TypeId) Global) (xs : List (String Global × TypeId)) → xs ≡ members.items → body ≡ Union members
+  pub union_names : (members : Vec (String Global × TypeId) Global) (xs : List (String Global × TypeId))
+      → xs ≡ members.items → body ≡ Union members
       → inner_names (body_seen body) ≡ map (λ v. string_bytes v.0) xs
-  union_names members xs lent is = ap (λ (b : Body). inner_names (body_seen b)) is ∙ (map-map (λ v. v.0) (λ (x : String Global × TypeId). (string_bytes x.0, x.1.0)) members.items ∙ ap (map (λ v. string_bytes v.0)) (sym lent))
+  union_names members xs lent is = ap (λ (b : Body). inner_names (body_seen b)) is
+      ∙ (map-map (λ v. v.0) (λ (x : String Global × TypeId). (string_bytes x.0, x.1.0)) members.items
+      ∙ ap (map (λ v. string_bytes v.0)) (sym lent))

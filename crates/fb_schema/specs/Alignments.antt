@@ -39,5 +39,7 @@ natural_align_in S aligns s = greatest_in (map (λ f. part_align S aligns f.shap
 
 -- Each struct's alignment is `force_align`, which isn't below the natural one, or the natural one.
 pub record AreAligned (S : DeclaredSchema) (aligns : List ℕ) : Type 0 where
-  pub forced : (s : ℕ) → IsTrue (is_struct (body_at S s)) → ForSome (force_align_in (body_at S s)) (λ a. natural_align_in S aligns s ≤ a)
-  pub each : (s : ℕ) → IsTrue (is_struct (body_at S s)) → slice_index aligns s ≡ unwrap_or (force_align_in (body_at S s)) (natural_align_in S aligns s)
+  pub forced : (s : ℕ) → IsTrue (is_struct (body_at S s))
+      → ForSome (force_align_in (body_at S s)) (λ a. natural_align_in S aligns s ≤ a)
+  pub each : (s : ℕ) → IsTrue (is_struct (body_at S s))
+      → slice_index aligns s ≡ unwrap_or (force_align_in (body_at S s)) (natural_align_in S aligns s)

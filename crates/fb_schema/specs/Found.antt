@@ -1,7 +1,9 @@
 -- What is found in a schema by its name or number.
-use Rattle.std.specs.Prelude.{ℕ, zero, suc, List, [], Option, None, Some, find, position, option_map, slice_get, bytes_eq, codes, ℤ, if◌then◌else◌}
+use Rattle.std.specs.Prelude.{ℕ, zero, suc, List, [], Option, None, Some, find, position, option_map, slice_get}
+use Rattle.std.specs.Prelude.{bytes_eq, codes, ℤ, if◌then◌else◌}
 use Rattle.std.specs.Ordering.{int_eq}
-use Rattle.fb_schema.specs.Schema.{Name, DeclaredField, DeclaredBody, table_body, struct_body, union_body, DeclaredSchema, values_in, members_in}
+use Rattle.fb_schema.specs.Schema.{Name, DeclaredField, DeclaredBody, table_body, struct_body, union_body}
+use Rattle.fb_schema.specs.Schema.{DeclaredSchema, values_in, members_in}
 
 -- the number of the first of some names that is this one
 abbrev pub index_of : List Name → Name → Option ℕ
@@ -36,7 +38,8 @@ number_named body name = option_map (λ v. v.1) (find (λ v. bytes_eq name v.0) 
 
 -- the code of a union's member that has a name, from 1 on; NONE is 0
 abbrev pub code_named : DeclaredBody → Name → Option ℕ
-code_named (union_body members) name = if bytes_eq name (codes "NONE") then Some 0 else option_map (λ k. suc k) (position (λ m. bytes_eq name m.0) members)
+code_named (union_body members) name = if bytes_eq name (codes "NONE") then Some 0 else option_map (λ k. suc k)
+    (position (λ m. bytes_eq name m.0) members)
 code_named _ name = None
 
 -- the full name of the type that has a number

@@ -29,7 +29,8 @@ name_in_path full path = name_of_split full path (rsplit_once dot path)
 
 -- what is found in a type by the name that a path says
 abbrev pub found_by_path : {X : Type 0} → (DeclaredBody → Name → Option X) → DeclaredSchema → ℕ → Name → Option X
-found_by_path found S t path = option_and_then (λ full. option_and_then (found (body_at S t)) (name_in_path full path)) (name_at S t)
+found_by_path found S t path = option_and_then (λ full. option_and_then (found (body_at S t)) (name_in_path full path))
+    (name_at S t)
 
 -- the number of an enum's value
 abbrev pub number_by_path : DeclaredSchema → ℕ → Name → Option ℤ

@@ -5,7 +5,8 @@ use Rattle.fb_schema.specs.declared.types.FieldInfo.{FieldInfo}
 use Rattle.fb_schema.specs.declared.types.Body.{Body}
 use Rattle.fb_schema.specs.declared.types.Body.TheVariants as the_body
 use Rattle.fb_schema.specs.declared.types.TypeInfo.{TypeInfo}
-use Rattle.fb_schema.specs.Schema.{DeclaredField, DeclaredBody, table_body, struct_body, enum_body, union_body, DeclaredType, DeclaredSchema}
+use Rattle.fb_schema.specs.Schema.{DeclaredField, DeclaredBody, table_body, struct_body, enum_body, union_body}
+use Rattle.fb_schema.specs.Schema.{DeclaredType, DeclaredSchema}
 
 abbrev pub field_seen : FieldInfo → DeclaredField
 field_seen f = record {

@@ -1,6 +1,7 @@
 -- What each declared schema keeps, so that the crates above may rely on it.
 -- From the FlatBuffers documentation, "Writing a schema": Structs, Unions, Attributes, Root type, File identification.
-use Rattle.std.specs.Prelude.{ℕ, suc, ◌≡◌, ◌≢◌, ◌<◌, ◌≤◌, ◌^◌, ◌*◌, ◌++◌, codes, List, length, Bool, true, false, IsTrue, ℤ, pos, negsuc, ◌≤ℤ◌, Option, Some, All, AllPairs, map, slice_get}
+use Rattle.std.specs.Prelude.{ℕ, suc, ◌≡◌, ◌≢◌, ◌<◌, ◌≤◌, ◌^◌, ◌*◌, ◌++◌, codes, List, length, Bool, true, false}
+use Rattle.std.specs.Prelude.{IsTrue, ℤ, pos, negsuc, ◌≤ℤ◌, Option, Some, All, AllPairs, map, slice_get}
 use Rattle.std.specs.Option.{ForSome}
 use Rattle.fb_schema.specs.declared.kinds.Base.{Base}
 use Rattle.fb_schema.specs.declared.kinds.Base.TheVariants.{Bool as Boolean, I8, U8, I16, U16, I32, U32, I64, U64}
@@ -9,7 +10,9 @@ use Rattle.fb_schema.specs.declared.kinds.Kind.{Kind}
 use Rattle.fb_schema.specs.declared.kinds.Kind.TheVariants.{Scalar, Enum, Struct, Table, Union, Code, Text}
 use Rattle.fb_schema.specs.declared.kinds.Shape.{Shape}
 use Rattle.fb_schema.specs.declared.kinds.Shape.TheVariants.{One, Many}
-use Rattle.fb_schema.specs.Schema.{Name, DeclaredField, DeclaredBody, table_body, struct_body, enum_body, union_body, DeclaredType, DeclaredSchema, body_at, base_in, is_table, is_struct, is_enum, is_union}
+use Rattle.fb_schema.specs.Schema.{Name, DeclaredField, DeclaredBody, table_body, struct_body, enum_body, union_body}
+use Rattle.fb_schema.specs.Schema.{DeclaredType, DeclaredSchema, body_at, base_in, is_table, is_struct, is_enum}
+use Rattle.fb_schema.specs.Schema.{is_union}
 use Rattle.fb_schema.specs.Alignments.{base_size, AreAligned}
 
 abbrev pub IsBetween : ℤ → ℤ → ℤ → Type 0

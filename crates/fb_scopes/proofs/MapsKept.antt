@@ -1,5 +1,6 @@
 -- Maps as the arena of their forks grows.
-use Rattle.std.proofs.Common.{ℕ, zero, suc, ◌≡◌, ◌<◌, ◌/◌, ◌%◌, ◌==◌, ◌∙◌, List, Some, length, slice_get, if◌then◌else◌, true, false, refl, sym, ap}
+use Rattle.std.proofs.Common.{ℕ, zero, suc, ◌≡◌, ◌<◌, ◌/◌, ◌%◌, ◌==◌, ◌∙◌, List, Some, length, slice_get, if◌then◌else◌}
+use Rattle.std.proofs.Common.{true, false, refl, sym, ap}
 use Rattle.std.proofs.lemmas.Option.{unwrap_or-slice_get, slice_get-get_or, slice_get_within}
 use Rattle.fb_scopes.specs.declared.maps.Fork.{Fork}
 use Rattle.fb_scopes.specs.Maps.{empty_fork, fork_at, part, found_in, value_of, IsMapIn, KeepsForks}
@@ -23,7 +24,11 @@ kept-map old new kept zero place map = tt
 kept-map old new kept (suc levels) place map =
     let fork = fork_at old place in
     let there = kept place fork (fork_at-there old place map.0) in
-    rw there (slice_get_within new place fork there, kept-map old new kept levels fork.zero map.1, kept-map old new kept levels fork.one map.2)
+    rw there (
+      slice_get_within new place fork there,
+      kept-map old new kept levels fork.zero map.1,
+      kept-map old new kept levels fork.one map.2,
+    )
 
 pub kept-found : (old new : List Fork) → KeepsForks old new → (levels place key : ℕ) → IsMapIn old levels place
     → found_in new levels place key ≡ found_in old levels place key

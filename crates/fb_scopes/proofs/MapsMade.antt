@@ -1,5 +1,6 @@
 -- Maps made from other maps, one level of forks at a time.
-use Rattle.std.proofs.Common.{ℕ, zero, suc, ◌≡◌, ◌≢◌, ◌-◌, ◌/◌, ◌%◌, ◌==◌, ◌∙◌, List, Bool, Some, length, get_or, slice_get, unwrap_or, if◌then◌else◌, true, false, refl, sym, ap, subst, arith}
+use Rattle.std.proofs.Common.{ℕ, zero, suc, ◌≡◌, ◌≢◌, ◌-◌, ◌/◌, ◌%◌, ◌==◌, ◌∙◌, List, Bool, Some, length, get_or}
+use Rattle.std.proofs.Common.{slice_get, unwrap_or, if◌then◌else◌, true, false, refl, sym, ap, subst, arith}
 use Rattle.std.proofs.lemmas.Option.{slice_get_within, slice_get_read}
 use Rattle.std.proofs.lemmas.Bool.Decides.{nat_tests}
 use Rattle.fb_scopes.specs.declared.maps.Fork.{Fork}
@@ -27,7 +28,8 @@ fork-of-map forks levels place fork above map read =
 pub map-of-fork : {forks : List Fork} {levels place : ℕ} {fork : Fork} → IsForkOf forks levels place fork
     → IsMapIn forks levels place
 map-of-fork {forks = forks} {levels = levels} {place = place} {fork = fork} f =
-    let deep : IsMapIn forks (suc (levels - 1)) place = rw f.there (slice_get_within forks place fork f.there, f.zeros, f.ones) in
+    let deep : IsMapIn forks (suc (levels - 1)) place =
+    rw f.there (slice_get_within forks place fork f.there, f.zeros, f.ones) in
     subst (λ n. IsMapIn forks n place) (sym (lower levels f.above)) deep
 
 pub part-of-fork : {forks : List Fork} {levels place : ℕ} {fork : Fork} → IsForkOf forks levels place fork

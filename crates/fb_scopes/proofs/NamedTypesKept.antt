@@ -1,5 +1,6 @@
 -- What is noted for names at paths as one path gets another map.
-use Rattle.std.proofs.Common.{ℕ, ◌≡◌, ◌≢◌, ◌<◌, ◌==◌, ◌&&◌, ◌∙◌, List, Bool, true, false, Option, None, Some, length, get_or, set, replicate, arith, refl, sym, subst, inl, inr, if◌then◌else◌}
+use Rattle.std.proofs.Common.{ℕ, ◌≡◌, ◌≢◌, ◌<◌, ◌==◌, ◌&&◌, ◌∙◌, List, Bool, true, false, Option, None, Some, length}
+use Rattle.std.proofs.Common.{get_or, set, replicate, arith, refl, sym, subst, inl, inr, if◌then◌else◌}
 use Rattle.std.specs.Option.{option_or}
 use Rattle.std.proofs.lemmas.Bool.{cases_lt}
 use Rattle.std.proofs.lemmas.Bool.Decides.{eqb_tells}
@@ -16,7 +17,8 @@ pub top-read : (tops : List ℕ) (path top : ℕ) → path < length tops → top
 top-read tops path top h read = read ∙ get_or_default_zero tops path top h
 
 -- and is a map
-pub map_read : (t : NamedTypes) → HasMaps t → (path top : ℕ) → path < length t.tops.items → top ≡ get_or t.tops.items path top → IsMap t.maps top
+pub map_read : (t : NamedTypes) → HasMaps t → (path top : ℕ) → path < length t.tops.items
+    → top ≡ get_or t.tops.items path top → IsMap t.maps top
 map_read t noted path top h read = subst (IsMap t.maps) (sym (top-read t.tops.items path top h read)) (noted.tops path)
 
 -- a path with another map has what that has, and each other path what it had
@@ -31,8 +33,10 @@ other-top old new tops path made h kept maps values entries p n = elim (eqb_tell
 ]
 
 -- where nothing is noted a number can be noted
-pub newly-noted : (read noted : Option ℕ) (here named : Bool) (number : ℕ) → (here ≡ true → read ≡ noted) → (named ≡ true → read ≡ None)
-    → (if here then (if named then Some number else read) else noted) ≡ option_or noted (if here && named then Some number else None)
+pub newly-noted : (read noted : Option ℕ) (here named : Bool) (number : ℕ) → (here ≡ true → read ≡ noted)
+    → (named ≡ true → read ≡ None)
+    → (if here then (if named then Some number else read) else noted) ≡ option_or noted
+    (if here && named then Some number else None)
 newly-noted read noted true true number same none = rw (sym (same refl), none refl) refl
 newly-noted read None true false number same none = same refl
 newly-noted read (Some x) true false number same none = same refl
@@ -40,7 +44,8 @@ newly-noted read None false named number same none = refl
 newly-noted read (Some x) false named number same none = refl
 
 -- where one is noted it stands
-pub noted-before : (o other : Option ℕ) (here : Bool) → (here ≡ true → o ≢ None) → o ≡ option_or o (if here then other else None)
+pub noted-before : (o other : Option ℕ) (here : Bool) → (here ≡ true → o ≢ None)
+    → o ≡ option_or o (if here then other else None)
 noted-before (Some x) other here some = refl
 noted-before None other false some = refl
 noted-before None other true some = absurd (some refl refl)

@@ -24,7 +24,8 @@ dotted-words (c ∷ cs) = elim (eqb_tells c dot) [
 pub words-inj : (m n : Name) → words m ≡ words n → m ≡ n
 words-inj m n e = let same : dot ∷ m ≡ dot ∷ n = sym (dotted-words m) ∙ ap dotted e ∙ dotted-words n in cc
 
-with_first-append : (c : ℕ) (ws vs : Path) (cs : Name) → dotted ws ≡ dot ∷ cs → with_first c (ws ++ vs) ≡ with_first c ws ++ vs
+with_first-append : (c : ℕ) (ws vs : Path) (cs : Name) → dotted ws ≡ dot ∷ cs
+    → with_first c (ws ++ vs) ≡ with_first c ws ++ vs
 with_first-append c [] vs cs e = cc
 with_first-append c (w ∷ ws) vs cs e = refl
 
@@ -33,5 +34,6 @@ pub words-inside : (outer name : Name) → words (outer ++ dot ∷ name) ≡ wor
 words-inside [] name = refl
 words-inside (c ∷ cs) name = elim (eqb_tells c dot) [
   | inl t ↦ rw t.0 (ap (λ ws. [] ∷ ws) (words-inside cs name))
-  | inr t ↦ rw t.0 (ap (with_first c) (words-inside cs name) ∙ with_first-append c (words cs) (words name) cs (dotted-words cs))
+  | inr t ↦ rw t.0 (ap (with_first c) (words-inside cs name)
+      ∙ with_first-append c (words cs) (words name) cs (dotted-words cs))
 ]

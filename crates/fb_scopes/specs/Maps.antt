@@ -1,5 +1,6 @@
 -- Many maps from numbers to numbers in one arena of forks.
-use Rattle.std.specs.Prelude.{ℕ, zero, suc, ◌≡◌, ◌<◌, ◌/◌, ◌%◌, ◌==◌, List, Option, None, Some, length, slice_get, unwrap_or, if◌then◌else◌}
+use Rattle.std.specs.Prelude.{ℕ, zero, suc, ◌≡◌, ◌<◌, ◌/◌, ◌%◌, ◌==◌, List, Option, None, Some, length, slice_get}
+use Rattle.std.specs.Prelude.{unwrap_or, if◌then◌else◌}
 use Rattle.fb_scopes.specs.declared.maps.Fork.{Fork}
 use Rattle.fb_scopes.specs.declared.maps.Maps.{Maps}
 

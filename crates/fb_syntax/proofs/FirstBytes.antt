@@ -1,5 +1,6 @@
 -- The first byte of what stands at the front: it decides the kind.
-use Rattle.std.proofs.Common.{◌≡◌, ◌≢◌, ℕ, zero, suc, ◌≤◌, true, false, cond, ◌==◌, ◌||◌, List, [], ◌∷◌, length, take, refl, ap, sym, ◌∙◌, get_or, ◌<◌, arith}
+use Rattle.std.proofs.Common.{◌≡◌, ◌≢◌, ℕ, zero, suc, ◌≤◌, true, false, cond, ◌==◌, ◌||◌, List, [], ◌∷◌, length, take}
+use Rattle.std.proofs.Common.{refl, ap, sym, ◌∙◌, get_or, ◌<◌, arith}
 use Rattle.std.proofs.lemmas.Bool.Decides.{nat_tests}
 use Rattle.std.proofs.lemmas.Bool.{and_parts}
 use Rattle.std.specs.List.{list_all}
@@ -46,7 +47,9 @@ longest_starts k zero c cs h = absurd (omega (arith, token_some k zero (c ∷ cs
 longest_starts k (suc n) c cs h = token_starts k c (take n cs) h.spelled
 
 -- What is the longest token of its kind is the longest of all.
-pub longest_of : (kind : TokenKind) (n c : ℕ) (cs : List ℕ) → starts kind c ≡ true → n ≤ length (c ∷ cs) → is_token kind (take n (c ∷ cs)) ≡ true → ((m : ℕ) → m ≤ length cs → is_token kind (c ∷ take m cs) ≡ true → suc m ≤ n) → IsLongest kind n (c ∷ cs)
+pub longest_of : (kind : TokenKind) (n c : ℕ) (cs : List ℕ) → starts kind c ≡ true → n ≤ length (c ∷ cs)
+    → is_token kind (take n (c ∷ cs)) ≡ true → ((m : ℕ) → m ≤ length cs → is_token kind (c ∷ take m cs) ≡ true
+    → suc m ≤ n) → IsLongest kind n (c ∷ cs)
 longest_of kind n c cs s w t only = record { within = w; spelled = t; longest = no_longer } where
   no_longer : (k : TokenKind) (m : ℕ) → m ≤ length (c ∷ cs) → is_token k (take m (c ∷ cs)) ≡ true → m ≤ n
   no_longer k zero h u = omega arith
@@ -58,13 +61,16 @@ gap_or_token : {c : ℕ} {cs : List ℕ} (m : ℕ) (k : TokenKind) → IsGap m (
 gap_or_token {c = c} m k g s = let a = gap_starts g in let b = (started_kind k c s).1 in cc
 
 -- Where a byte begins tokens of a kind, nothing else stands.
-pub only_kind : (kind : TokenKind) (c : ℕ) (cs : List ℕ) → starts kind c ≡ true → ((n : ℕ) → IsLongest kind n (c ∷ cs) → IsSmall kind (take n (c ∷ cs)) → ⊥) → (piece : Piece) → IsAtFront (c ∷ cs) piece → ⊥
+pub only_kind : (kind : TokenKind) (c : ℕ) (cs : List ℕ) → starts kind c ≡ true
+    → ((n : ℕ) → IsLongest kind n (c ∷ cs) → IsSmall kind (take n (c ∷ cs)) → ⊥) → (piece : Piece)
+    → IsAtFront (c ∷ cs) piece → ⊥
 only_kind kind c cs s none (pieces.Gap n) g = gap_or_token n kind g s
 only_kind kind c cs s none (pieces.Token k n) h =
     let same : k ≡ kind = (started_kind k c (longest_starts k n c cs h.0)).0 ∙ sym (started_kind kind c s).0 in
     none n (rw same at h.0) (rw same at h.1)
 
-pub only_gaps : (c : ℕ) (cs : List ℕ) → (is_blank c || c == 47) ≡ true → ((n : ℕ) → IsGap n (c ∷ cs) → ⊥) → (piece : Piece) → IsAtFront (c ∷ cs) piece → ⊥
+pub only_gaps : (c : ℕ) (cs : List ℕ) → (is_blank c || c == 47) ≡ true → ((n : ℕ) → IsGap n (c ∷ cs) → ⊥)
+    → (piece : Piece) → IsAtFront (c ∷ cs) piece → ⊥
 only_gaps c cs s none (pieces.Gap n) g = none n g
 only_gaps c cs s none (pieces.Token k n) h = let a = (started_kind k c (longest_starts k n c cs h.0)).1 in cc
 
@@ -81,17 +87,22 @@ one_piece (c ∷ cs) (pieces.Gap m) (pieces.Gap n) h i = ap pieces.Gap (same_gap
 one_piece (c ∷ cs) (pieces.Gap m) (pieces.Token k n) h i = absurd (gap_or_token m k h (longest_starts k n c cs i.0))
 one_piece (c ∷ cs) (pieces.Token j m) (pieces.Gap n) h i = absurd (gap_or_token n j i (longest_starts j m c cs h.0))
 one_piece (c ∷ cs) (pieces.Token j m) (pieces.Token k n) h i =
-    let kinds : j ≡ k = (started_kind j c (longest_starts j m c cs h.0)).0 ∙ sym (started_kind k c (longest_starts k n c cs i.0)).0 in
+    let kinds : j ≡ k = (started_kind j c (longest_starts j m c cs h.0)).0
+    ∙ sym (started_kind k c (longest_starts k n c cs i.0)).0 in
     let up = (h.0).longest k n (i.0).within (i.0).spelled in
     let down = (i.0).longest j m (h.0).within (h.0).spelled in
     let lengths : m ≡ n = omega arith in
     rw (kinds, lengths) refl
 
 -- Nothing begins with any other byte.
-pub no_start : (text : List ℕ) → is_blank (get_or text 0 0) ≡ false → get_or text 0 0 ≢ 47 → is_letter (get_or text 0 0) ≡ false → is_digit (get_or text 0 0) ≡ false → is_sign (get_or text 0 0) ≡ false → get_or text 0 0 ≢ 34 → is_punct (get_or text 0 0) ≡ false → (piece : Piece) → IsAtFront text piece → ⊥
+pub no_start : (text : List ℕ) → is_blank (get_or text 0 0) ≡ false → get_or text 0 0 ≢ 47
+    → is_letter (get_or text 0 0) ≡ false → is_digit (get_or text 0 0) ≡ false → is_sign (get_or text 0 0) ≡ false
+    → get_or text 0 0 ≢ 34 → is_punct (get_or text 0 0) ≡ false → (piece : Piece) → IsAtFront text piece → ⊥
 no_start [] blank slash letter digit sign quote mark piece h = nowhere [] piece refl h
-no_start (c ∷ cs) blank slash letter digit sign quote mark (pieces.Gap n) g = let e = gap_starts g in grind (arith, nat_tests)
-no_start (c ∷ cs) blank slash letter digit sign quote mark (pieces.Token k n) h = other k (longest_starts k n c cs h.0) where
-  other : (k : TokenKind) → starts k c ≡ true → ⊥
-  other (Punct p) e = grind (arith, nat_tests)
-  other _ e = grind (arith, nat_tests)
+no_start (c ∷ cs) blank slash letter digit sign quote mark (pieces.Gap n) g = let e = gap_starts g in
+    grind (arith, nat_tests)
+no_start (c ∷ cs) blank slash letter digit sign quote mark (pieces.Token k n) h =
+    other k (longest_starts k n c cs h.0) where
+      other : (k : TokenKind) → starts k c ≡ true → ⊥
+      other (Punct p) e = grind (arith, nat_tests)
+      other _ e = grind (arith, nat_tests)

@@ -1,5 +1,6 @@
 -- What stands at the front decides which tokens a text has; the scanner goes from piece to piece.
-use Rattle.std.proofs.Common.{◌≡◌, ℕ, ◌+◌, ◌<◌, List, [], ◌++◌, ◌≤◌, length, drop, refl, ap, sym, arith, ◌∙◌, append_assoc, length-drop}
+use Rattle.std.proofs.Common.{◌≡◌, ℕ, ◌+◌, ◌<◌, List, [], ◌++◌, ◌≤◌, length, drop, refl, ap, sym, arith, ◌∙◌}
+use Rattle.std.proofs.Common.{append_assoc, length-drop}
 use Rattle.fb_syntax.specs.declared.tokens.Token.{Token}
 use Rattle.fb_syntax.specs.declared.scan.Piece.{Piece}
 use Rattle.fb_syntax.specs.Spells.{Spells, finished, piece, mark_len, OneSpelling, IsAtFront, len_of, tokens_of}
@@ -8,17 +9,20 @@ use Rattle.fb_syntax.proofs.FirstBytes.{nowhere, one_piece, token_some}
 use Rattle.std.proofs.lemmas.Grind.{common_steps}
 use Rattle.fb_syntax.specs.declared.scan.Piece.TheVariants as pieces
 
-pub piece_within : (piece : Piece) (text : List ℕ) → IsAtFront text piece → (0 < len_of piece) × (len_of piece ≤ length text)
+pub piece_within : (piece : Piece) (text : List ℕ) → IsAtFront text piece
+    → (0 < len_of piece) × (len_of piece ≤ length text)
 piece_within (pieces.Gap n) text g = gap_within g
 piece_within (pieces.Token kind n) text h = (token_some kind n text h.0, (h.0).within)
 
 -- Where a piece stands, the tokens are its own and those behind it.
-pub behind : (at : ℕ) (text : List ℕ) (p : Piece) (tokens : List Token) → IsAtFront text p → Spells at text tokens → (rest : List Token) × (tokens ≡ tokens_of at p ++ rest) × Spells (at + len_of p) (drop (len_of p) text) rest
+pub behind : (at : ℕ) (text : List ℕ) (p : Piece) (tokens : List Token) → IsAtFront text p → Spells at text tokens
+    → (rest : List Token) × (tokens ≡ tokens_of at p ++ rest) × Spells (at + len_of p) (drop (len_of p) text) rest
 behind at text p tokens h finished = absurd (nowhere [] p refl h)
 behind at text p tokens h (piece {rest = rest} q g s) = rw (one_piece text p q h g) (rest, refl, s)
 
 -- Where nothing stands, only the end of the text is spelled.
-pub nothing : (at : ℕ) (text : List ℕ) (tokens : List Token) → ((p : Piece) → IsAtFront text p → ⊥) → Spells at text tokens → (length text ≡ 0) × (tokens ≡ [])
+pub nothing : (at : ℕ) (text : List ℕ) (tokens : List Token) → ((p : Piece) → IsAtFront text p → ⊥)
+    → Spells at text tokens → (length text ≡ 0) × (tokens ≡ [])
 nothing at text tokens none finished = (refl, refl)
 nothing at text tokens none (piece p h s) = absurd (none p h)
 
@@ -27,25 +31,30 @@ pub same_tokens : (at : ℕ) (text : List ℕ) (xs ys : List Token) → Spells a
 same_tokens at text xs ys finished other = sym (nothing at [] ys (λ p h. nowhere [] p refl h) other).1
 same_tokens at text xs ys (piece {rest = rest} p h s) other =
     let split = behind at text p ys h other in
-    rw split.1 (ap (λ ts. tokens_of at p ++ ts) (same_tokens (at + len_of p) (drop (len_of p) text) rest split.0 s split.2))
+    rw split.1 (ap (λ ts. tokens_of at p ++ ts) (same_tokens (at + len_of p)
+    (drop (len_of p) text) rest split.0 s split.2))
 
 -- A text is spelled by one list of tokens at most.
 pub one_spelling_shown : OneSpelling
-one_spelling_shown bytes xs ys a b = same_tokens (mark_len bytes) (drop (mark_len bytes) bytes) xs ys a.spelled b.spelled
+one_spelling_shown bytes xs ys a b = same_tokens (mark_len bytes)
+    (drop (mark_len bytes) bytes) xs ys a.spelled b.spelled
 
 -- Before the place `at` stand the tokens `found`: with those behind it they are all, and none else are.
 pub record Scanned (start : ℕ) (text : List ℕ) (at : ℕ) (found : List Token) : Type 0 where
   pub within : at ≤ length text
   pub sound : (rest : List Token) → Spells at (drop at text) rest → Spells start (drop start text) (found ++ rest)
-  pub only : (every : List Token) → Spells start (drop start text) every → (rest : List Token) × (every ≡ found ++ rest) × Spells at (drop at text) rest
+  pub only : (every : List Token) → Spells start (drop start text) every
+      → (rest : List Token) × (every ≡ found ++ rest) × Spells at (drop at text) rest
 
 pub begun : (start : ℕ) (text : List ℕ) → start ≤ length text → Scanned start text start []
 begun start text h = record { within = h; sound = λ rest s. s; only = λ every s. (every, refl, s) }
 
 abbrev pub Passed : (start : ℕ) (text : List ℕ) (at : ℕ) (found : List Token) (p : Piece) → Type 0
-Passed start text at found p = (at + len_of p ≤ length text) × (0 < len_of p) × Scanned start text (at + len_of p) (found ++ tokens_of at p)
+Passed start text at found p = (at + len_of p ≤ length text) × (0 < len_of p)
+    × Scanned start text (at + len_of p) (found ++ tokens_of at p)
 
-pub over_piece : (start : ℕ) (text : List ℕ) (at : ℕ) (found : List Token) (p : Piece) → Scanned start text at found → IsAtFront (drop at text) p → Passed start text at found p
+pub over_piece : (start : ℕ) (text : List ℕ) (at : ℕ) (found : List Token) (p : Piece) → Scanned start text at found
+    → IsAtFront (drop at text) p → Passed start text at found p
 over_piece start text at found p s here =
     let w = piece_within p (drop at text) here in
     let room : at + len_of p ≤ length text = omega (arith, w.1, s.within, length-drop at text) in
@@ -62,15 +71,21 @@ over_piece start text at found p s here =
       },
     )
 
-pub over_fault : (start : ℕ) (text : List ℕ) (at : ℕ) (found : List Token) → Scanned start text at found → at < length text → ((p : Piece) → IsAtFront (drop at text) p → ⊥) → (every : List Token) → Spells start (drop start text) every → ⊥
+pub over_fault : (start : ℕ) (text : List ℕ) (at : ℕ) (found : List Token) → Scanned start text at found
+    → at < length text → ((p : Piece) → IsAtFront (drop at text) p → ⊥) → (every : List Token)
+    → Spells start (drop start text) every → ⊥
 over_fault start text at found s h none every spelled =
     let split = s.only every spelled in
     let end = nothing at (drop at text) split.0 none split.2 in omega (arith, end.0, length-drop at text)
 
-pub over : (start : ℕ) (text : List ℕ) (at : ℕ) (found : List Token) → Scanned start text at found → length text ≤ at → Spells start (drop start text) found × ((every : List Token) → Spells start (drop start text) every → found ≡ every)
+pub over : (start : ℕ) (text : List ℕ) (at : ℕ) (found : List Token) → Scanned start text at found → length text ≤ at
+    → Spells start (drop start text) found × ((every : List Token) → Spells start (drop start text) every
+    → found ≡ every)
 over start text at found s h =
     let none : drop at text ≡ [] = grind (arith, common_steps) in
     let whole : found ++ [] ≡ found = grind (arith, common_steps) in (
       rw whole at (s.sound [] (rw none finished)),
-      λ every spelled. let split = s.only every spelled in let last = nothing at [] split.0 (λ p h. nowhere [] p refl h) (rw none at split.2) in sym (split.1 ∙ ap (λ r. found ++ r) last.1 ∙ whole),
+      λ every spelled. let split = s.only every spelled in
+          let last = nothing at [] split.0 (λ p h. nowhere [] p refl h) (rw none at split.2) in
+          sym (split.1 ∙ ap (λ r. found ++ r) last.1 ∙ whole),
     )

@@ -1,5 +1,6 @@
 -- Blanks and comments: one at most stands at a place.
-use Rattle.std.proofs.Common.{take, ◌-◌, ◌≡◌, ℕ, ◌+◌, ◌<◌, ◌≤◌, ◌||◌, ◌==◌, not, true, false, List, [], ◌∷◌, length, drop, get_or, refl, arith, length-drop}
+use Rattle.std.proofs.Common.{take, ◌-◌, ◌≡◌, ℕ, ◌+◌, ◌<◌, ◌≤◌, ◌||◌, ◌==◌, not, true, false, List, [], ◌∷◌, length}
+use Rattle.std.proofs.Common.{drop, get_or, refl, arith, length-drop}
 use Rattle.std.proofs.lemmas.Bool.{or_left}
 use Rattle.std.proofs.lemmas.List.{take_rest}
 use Rattle.std.proofs.lemmas.List.Sums.{prefix_len-le-length}
@@ -12,7 +13,10 @@ close_long _ e = absurd cc
 
 pub gap_within : {n : ℕ} {text : List ℕ} → IsGap n text → (0 < n) × (n ≤ length text)
 gap_within (blank e) = (omega arith, omega arith)
-gap_within (block {cs = cs} n closes) = (omega arith, omega (arith, close_long (drop n cs) closes.closed, length-drop n cs))
+gap_within (block {cs = cs} n closes) = (
+  omega arith,
+  omega (arith, close_long (drop n cs) closes.closed, length-drop n cs),
+)
 gap_within (line {cs = cs}) = (omega arith, omega (arith, prefix_len-le-length (λ c. not (c == 10)) cs))
 
 pub same_gap : {m n : ℕ} {text : List ℕ} → IsGap m text → IsGap n text → m ≡ n
@@ -39,11 +43,13 @@ pub line_gap : (text : List ℕ) (n : ℕ) → get_or text 0 0 ≡ 47 → n ≡ 
 line_gap [] n e f = absurd cc
 line_gap (c ∷ cs) n e f = rw (e, f) line
 
-pub block_gap : (text : List ℕ) (n : ℕ) → get_or text 0 0 ≡ 42 → ClosesBehind n (drop 1 text) → IsGap (n + 4) (47 ∷ text)
+pub block_gap : (text : List ℕ) (n : ℕ) → get_or text 0 0 ≡ 42 → ClosesBehind n (drop 1 text)
+    → IsGap (n + 4) (47 ∷ text)
 block_gap [] n e f = absurd cc
 block_gap (c ∷ cs) n e f = rw e (block n f)
 
-pub no_comment : {n : ℕ} (text : List ℕ) → (get_or text 0 0 ≡ 47 → ⊥) → (get_or text 0 0 ≡ 42 → (k : ℕ) → is_close (drop k (drop 1 text)) ≡ false) → IsGap n (47 ∷ text) → ⊥
+pub no_comment : {n : ℕ} (text : List ℕ) → (get_or text 0 0 ≡ 47 → ⊥)
+    → (get_or text 0 0 ≡ 42 → (k : ℕ) → is_close (drop k (drop 1 text)) ≡ false) → IsGap n (47 ∷ text) → ⊥
 no_comment text no_slash no_close (blank e) = cc
 no_comment text no_slash no_close (block n e) = let no = no_close refl n in let yes = e.closed in cc
 no_comment text no_slash no_close line = no_slash refl

@@ -31,7 +31,8 @@ is_blank c = c == 32 || c == 9 || c == 13 || c == 10
 
 -- { } ( ) [ ] : ; , . =
 abbrev pub is_punct : ℕ → Bool
-is_punct c = c == 123 || c == 125 || c == 40 || c == 41 || c == 91 || c == 93 || c == 58 || c == 59 || c == 44 || c == 46 || c == 61
+is_punct c = c == 123 || c == 125 || c == 40 || c == 41 || c == 91 || c == 93 || c == 58 || c == 59 || c == 44 || c ==
+    46 || c == 61
 
 -- no control byte below a space, no " and no \
 abbrev pub is_quotable : ℕ → Bool

@@ -50,7 +50,8 @@ field_type = with_token (Punct (byte "["))
 
 -- Integer | name
 unfoldable pub default_value : Rule DefaultValue
-default_value = with_token Integer (λ digits. give (defaults.Integer (number_of digits))) (do name ← dotted_name; give (defaults.Name name))
+default_value = with_token Integer (λ digits. give (defaults.Integer (number_of digits)))
+    (do name ← dotted_name; give (defaults.Name name))
 
 -- [ "=" default_value ]
 unfoldable pub default_part : Rule (Option DefaultValue)

@@ -22,7 +22,10 @@ keyword_at ts = and_then (token_at Word ts) (λ w. and_then (keyword_of (w.0).by
 
 -- one of the grammar's own words
 abbrev pub keyword : Rule Keyword
-keyword = record { Is = λ ts k rest. (at : ℕ) × IsToken Word ts (record { bytes = spelling k; at = at }) rest; read = keyword_at }
+keyword = record {
+  Is = λ ts k rest. (at : ℕ) × IsToken Word ts (record { bytes = spelling k; at = at }) rest;
+  read = keyword_at;
+}
 
 -- [ name ] ";"
 unfoldable pub namespace : Rule (Option Located)
@@ -41,7 +44,9 @@ declared keywords.Table = do t ← table; give (declarations.Type (types.Table t
 declared keywords.Struct = do t ← table; give (declarations.Type (types.Struct t))
 declared keywords.Enum = do e ← enumeration; give (declarations.Type (types.Enum e))
 declared keywords.Union = do u ← union; give (declarations.Type (types.Union u))
-declared keywords.Root = do n ← rule_before dotted_name (byte ";"); give (declarations.Directive (directives.RootType n))
+declared keywords.Root = do
+  n ← rule_before dotted_name (byte ";")
+  give (declarations.Directive (directives.RootType n))
 declared keywords.Extension = do
   t ← rule_before (token Quoted) (byte ";")
   give (declarations.Directive (directives.FileExtension t))

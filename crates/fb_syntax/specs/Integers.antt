@@ -1,5 +1,6 @@
 -- Integers and their values (Grammar: integer_constant, dec_integer_constant, hex_integer_constant).
-use Rattle.std.specs.Prelude.{ℕ, ◌≡◌, ◌≤◌, ◌<◌, ◌-◌, Bool, true, false, ◌==◌, ◌||◌, ◌&&◌, not, List, [], ◌∷◌, length, take, drop, map, if◌then◌else◌, ℤ, pos, ◌-ℤ◌}
+use Rattle.std.specs.Prelude.{ℕ, ◌≡◌, ◌≤◌, ◌<◌, ◌-◌, Bool, true, false, ◌==◌, ◌||◌, ◌&&◌, not, List, [], ◌∷◌, length}
+use Rattle.std.specs.Prelude.{take, drop, map, if◌then◌else◌, ℤ, pos, ◌-ℤ◌}
 use Rattle.std.specs.Int.Digits.{number_from_digits}
 use Rattle.std.specs.List.{list_all}
 use Rattle.fb_syntax.specs.Located.{Located}
@@ -39,7 +40,8 @@ pub record IsNumberLen (n : ℕ) (text : List ℕ) : Type 0 where
   pub longest : (m : ℕ) → m ≤ length text → is_unsigned (take m text) ≡ true → m ≤ n
 
 abbrev pub digit_value : ℕ → ℕ
-digit_value c = if is_digit c then c - 48 else (if is_between 97 102 c then c - 87 else (if is_between 65 70 c then c - 55 else 0))
+digit_value c = if is_digit c then c - 48 else
+    (if is_between 97 102 c then c - 87 else (if is_between 65 70 c then c - 55 else 0))
 
 -- the number that digits write in a base, the highest first
 abbrev pub digits_value : ℕ → List ℕ → ℕ

@@ -3,7 +3,8 @@ use Rattle.std.specs.Prelude.{ℕ, List, [], ◌∷◌, Option, codes}
 use Rattle.std.specs.List.{find}
 use Rattle.std.specs.Str.{bytes_eq}
 use Rattle.fb_syntax.specs.declared.parser.schema.Keyword.{Keyword}
-use Rattle.fb_syntax.specs.declared.parser.schema.Keyword.TheVariants.{Namespace, Attribute, Table, Struct, Enum, Union, Root, Extension, Identifier}
+use Rattle.fb_syntax.specs.declared.parser.schema.Keyword.TheVariants.{Namespace, Attribute, Table, Struct, Enum, Union}
+use Rattle.fb_syntax.specs.declared.parser.schema.Keyword.TheVariants.{Root, Extension, Identifier}
 
 abbrev pub spelling : Keyword → List ℕ
 spelling Namespace = codes "namespace"

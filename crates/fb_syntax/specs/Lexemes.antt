@@ -29,7 +29,8 @@ lexeme_of text t = record { kind = t.kind; text = located text t }
 abbrev pub lexemes : List ℕ → List Token → List Lexeme
 lexemes text ts = map (lexeme_of text) ts
 
--- A token stands in the text, a quoted one with both quotes; what it says can be cut out as text, and an integer is not too great.
+-- A token stands in the text, a quoted one with both quotes; what it says can be cut out as text, and an integer is not
+-- too great.
 pub record IsReadable (text : List ℕ) (t : Token) : Type 0 where
   pub quotes : margin t.kind + margin t.kind ≤ t.len
   pub within : t.at + t.len ≤ length text

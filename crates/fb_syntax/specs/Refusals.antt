@@ -2,7 +2,8 @@
 use Rattle.std.specs.Prelude.{ℕ, ◌≤◌, List, IsUtf8, IfSome}
 use Rattle.fb_syntax.specs.declared.tokens.Token.{Token}
 use Rattle.fb_syntax.specs.declared.faults.SyntaxFault.{SyntaxFault}
-use Rattle.fb_syntax.specs.declared.faults.SyntaxFault.TheVariants.{NotUtf8, BadByte, Unterminated, NumberTooBig, Unexpected, NestedVector}
+use Rattle.fb_syntax.specs.declared.faults.SyntaxFault.TheVariants.{NotUtf8, BadByte, Unterminated, NumberTooBig}
+use Rattle.fb_syntax.specs.declared.faults.SyntaxFault.TheVariants.{Unexpected, NestedVector}
 use Rattle.fb_syntax.specs.FaultTable.{offset_of}
 use Rattle.fb_syntax.specs.Spells.{SpellsText}
 
@@ -11,7 +12,8 @@ abbrev pub IsToldOfUtf8 : List ℕ → SyntaxFault → Type 0
 IsToldOfUtf8 text (NotUtf8 at) = Unit {0}
 IsToldOfUtf8 text _ = IsUtf8 text
 
--- A byte that no token begins with, a comment or quoted text without an end, an integer too great: no tokens spell the text.
+-- A byte that no token begins with, a comment or quoted text without an end, an integer too great: no tokens spell the
+-- text.
 abbrev pub IsToldOfNoTokens : List ℕ → SyntaxFault → Type 0
 IsToldOfNoTokens text (BadByte at) = (tokens : List Token) → ¬ (SpellsText text tokens)
 IsToldOfNoTokens text (Unterminated at) = (tokens : List Token) → ¬ (SpellsText text tokens)

@@ -1,5 +1,7 @@
--- Rules of the grammar: what stands at the front of the tokens, and which are left behind it. `Is` says it, and `read` finds it.
-use Rattle.std.specs.Prelude.{ℕ, zero, suc, ◌≡◌, ◌==◌, Bool, true, false, ◌||◌, ◌⊎◌, not, List, [], ◌∷◌, ◌++◌, length, Option, Some, None, if◌then◌else◌}
+-- Rules of the grammar: what stands at the front of the tokens, and which are left behind it. `Is` says it, and `read`
+-- finds it.
+use Rattle.std.specs.Prelude.{ℕ, zero, suc, ◌≡◌, ◌==◌, Bool, true, false, ◌||◌, ◌⊎◌, not, List, [], ◌∷◌, ◌++◌, length}
+use Rattle.std.specs.Prelude.{Option, Some, None, if◌then◌else◌}
 use Rattle.std.specs.List.{fold}
 use Rattle.fb_syntax.specs.Located.{Located, joined}
 use Rattle.fb_syntax.specs.Lexemes.{Lexeme}
@@ -72,21 +74,28 @@ rule_before rule c = do
 -- one rule behind a token of a kind, or another where no such token stands
 abbrev pub with_token : {X : Type 0} → TokenKind → (Located → Rule X) → Rule X → Rule X
 with_token kind next other = record {
-  Is = λ ts x rest. ((t : Located) × (after : List Lexeme) × IsToken kind ts t after × (next t).Is after x rest) ⊎ other.Is ts x rest;
+  Is = λ ts x rest. ((t : Located) × (after : List Lexeme) × IsToken kind ts t after × (next t).Is after x rest) ⊎
+      other.Is ts x rest;
   read = λ ts. behind (token_at kind ts) (λ t after. (next t).read after) (other.read ts);
 }
 
 -- no token, where a test of those that are left holds
 abbrev pub ahead : (List Lexeme → Bool) → Rule (Unit {0})
-ahead test = record { Is = λ ts x rest. (ts ≡ rest) × (test ts ≡ true); read = λ ts. if test ts then Some (tt, ts) else None }
+ahead test = record {
+  Is = λ ts x rest. (ts ≡ rest)
+      × (test ts ≡ true);
+  read = λ ts. if test ts then Some (tt, ts) else None;
+}
 
 abbrev pub is_sign : ℕ → List Lexeme → Bool
 is_sign c [] = false
 is_sign c (t ∷ rest) = is_kind t.kind (Punct c)
 
-pub data Repeated {X : Type 0} (Item : List Lexeme → X → List Lexeme → Type 0) : List Lexeme → List X → List Lexeme → Type 0 where
+pub data Repeated {X : Type 0} (Item : List Lexeme → X → List Lexeme → Type 0) : List Lexeme → List X → List Lexeme
+    → Type 0 where
   no_more : {ts : List Lexeme} → Repeated Item ts [] ts
-  one_more : {ts rest : List Lexeme} {x : X} {xs : List X} (mid : List Lexeme) → Item ts x mid → Repeated Item mid xs rest → Repeated Item ts (x ∷ xs) rest
+  one_more : {ts rest : List Lexeme} {x : X} {xs : List X} (mid : List Lexeme) → Item ts x mid
+      → Repeated Item mid xs rest → Repeated Item ts (x ∷ xs) rest
 
 abbrev pub is_empty : List Lexeme → Bool
 is_empty [] = true

@@ -1,5 +1,6 @@
 -- What stands at a text's front, and which tokens spell a whole text (Writing a schema; Grammar).
-use Rattle.std.specs.Prelude.{ℕ, List, [], ◌∷◌, take, Result, Ok, Err, ◌≡◌, ◌+◌, ◌++◌, drop, IsUtf8, nat_eq, if◌then◌else◌}
+use Rattle.std.specs.Prelude.{ℕ, List, [], ◌∷◌, take, Result, Ok, Err, ◌≡◌, ◌+◌, ◌++◌, drop, IsUtf8, nat_eq}
+use Rattle.std.specs.Prelude.{if◌then◌else◌}
 use Rattle.fb_syntax.specs.declared.scan.Piece.{Piece}
 use Rattle.fb_syntax.specs.declared.scan.Piece.TheVariants as pieces
 use Rattle.fb_syntax.specs.declared.faults.SyntaxFault.{SyntaxFault}
@@ -27,7 +28,8 @@ abbrev pub IsFront : List ℕ → Result Piece SyntaxFault → Type 0
 IsFront text (Ok piece) = IsAtFront text piece
 IsFront text (Err fault) = (piece : Piece) → ¬ (IsAtFront text piece)
 
--- These tokens, with blanks and comments between, are the text that begins at the place `at`. Each is the longest there.
+-- These tokens, with blanks and comments between, are the text that begins at the place `at`. Each is the longest
+-- there.
 pub data Spells : ℕ → List ℕ → List Token → Type 0 where
   finished : {at : ℕ} → Spells at [] []
   piece : {at : ℕ} {text : List ℕ} {rest : List Token} (p : Piece) → IsAtFront text p

@@ -1,4 +1,5 @@
--- Which bytes are a token of each kind, and the longest token at a place (Grammar: ident, integer_constant, string_constant).
+-- Which bytes are a token of each kind, and the longest token at a place (Grammar: ident, integer_constant,
+-- string_constant).
 use Rattle.std.specs.Prelude.{ℕ, ◌≡◌, ◌≤◌, Bool, true, false, ◌==◌, ◌&&◌, ◌||◌, List, [], ◌∷◌, length, take}
 use Rattle.std.specs.List.{list_all}
 use Rattle.fb_syntax.specs.declared.tokens.TokenKind.{TokenKind}

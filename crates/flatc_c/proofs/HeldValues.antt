@@ -35,7 +35,8 @@ module _ {M : Type 1} {𝓤 : Ura M} {𝓛 : Logic 𝓤} {K : Type 0} {Γ : List
       → Step K 𝓛 (‵ (Held.own_val (record { at = p; value = x }) (lone p ∷ [])) ∷ Γ) G (‵ (owned Kept p x) ∷ Γ) G
   held_in t p x = step (λ s. nothing t $ feq_i t (List Val) (ptr_val p ∷ []) (ptr_val p ∷ []) refl $ fjoin t $
       feq_i t (List Val) (lone p ∷ []) (lone p ∷ []) refl $ fjoin t $
-      fpack t (Valss (RawPtr ∷ [])) (within (shape held.the_type) (p, tt) (lone p ∷ [])) (ptr_val p ∷ [], tt) $ fjoin t $ s)
+      fpack t (Valss (RawPtr ∷ [])) (within (shape held.the_type) (p, tt) (lone p ∷ []))
+      (ptr_val p ∷ [], tt) $ fjoin t $ s)
 
   -- a handle that isn't empty owns its value
   pub is_owned : K → (p : Ptr) (o : Option Kept.Denot) → IsSome o

@@ -45,7 +45,12 @@ abbrev pub heap_drop : Dict
 heap_drop = impl ("flatc_c::Destruct++none::drop" ∷ []) (tcons (layout Heap) tnil) dnil
 
 abbrev pub boxed : (T : RattleType) → Laws T → Bx
-boxed T L = record { row = T; laws = L; al = record { row = Heap; laws = Heap-laws; g = ghosts; d = dict; drops = heap_drop } }
+boxed T L = record {
+  row = T;
+  laws = L;
+  al = record
+      { row = Heap; laws = Heap-laws; g = ghosts; d = dict; drops = heap_drop };
+}
 
 module _ (R : RattleType) where
   abbrev pub Boxed : RattleType
@@ -59,7 +64,8 @@ module _ (R : RattleType) where
     pub at_block : K → (p : Ptr) (x : R.Denot)
         → ((b o : ℕ) → p ≡ block_ptr b o → Seq K 𝓛 (‵ (box_owns freeable R (block_ptr b o) x) ∷ Γ) G)
         → Seq K 𝓛 (‵ (box_owns freeable R p x) ∷ Γ) G
-    at_block t p x k = in_a_block t p (λ at. box_owns freeable R at x) (fst∗ 𝓤 (never 𝓤) (sem 𝓛 (freeable (bare (lone_ty R.mir)) null_ptr))) k
+    at_block t p x k = in_a_block t p (λ at. box_owns freeable R at x)
+        (fst∗ 𝓤 (never 𝓤) (sem 𝓛 (freeable (bare (lone_ty R.mir)) null_ptr))) k
 
     pub loose_out : K → (l : Loose.Denot) (vs : List Val)
         → (vs ≡ lone l.at ∷ [] → Seq K 𝓛 (‵ (box_owns freeable R l.at l.value) ∷ Γ) G)
@@ -68,7 +74,9 @@ module _ (R : RattleType) where
         k (is ∙ ap (λ (ps : List Val). vstruct (of_list (ps ++ [])) ∷ []) one))))
 
     pub loose_in : K → (p : Ptr) (x : R.Denot)
-        → Step K 𝓛 (‵ (Loose.own_val (record { at = p; value = x }) (lone p ∷ [])) ∷ Γ) G (‵ (box_owns freeable R p x) ∷ Γ) G
+        → Step K 𝓛 (‵ (Loose.own_val (record { at = p; value = x }) (lone p ∷ [])) ∷ Γ) G
+        (‵ (box_owns freeable R p x) ∷ Γ) G
     loose_in t p x = step (λ s. nothing t $ feq_i t (List Val) (ptr_val p ∷ []) (ptr_val p ∷ []) refl $ fjoin t $
         feq_i t (List Val) (lone p ∷ []) (lone p ∷ []) refl $ fjoin t $
-        fpack t (Valss (RawPtr ∷ [])) (within (shape (loose.the_type R)) (p, tt) (lone p ∷ [])) (ptr_val p ∷ [], tt) $ fjoin t $ s)
+        fpack t (Valss (RawPtr ∷ [])) (within (shape (loose.the_type R)) (p, tt) (lone p ∷ []))
+        (ptr_val p ∷ [], tt) $ fjoin t $ s)

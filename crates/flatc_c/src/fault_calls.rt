@@ -1,6 +1,6 @@
 //! The calls over faults: name, sentence and explanation.
 ghost use Rattle.std.specs.Prelude.{◌≡◌, ◌≢◌, ◌⊎◌, None, IsTrue, chars};
-ghost use Rattle.fb_pages.specs.Lines.{IsPage};
+ghost use Rattle.fb_explain_pages.specs.Lines.{IsPage};
 ghost use Rattle.fb_faults.specs.FaultTable.{name_of, number_of};
 ghost use Rattle.fb_faults.specs.declared.faults.ToolFault.{ToolFault};
 ghost use Rattle.flatc_c.specs.Handles.{HasBytes};

@@ -34,16 +34,22 @@ abbrev pub with_explaining : App → App
 with_explaining a = with_flag (with_flag a (codes "explain")) (codes "terse")
 
 abbrev pub binary_app : App
-binary_app = with_paths (with_path (with_rule (with_explaining (with_flag (new_app (codes "binary")) (codes "unknown-json"))) dir_rule) (codes "SCHEMA")) (codes "JSON")
+binary_app = with_paths (with_path (with_rule
+    (with_explaining (with_flag (new_app (codes "binary")) (codes "unknown-json"))) dir_rule) (codes "SCHEMA"))
+    (codes "JSON")
 
 abbrev pub json_app : App
-json_app = with_paths (with_path (with_rule (with_explaining (with_flag (with_flag (new_app (codes "json")) (codes "raw-binary")) (codes "defaults-json"))) dir_rule) (codes "SCHEMA")) (codes "BIN")
+json_app = with_paths (with_path (with_rule (with_explaining
+    (with_flag (with_flag (new_app (codes "json")) (codes "raw-binary")) (codes "defaults-json"))) dir_rule)
+    (codes "SCHEMA")) (codes "BIN")
 
 abbrev pub check_app : App
-check_app = with_rule (with_path (with_explaining (with_flag (new_app (codes "check")) (codes "raw-binary"))) (codes "SCHEMA")) (paths_rule (codes "BIN") false)
+check_app = with_rule (with_path (with_explaining (with_flag (new_app (codes "check")) (codes "raw-binary")))
+    (codes "SCHEMA")) (paths_rule (codes "BIN") false)
 
 abbrev pub conform_app : App
-conform_app = with_path (with_path (with_explaining (with_flag (new_app (codes "conform")) (codes "names"))) (codes "OLD")) (codes "NEW")
+conform_app = with_path (with_path (with_explaining (with_flag (new_app (codes "conform")) (codes "names")))
+    (codes "OLD")) (codes "NEW")
 
 abbrev pub explain_app : App
 explain_app = with_rule (new_app (codes "explain")) (path_rule (codes "NUMBER") false)
@@ -55,7 +61,9 @@ plain_app = record (new_app (codes "flatc")) {
 }
 
 abbrev pub flatc_app : App
-flatc_app = with_subcommand (with_subcommand (with_subcommand (with_subcommand (with_subcommand plain_app binary_app.top) json_app.top) check_app.top) conform_app.top) explain_app.top
+flatc_app = with_subcommand (with_subcommand (with_subcommand
+    (with_subcommand (with_subcommand plain_app binary_app.top) json_app.top) check_app.top) conform_app.top)
+    explain_app.top
 
 -- a command that clap sees as this one, none of whose arguments is global
 abbrev pub HasApp : App → Command → Type 0

@@ -18,7 +18,8 @@ pub check_is_taken : takes flatc_app check_line ≡ true
 unfolding walked walk_passes
 check_is_taken = refl
 
-pub check_is_a_job : (s : String Global) → string_bytes s ≡ codes "s" → IsRequestOf (subcommand_of flatc_app check_line) (Do (Check s None false) AtTerminal)
+pub check_is_a_job : (s : String Global) → string_bytes s ≡ codes "s"
+    → IsRequestOf (subcommand_of flatc_app check_line) (Do (Check s None false) AtTerminal)
 unfolding walked
 check_is_a_job s same = ((refl, cc, refl, refl), refl)
 
@@ -30,7 +31,8 @@ pub binary_is_taken : takes flatc_app binary_line ≡ true
 unfolding walked walk_passes
 binary_is_taken = refl
 
-pub binary_is_a_job : (s j o : String Global) → string_bytes s ≡ codes "s" → string_bytes j ≡ codes "j" → string_bytes o ≡ codes "o"
+pub binary_is_a_job : (s j o : String Global) → string_bytes s ≡ codes "s" → string_bytes j ≡ codes "j"
+    → string_bytes o ≡ codes "o"
     → IsRequestOf (subcommand_of flatc_app binary_line) (Do (Binary s j o true) Always)
 unfolding walked
 binary_is_a_job s j o schema json out = ((refl, cc, cc, refl, refl), refl)
@@ -60,7 +62,8 @@ pub explain_is_taken : takes flatc_app explain_line ≡ true
 unfolding walked walk_passes
 explain_is_taken = refl
 
-pub explain_asks_for_a_number : (n : String Global) → string_bytes n ≡ codes "n" → IsRequestOf (subcommand_of flatc_app explain_line) (Explain (Some n))
+pub explain_asks_for_a_number : (n : String Global) → string_bytes n ≡ codes "n"
+    → IsRequestOf (subcommand_of flatc_app explain_line) (Explain (Some n))
 unfolding walked
 explain_asks_for_a_number n same = (refl, cc)
 

@@ -109,7 +109,8 @@ first_text id rows = unwrap_or (first_of id rows) []
 abbrev pub inputs_in : Text → List Row → List Text
 inputs_in name rows =
     if bytes_eq name (codes "binary") then
-    first_text (codes "SCHEMA") rows ∷ (if has_dir rows then paths_in (codes "JSON") rows else take 1 (paths_in (codes "JSON") rows))
+    first_text (codes "SCHEMA") rows ∷ (if has_dir rows then paths_in (codes "JSON") rows else take 1
+    (paths_in (codes "JSON") rows))
     else if bytes_eq name (codes "json") then first_text (codes "SCHEMA") rows ∷ paths_in (codes "BIN") rows
     else if bytes_eq name (codes "check") then first_text (codes "SCHEMA") rows ∷ paths_in (codes "BIN") rows
     else if bytes_eq name (codes "conform") then first_text (codes "OLD") rows ∷ first_text (codes "NEW") rows ∷ []

@@ -59,7 +59,8 @@ JsonIsCarried = (schema json : List ℕ) (most : Bounds) (unknown : Bool) (b : B
     → CarriesValue schema b most L v
 
 -- Where JSON means no value, it has a first fault; no buffer is made of it, and no other fault is reported.
-pub record NoneIsMeant (schema json : List ℕ) (most : Bounds) (unknown : Bool) (L : LaidSchema) (t : Data) : Type 0 where
+pub record NoneIsMeant (schema json : List ℕ) (most : Bounds) (unknown : Bool) (L : LaidSchema)
+    (t : Data) : Type 0 where
   pub fault : JsonFault
   pub first : IsFirst L most unknown t fault
   pub no_buffer : (b : Bytes) → ¬ IsBinary schema json most unknown b

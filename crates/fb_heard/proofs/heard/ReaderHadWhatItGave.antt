@@ -1,5 +1,6 @@
 -- What a part of a reader's known bytes says of all of them.
-use Rattle.std.proofs.Common.{◌≡◌, ℕ, ◌<◌, ◌≤◌, ◌+◌, List, [], ◌++◌, length, take, drop, IfSome, Option, None, Some, Bool}
+use Rattle.std.proofs.Common.{◌≡◌, ℕ, ◌<◌, ◌≤◌, ◌+◌, List, [], ◌++◌, length, take, drop, IfSome, Option, None, Some}
+use Rattle.std.proofs.Common.{Bool}
 use Rattle.std.proofs.Common.{true, false, refl, sym, ap, subst, ◌∙◌, length-append, arith}
 use Rattle.std.specs.Prelude.{IsTrue}
 use Rattle.std.specs.Io.KnownBytes.{Consumes, IsAtEnd}
@@ -16,7 +17,8 @@ had_all (Some xs) (Some ys) bs most h more = let e : length xs ≡ length bs + l
 
 take_add : (xs : List ℕ) (a n : ℕ) → take (a + n) xs ≡ take a xs ++ take n (drop a xs)
 take_add xs a n =
-    let whole : take a (take (a + n) xs) ++ drop a (take (a + n) xs) ≡ take (a + n) xs = take-append-drop a (take (a + n) xs) in
+    let whole : take a (take (a + n) xs) ++ drop a (take (a + n) xs) ≡ take (a + n) xs =
+    take-append-drop a (take (a + n) xs) in
     sym (rw (take-take a (a + n) xs (omega arith), drop-take a n xs) at whole)
 
 -- what is filled once more is what was, and then what the read brought

@@ -21,7 +21,8 @@ use Rattle.fb_json.specs.EnumTexts.{has_flags}
 use Rattle.fb_text.specs.Texts.{in_quotes, is_odd, bit_text, bits_text, bits_of, are_flags, flags_text, enum_text}
 use Rattle.fb_text.specs.Texts.{number_text, line, closing, inside, is_printed, member_line, member_name, code_text}
 use Rattle.fb_text.specs.Texts.{has_code, entry_text, value_text, items_text, parts_text, members_text, json_text}
-use Rattle.fb_text.proofs.laws.NamesAreUtf8.{FieldsUtf8, BodyUtf8, NameUtf8, or_nothing, slots_utf8, parts_utf8, member_utf8}
+use Rattle.fb_text.proofs.laws.NamesAreUtf8.{FieldsUtf8, BodyUtf8, NameUtf8, or_nothing, slots_utf8, parts_utf8}
+use Rattle.fb_text.proofs.laws.NamesAreUtf8.{member_utf8}
 use Rattle.fb_text.proofs.laws.NamesAreUtf8.{numbered_utf8}
 use Rattle.fb_json.proofs.texts.ValueTextsAreUtf8.{HasUtf8, HaveUtf8, EntriesHaveUtf8}
 

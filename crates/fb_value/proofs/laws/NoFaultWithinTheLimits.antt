@@ -14,7 +14,8 @@ use Rattle.fb_value.specs.Lies.{LiesInline, LiesParts, Element, Lies, LiesItems,
 use Rattle.fb_value.specs.Bounds.{Bounds}
 use Rattle.fb_value.specs.Faults.{all, limited_fault, first_fault, levels, fault_from}
 use Rattle.fb_value.proofs.rules.ComputedFaultIsTheLeast.{Enough, enough_below, levels_enough}
-use Rattle.fb_value.proofs.reached.CellsAreThoseReached.{text_length, behind_cells, part_cells, element_size, inline_cells}
+use Rattle.fb_value.proofs.reached.CellsAreThoseReached.{text_length, behind_cells, part_cells, element_size}
+use Rattle.fb_value.proofs.reached.CellsAreThoseReached.{inline_cells}
 use Rattle.fb_value.proofs.laws.NamedPlacesWithinTheLimits.{IsWithin, Sure, table_limits, cell_limits, place_fault}
 use Rattle.fb_value.proofs.laws.NamedPlacesWithinTheLimits.{behind_sure, quiet, AmongSure, EnoughFor, later_enough}
 use Rattle.fb_value.proofs.laws.NamedPlacesWithinTheLimits.{more_sure, absent_sure, present_sure, slots_sure_nil}

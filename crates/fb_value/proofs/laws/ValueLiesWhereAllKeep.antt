@@ -15,7 +15,8 @@ use Rattle.fb_value.specs.Lies.{LiesAt}
 use Rattle.fb_value.specs.Reads.{unless, ◌>>=◌, parts_at, inline_at, through, element_at, items_at, entry_at, slot_at}
 use Rattle.fb_value.specs.Reads.{slots_at, datum_at}
 use Rattle.fb_value.specs.Reached.{Names, AllKeep}
-use Rattle.fb_value.proofs.types.StoredKindsAreResolved.{LowerParts, IsElement, IsStored, AreStored, IsResolved, IsInline}
+use Rattle.fb_value.proofs.types.StoredKindsAreResolved.{LowerParts, IsElement, IsStored, AreStored, IsResolved}
+use Rattle.fb_value.proofs.types.StoredKindsAreResolved.{IsInline}
 use Rattle.fb_value.proofs.types.StoredKindsAreResolved.{IsTarget, IsGood}
 use Rattle.fb_value.proofs.rules.RulesHoldOneByOne.{rule_held}
 use Rattle.fb_value.proofs.reached.StepsLeadForward.{steps_up, if_there, same_place}

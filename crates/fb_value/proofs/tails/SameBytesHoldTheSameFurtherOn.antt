@@ -20,7 +20,8 @@ use Rattle.fb_value.specs.Lies.{LiesInline, LiesParts, BehindBy, IsCodeBy, Absen
 use Rattle.fb_value.specs.Lies.{ElementBy, LiesBy, LiesItemsBy, LiesSlotsBy}
 use Rattle.fb_value.specs.EachTable.{EachNamed, EachElement, EachTable, EachItem, EachEntry, EachTableAt}
 use Rattle.fb_value.proofs.rules.RulesHoldOneByOne.{rule_held, hold, no_rules}
-use Rattle.fb_value.proofs.tails.SameBytesReadTheSameFurtherOn.{moved, still_inside, number_moved, number_from, vtable_moved}
+use Rattle.fb_value.proofs.tails.SameBytesReadTheSameFurtherOn.{moved, still_inside, number_moved, number_from}
+use Rattle.fb_value.proofs.tails.SameBytesReadTheSameFurtherOn.{vtable_moved}
 use Rattle.fb_value.proofs.tails.SameBytesReadTheSameFurtherOn.{slot_moved, missing_moved, all_named}
 
 six : (a b c d e f : Bool) → (a && b && c && d && e && f) ≡ true

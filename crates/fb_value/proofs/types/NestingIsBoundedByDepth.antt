@@ -13,7 +13,8 @@ use Rattle.fb_value.specs.Counts.{depth, parts_depth, entries_depth, nesting, pa
 use Rattle.fb_value.specs.Counts.{entries_nesting}
 use Rattle.fb_value.specs.Fits.{Fits, PartsFit, EachFits, EntriesFit, kind_of_type, FitsKind, FitsRoot}
 use Rattle.fb_value.specs.Laws.{NestingOfDepth}
-use Rattle.fb_value.proofs.types.StoredKindsAreResolved.{LowerParts, IsElement, IsStored, AreStored, IsResolved, resolved}
+use Rattle.fb_value.proofs.types.StoredKindsAreResolved.{LowerParts, IsElement, IsStored, AreStored, IsResolved}
+use Rattle.fb_value.proofs.types.StoredKindsAreResolved.{resolved}
 
 -- a type that stands where none does
 no_type : DeclaredType

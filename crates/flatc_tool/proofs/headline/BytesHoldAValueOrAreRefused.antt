@@ -48,7 +48,12 @@ module _ (laws : LayerLaws) (schema : List ℕ) (b : Bytes) (most : Bounds) (raw
       → TextAnswer schema b most raw defaults r → IsTextOrMemory (json_text L defaults v) r
   text_answer whole defaults (Ok text) is = one_text defaults text is
   text_answer whole defaults (Err f) answer =
-      λ rule. answer.1 rule (record { layout = L; accepted = accepted; has = record { value = v; holds = holds; whole = whole } })
+      λ rule. answer.1 rule (record {
+        layout = L;
+        accepted = accepted;
+        has =
+            record { value = v; holds = holds; whole = whole };
+      })
 
   pub there : is_whole v ≡ true → HoldsAndPrints schema b most raw L v
   there whole = record { holds = holds; printed = text_answer whole }
@@ -124,7 +129,8 @@ module _ (laws : LayerLaws) (schema : List ℕ) (b : Bytes) (most : Bounds) (raw
     (accepted : IsAccepted schema L) (none : (v : Datum) → ¬ Holds L most raw b v) where
   none_under : (K : LaidSchema) → IsAccepted schema K → (v : Datum) → Holds K most raw b v → ⊥
   none_under K other v holds =
-      none v (subst (λ (M : LaidSchema). Holds M most raw b v) (same_accepted laws.schema schema K L other accepted) holds)
+      none v (subst (λ (M : LaidSchema). Holds M most raw b v)
+      (same_accepted laws.schema schema K L other accepted) holds)
 
   module _ (fault : ReadFault) (least : IsLeastFault L most raw b fault) where
     same_fault : (f : ReadFault) (K : LaidSchema) → IsAccepted schema K → IsLeastFault K most raw b f

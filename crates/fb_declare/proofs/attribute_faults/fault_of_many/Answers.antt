@@ -10,9 +10,12 @@ loop-attribute-preserved c =
     let i = c.loop-attribute.attribute-index in
     let a = c.attribute-item.result in
     let text : c.name.inside.text.now ≡ a.name.bytes = grind rules in
-    let met = rw text at (c.in_ok-again.ensures (map (λ b. b.name.bytes) (take i attributes)) c.loop-attribute.invariant.met) in
+    let met = rw text at (c.in_ok-again.ensures (map (λ b. b.name.bytes) (take i attributes))
+    c.loop-attribute.invariant.met) in
     record {
       least = rw (c.earlier-least.ensures, c.attribute_fault.ensures, met.0, c.loop-attribute.invariant.least)
-          (least_more (attribute_behind (is_met c.args.declared.now) c.args.host) attributes i a c.loop-attribute-test.true c.attribute-item.is);
-      met = subst (AreMet c.meet.new.self) (sym (map-taken (λ b. b.name.bytes) attributes i a c.loop-attribute-test.true c.attribute-item.is)) met.1;
+          (least_more (attribute_behind (is_met c.args.declared.now) c.args.host) attributes i a
+          c.loop-attribute-test.true c.attribute-item.is);
+      met = subst (AreMet c.meet.new.self) (sym (map-taken
+          (λ b. b.name.bytes) attributes i a c.loop-attribute-test.true c.attribute-item.is)) met.1;
     }

@@ -17,8 +17,11 @@ use Rattle.fb_declare.proofs.enums.values_fault.Goals as goal
 
 pub bounds-repeats-place : goal.bounds-repeats-place
 bounds-repeats-place c =
-    (told_among name_of_value c.as_slice-repeats.result.now c.as_slice-values.result.now c.loop-place.place c.index-values-place.result
-    (c.as_slice-repeats.ensures.value ∙ c.of_enum.invariant.1 ∙ ap (repeated_names name_of_value) (sym c.as_slice-values.ensures.value)) c.loop-place-test.true c.index-values-place.is).0
+    (told_among name_of_value c.as_slice-repeats.result.now c.as_slice-values.result.now c.loop-place.place
+    c.index-values-place.result
+    (c.as_slice-repeats.ensures.value ∙ c.of_enum.invariant.1
+    ∙ ap (repeated_names name_of_value) (sym c.as_slice-values.ensures.value)) c.loop-place-test.true
+    c.index-values-place.is).0
 
 pub loop-place-preserved : goal.loop-place-preserved
 loop-place-preserved c =
@@ -29,24 +32,39 @@ loop-place-preserved c =
     let v = c.index-values-place.result in
     let h = c.loop-place-test.true in
     let e = c.index-values-place.is in
-    let named_again = (told_among name_of_value c.as_slice-repeats.result.now values i v (c.as_slice-repeats.ensures.value ∙ c.of_enum.invariant.1 ∙ ap (repeated_names name_of_value) (sym c.as_slice-values.ensures.value)) h e).1 in
+    let named_again = (told_among name_of_value c.as_slice-repeats.result.now values i v
+    (c.as_slice-repeats.ensures.value ∙ c.of_enum.invariant.1
+    ∙ ap (repeated_names name_of_value) (sym c.as_slice-values.ensures.value)) h e).1 in
     let m = v.number in
     let keys = c.loop-place.numbers.keys in
     let number : c.resolved.inside.number ≡ m = grind rules in
     let own : FitsSigned w128 c.resolved.inside.number = grind rules in
     let fits : FitsSigned w128 m = grind rules in
     let name_faults = when (is_again bytes_eq name_of_value (take i values) v) (DuplicateName v.value.name.at) in
-    let number_faults = when (is_out_of_range base flags m || is_again int_eq (λ v. v.number) (take i values) v) (BadEnumValue v.value.name.at) in
-    let again : not c.in_ok-is_new.is_new ≡ list_any (int_eq m) keys = rw (c.in_ok-is_new.ensures.added, not-not, to_z-of_z w128 c.resolved.inside.number own, number) refl in
+    let number_faults = when (is_out_of_range base flags m || is_again int_eq (λ v. v.number) (take i values) v)
+    (BadEnumValue v.value.name.at) in
+    let again : not c.in_ok-is_new.is_new ≡ list_any (int_eq m) keys =
+    rw (c.in_ok-is_new.ensures.added, not-not, to_z-of_z w128 c.resolved.inside.number own, number) refl in
     let at : c.name.inside.at ≡ v.value.name.at = grind rules in
     let bad_name : c.when-bad_name.result ≡ least_of name_faults = rw (c.when-bad_name.ensures, named_again, at) refl in
-    let bad_number : c.when-bad_number.result ≡ least_of number_faults = grind (rules, again, c.loop-place.invariant.numbers m) in
+    let bad_number : c.when-bad_number.result ≡ least_of number_faults =
+    grind (rules, again, c.loop-place.invariant.numbers m) in
     record {
-      least = rw (c.earlier-least.ensures, c.earlier.ensures, bad_name, bad_number, c.loop-place.invariant.least, ← least_of_append name_faults number_faults)
+      least = rw (
+        c.earlier-least.ensures,
+        c.earlier.ensures,
+        bad_name,
+        bad_number,
+        c.loop-place.invariant.least,
+        ← least_of_append name_faults number_faults,
+      )
           (least_more (value_faults base flags) values i v h e);
       numbers = λ n.
           let met = list_any (int_eq n) keys in
-          let more : list_any (int_eq n) c.insert.new.self.keys ≡ cond (int_eq m n) true met = grind (rules, c.in_ok-is_new.ensures.updates.0 n, to_z-of_z w128 m fits) in
+          let more : list_any (int_eq n) c.insert.new.self.keys ≡ cond (int_eq m n) true met =
+          grind (rules, c.in_ok-is_new.ensures.updates.0 n, to_z-of_z w128 m fits) in
           more ∙ one_more (int_eq m n) met ∙ ap (λ b. met || b) (int_eq_equiv.symm m n)
-          ∙ ap (λ b. b || int_eq n m) (c.loop-place.invariant.numbers n) ∙ sym (ap (list_any (int_eq n)) (map-taken (λ v. v.number) values i v h e) ∙ list_any-snoc (int_eq n) (map (λ v. v.number) (take i values)) m);
+          ∙ ap (λ b. b || int_eq n m) (c.loop-place.invariant.numbers n)
+          ∙ sym (ap (list_any (int_eq n)) (map-taken (λ v. v.number) values i v h e)
+          ∙ list_any-snoc (int_eq n) (map (λ v. v.number) (take i values)) m);
     }

@@ -8,5 +8,6 @@ use Rattle.fb_declare.proofs.enums.values_fault.Given as goal
 abbrev pub invariant-loop-place : goal.invariant-loop-place
 invariant-loop-place l = record {
   least : l.least ≡ least_of (faults_in_turn (value_faults l.base l.flags) (take l.place l.values));
-  numbers : (n : ℤ) → list_any (int_eq n) l.numbers.keys ≡ list_any (int_eq n) (map (λ v. v.number) (take l.place l.values));
+  numbers : (n : ℤ) → list_any (int_eq n) l.numbers.keys ≡ list_any (int_eq n)
+      (map (λ v. v.number) (take l.place l.values));
 }

@@ -29,5 +29,6 @@ loop-field-preserved c =
         ← least_of_append (faults_behind (name_again r.field.name.at) before (names r)) (field_faults declared host r),
       )
           (least_more (field_behind declared host) fields i r h e);
-      met = subst (AreMet c.names_fault.new.met) (flat_map_more names [] (take i fields) r ∙ ap (flat_map names) (sym (taken fields i r h e))) told.1;
+      met = subst (AreMet c.names_fault.new.met) (flat_map_more names [] (take i fields) r
+          ∙ ap (flat_map names) (sym (taken fields i r h e))) told.1;
     }

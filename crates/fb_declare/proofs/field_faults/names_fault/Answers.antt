@@ -12,16 +12,21 @@ use Rattle.fb_declare.specs.NameSet.{AreMet}
 use Rattle.fb_declare.specs.TypeFaults.{names_of_field}
 use Rattle.fb_declare.proofs.Least.{least_of_append}
 use Rattle.fb_declare.proofs.field_faults.names_fault.Goals as goal
-use Rattle.fb_declare.proofs.field_faults.names_fault.Goals.{in-Table-Some+in_ok-code_again-in-Table-Some, in_default, in_default-2}
+use Rattle.fb_declare.proofs.field_faults.names_fault.Goals.{in-Table-Some+in_ok-code_again-in-Table-Some, in_default}
+use Rattle.fb_declare.proofs.field_faults.names_fault.Goals.{in_default-2}
 
-one : (at : ℕ) (before : List Name) (n : Name) → least_of (faults_behind (name_again at) before (n ∷ [])) ≡ least_of (name_again at before n)
+one : (at : ℕ) (before : List Name) (n : Name)
+    → least_of (faults_behind (name_again at) before (n ∷ [])) ≡ least_of (name_again at before n)
 one at before n = ap least_of (append-nil (name_again at before n))
 
 two : (at : ℕ) (before : List Name) (m n : Name)
-    → least_of (faults_behind (name_again at) before (m ∷ n ∷ [])) ≡ earlier (least_of (name_again at before m)) (least_of (name_again at (before ++ m ∷ []) n))
-two at before m n = ap (λ fs. least_of (name_again at before m ++ fs)) (append-nil (name_again at (before ++ m ∷ []) n)) ∙ least_of_append (name_again at before m) (name_again at (before ++ m ∷ []) n)
+    → least_of (faults_behind (name_again at) before (m ∷ n ∷ [])) ≡ earlier (least_of (name_again at before m))
+    (least_of (name_again at (before ++ m ∷ []) n))
+two at before m n = ap (λ fs. least_of (name_again at before m ++ fs)) (append-nil (name_again at (before ++ m ∷ []) n))
+    ∙ least_of_append (name_again at before m) (name_again at (before ++ m ∷ []) n)
 
-names_by : (r : ResolvedField) (u : Option TypeId) → union_in r ≡ u → names_of (slots_of_field r 0) ≡ names_of (slots_by_union r u 0)
+names_by : (r : ResolvedField) (u : Option TypeId) → union_in r ≡ u
+    → names_of (slots_of_field r 0) ≡ names_of (slots_by_union r u 0)
 unfolding slots_of_field
 names_by r u e = ap (λ u. names_of (slots_by_union r u 0)) e
 
@@ -32,7 +37,8 @@ returns c = λ before met.
     let at = r.field.name.at in
     let text : c.name.inside.text.now ≡ n = grind rules in
     let place : c.name.inside.at ≡ at = grind rules in
-    let Told = λ (ns : List Name). (c.earlier.result ≡ least_of (faults_behind (name_again at) before ns)) × AreMet c.meet-2.new.self (before ++ ns) in
+    let Told = λ (ns : List Name). (c.earlier.result ≡ least_of (faults_behind (name_again at) before ns))
+    × AreMet c.meet-2.new.self (before ++ ns) in
     let union : option_map (λ x. x.union) c.resolved.inside.code ≡ union_in r = grind rules in
     let alone : c.match-host.code_again ≡ false → c.match-host.met ≡ c.args.met.now → Told (n ∷ []) = λ none same.
     let last = rw text at (c.in_ok-again.ensures before (subst (λ s. AreMet s before) (sym same) met)) in
@@ -43,11 +49,25 @@ returns c = λ before met.
           let m = name_of_code n in
           let code : w.as_str.result.now ≡ m = grind rules in
           let first = rw code at (w.in_ok-code_again-in-Table-Some.ensures before met) in
-          let last = rw text at (c.in_ok-again.ensures (before ++ m ∷ []) (subst (λ s. AreMet s (before ++ m ∷ [])) (sym w.met-is) first.1)) in
-          subst Told (sym (ap (λ h. names_of_field h r) x.is-0 ∙ names_by r (Some x.code.union) (sym union ∙ ap (option_map (λ x. x.union)) x.is-1))) (
-            rw (c.earlier.ensures, c.when.ensures, c.when-2.ensures, w.code_again-is, first.0, last.0, place, two at before m n),
+          let last = rw text at (c.in_ok-again.ensures (before ++ m ∷ [])
+          (subst (λ s. AreMet s (before ++ m ∷ [])) (sym w.met-is) first.1)) in
+          subst Told (sym (ap (λ h. names_of_field h r) x.is-0
+          ∙ names_by r (Some x.code.union) (sym union ∙ ap (option_map (λ x. x.union)) x.is-1))) (
+            rw (
+              c.earlier.ensures,
+              c.when.ensures,
+              c.when-2.ensures,
+              w.code_again-is,
+              first.0,
+              last.0,
+              place,
+              two at before m n,
+            ),
             subst (AreMet c.meet-2.new.self) (append_assoc before (m ∷ []) (n ∷ [])) last.1,
           )
-      | in_default w ↦ subst Told (sym (ap (λ h. names_of_field h r) w.in_default.is-0 ∙ names_by r None (sym union ∙ ap (option_map (λ x. x.union)) w.in_default.is-1))) (alone w.code_again-is w.met-is)
-      | in_default-2 w ↦ subst Told (sym (ap (λ h. names_of_field h r) w.in_default.is-0)) (alone w.code_again-is w.met-is)
+      | in_default w ↦ subst Told (sym (ap (λ h. names_of_field h r) w.in_default.is-0
+          ∙ names_by r None (sym union ∙ ap (option_map (λ x. x.union)) w.in_default.is-1)))
+          (alone w.code_again-is w.met-is)
+      | in_default-2 w ↦ subst Told (sym (ap (λ h. names_of_field h r) w.in_default.is-0))
+          (alone w.code_again-is w.met-is)
     ]

@@ -11,10 +11,13 @@ loop-name-preserved c =
     let i = c.loop-name.name-index in
     let none : Bor (List ℕ) = record { ref_ptr = (0, 0); now = [] } in
     let name = get_or names i none in
-    subst (AreMet c.meet.new.self) (sym (map-taken (λ n. n.now) names i name c.loop-name-test.true (get_or_default names i none name c.loop-name-test.true))) (c.in_ok-meet.ensures (map (λ n. n.now) (take i names)) c.loop-name.invariant).1
+    subst (AreMet c.meet.new.self) (sym (map-taken (λ n. n.now) names i name c.loop-name-test.true
+    (get_or_default names i none name c.loop-name-test.true)))
+    (c.in_ok-meet.ensures (map (λ n. n.now) (take i names)) c.loop-name.invariant).1
 
 pub returns : goal.returns
 returns c =
     let names = c.args.names.now in
     let i = c.loop-name.name-index in
-    subst (λ ns. AreMet c.loop-name.met (map (λ n. n.now) ns)) (take_all i names (omega (arith, c.loop-name-test.false))) c.loop-name.invariant
+    subst (λ ns. AreMet c.loop-name.met (map (λ n. n.now) ns))
+    (take_all i names (omega (arith, c.loop-name-test.false))) c.loop-name.invariant

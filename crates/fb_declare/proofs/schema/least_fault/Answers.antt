@@ -16,7 +16,16 @@ returns c =
     let gs = root_faults o.text_len o.root (meaning_of_root o.types o.root) in
     let hs = identifier_faults o.identifier in
     let told : c.in_ok-in_types.in_types ≡ least_of fs = c.in_ok-in_types.ensures
-    ∙ (λ i. least_of (faults_in_turn (type_behind o.types (λ n. (c.in_ok-declared.ensures n ∙ ap (is_among n) names) i)) (r.meant i))) in
+    ∙ (λ i. least_of (faults_in_turn (type_behind o.types (λ n. (c.in_ok-declared.ensures n ∙ ap (is_among n) names) i))
+    (r.meant i))) in
     let root : c.root_fault-root.result ≡ least_of gs = grind rules in
     let identifier : c.identifier_fault-identifier.result ≡ least_of hs = grind rules in
-    rw (c.earlier-2.ensures, c.earlier.ensures, told, root, identifier, ← least_of_append fs gs, ← least_of_append (fs ++ gs) hs) refl
+    rw (
+      c.earlier-2.ensures,
+      c.earlier.ensures,
+      told,
+      root,
+      identifier,
+      ← least_of_append fs gs,
+      ← least_of_append (fs ++ gs) hs,
+    ) refl

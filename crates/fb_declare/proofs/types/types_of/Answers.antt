@@ -1,4 +1,5 @@
-use Rattle.std.proofs.Common.{rules, arith, refl, ◌≡◌, ◌++◌, ◌∷◌, ◌∙◌, [], suc, length, map, subst, sym, ap, append_assoc}
+use Rattle.std.proofs.Common.{rules, arith, refl, ◌≡◌, ◌++◌, ◌∷◌, ◌∙◌, [], suc, length, map, subst, sym, ap}
+use Rattle.std.proofs.Common.{append_assoc}
 use Rattle.std.specs.List.{AllZip}
 use Rattle.std.proofs.lemmas.List.{append-nil, map-append, nil_from_length}
 use Rattle.fb_schema.specs.Seen.{type_seen}
@@ -14,17 +15,20 @@ loop-read-preserved c =
     let type = type_seen c.in_ok-type_of.field-0 in
     let split = c.in-Some.ensures.steps.0 in
     let pushed : map type_seen c.push_reserved.new.self.items ≡ types ++ type ∷ [] =
-    ap (map type_seen) c.push_reserved.ensures.items ∙ map-append type_seen c.loop-read.made.items (c.in_ok-type_of.field-0 ∷ []) in
+    ap (map type_seen) c.push_reserved.ensures.items
+    ∙ map-append type_seen c.loop-read.made.items (c.in_ok-type_of.field-0 ∷ []) in
     record {
       room = grind (arith, c.loop-read.invariant.room);
       left = λ t r e. subst AreBuildable split c.loop-read.invariant.left (suc t) r e;
       so_far = λ later zip. subst (AllZip IsType c.args.resolved.items)
           (sym (ap (λ ts. ts ++ later) pushed ∙ append_assoc types (type ∷ []) later))
-          (c.loop-read.invariant.so_far (type ∷ later) (subst (λ rs. AllZip IsType rs (type ∷ later)) (sym split) (c.in_ok-type_of.ensures, zip)));
+          (c.loop-read.invariant.so_far (type ∷ later) (subst (λ rs. AllZip IsType rs (type ∷ later)) (sym split)
+          (c.in_ok-type_of.ensures, zip)));
     }
 
 pub returns : goal.returns
 returns c =
     let left : length c.loop-read.read-iterator.rest.items ≡ 0 = search (rules, c.in-None.ensures.steps.0) in
     subst (AllZip IsType c.args.resolved.items) (append-nil (map type_seen c.loop-read.made.items))
-    (c.loop-read.invariant.so_far [] (subst (λ rs. AllZip IsType rs []) (sym (nil_from_length c.loop-read.read-iterator.rest.items left)) tt))
+    (c.loop-read.invariant.so_far [] (subst (λ rs. AllZip IsType rs [])
+    (sym (nil_from_length c.loop-read.read-iterator.rest.items left)) tt))

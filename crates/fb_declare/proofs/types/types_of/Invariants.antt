@@ -9,5 +9,6 @@ abbrev pub invariant-loop-read : goal.invariant-loop-read
 invariant-loop-read l = record {
   room : vec_len l.made + length l.read-iterator.rest.items ≤ vec_capacity l.made;
   left : AreBuildable l.read-iterator.rest.items;
-  so_far : (later : List DeclaredType) → AllZip IsType l.read-iterator.rest.items later → AllZip IsType l.fn.resolved.items (map type_seen l.made.items ++ later);
+  so_far : (later : List DeclaredType) → AllZip IsType l.read-iterator.rest.items later
+      → AllZip IsType l.fn.resolved.items (map type_seen l.made.items ++ later);
 }

@@ -13,9 +13,15 @@ loop-number-preserved c =
     let h = c.loop-number-test.true in
     let e = c.index-members-number.is in
     let text : c.as_str.result.now ≡ m.name.bytes = grind rules in
-    let met = rw text at (c.in_ok-again.ensures (map (λ m. m.name.bytes) (take i members)) c.loop-number.invariant.met) in
+    let met = rw text at (c.in_ok-again.ensures (map (λ m. m.name.bytes) (take i members)) c.loop-number.invariant.met)
+    in
     record {
-      least = rw (c.earlier-least.ensures, c.member_fault.ensures (take i members) (length-take-le i members (omega (arith, h))) (sym met.0), c.loop-number.invariant.least)
+      least = rw (
+        c.earlier-least.ensures,
+        c.member_fault.ensures (take i members)
+            (length-take-le i members (omega (arith, h))) (sym met.0),
+        c.loop-number.invariant.least,
+      )
           (least_more member_faults members i m h e);
       met = subst (AreMet c.meet.new.self) (sym (map-taken (λ m. m.name.bytes) members i m h e)) met.1;
     }

@@ -13,7 +13,8 @@ pub returns-in-Ok-read_behind-clause-long : goal.returns-in-Ok-read_behind-claus
 returns-in-Ok-read_behind-clause-long g c = λ same.
     let n = c.in-Ok-read_behind.n in
     let all = taken_more _ _ _ c.loop.found.items c.read_behind.new.found.items c.loop.filled n
-    (c.read_behind.ensures.front ∙ c.make_room.ensures.front) c.loop.invariant.given c.in-Ok-read_behind.ensures.bytes in
+    (c.read_behind.ensures.front ∙ c.make_room.ensures.front) c.loop.invariant.given c.in-Ok-read_behind.ensures.bytes
+    in
     had_more _ _ c.read_behind.new.found.items (c.loop.filled + n) c.args.most all c.in-Ok-read_behind.ensures.fits
     (omega arith)
 
@@ -24,5 +25,6 @@ loop-preserved g c = record {
   room = c.in-Ok-read_behind.ensures.fits;
   calm = no_failure _ c.in-Ok-read_behind.ensures.failed.0;
   given = taken_more _ _ _ c.loop.found.items c.read_behind.new.found.items c.loop.filled c.in-Ok-read_behind.n
-      (c.read_behind.ensures.front ∙ c.make_room.ensures.front) c.loop.invariant.given c.in-Ok-read_behind.ensures.bytes;
+      (c.read_behind.ensures.front ∙ c.make_room.ensures.front) c.loop.invariant.given
+      c.in-Ok-read_behind.ensures.bytes;
 }

@@ -1,4 +1,5 @@
-use Rattle.std.proofs.Common.{List, sym, arith, ◌≡◌, ◌∷◌, [], None, take, map, FitsSigned, rules, refl, Bool, Some, cond, ◌+◌, ap, ◌∙◌, true, false, ℤ, Option, ◌++◌}
+use Rattle.std.proofs.Common.{List, sym, arith, ◌≡◌, ◌∷◌, [], None, take, map, FitsSigned, rules, refl, Bool, Some}
+use Rattle.std.proofs.Common.{cond, ◌+◌, ap, ◌∙◌, true, false, ℤ, Option, ◌++◌}
 use Rattle.std.specs.Int.{w128}
 use Rattle.std.specs.List.{find, list_any}
 use Rattle.std.specs.Option.{is_some, option_or, option_map}
@@ -19,7 +20,8 @@ named_again base flags [] name = refl
 named_again base flags (v ∷ vs) name = grind (arith, common_steps, named_again base flags vs name)
 
 -- the number of a name among one value more
-named_more : (vs : List (Name × ℤ)) (v : Name × ℤ) (name : Name) → number_named (vs ++ v ∷ []) name ≡ option_or (number_named vs name) (cond (bytes_eq name v.0) (Some v.1) None)
+named_more : (vs : List (Name × ℤ)) (v : Name × ℤ) (name : Name)
+    → number_named (vs ++ v ∷ []) name ≡ option_or (number_named vs name) (cond (bytes_eq name v.0) (Some v.1) None)
 unfolding number_named
 named_more [] v name = by (bytes_eq name v.0)
   where
@@ -31,8 +33,11 @@ named_more (w ∷ vs) v name = by (bytes_eq name w.0) (named_more vs v name)
     rest : Option (Name × ℤ)
     rest = find (λ u. bytes_eq name u.0) (vs ++ v ∷ [])
 
-    by : (b : Bool) → option_map (λ (u : Name × ℤ). u.1) rest ≡ option_or (number_named vs name) (cond (bytes_eq name v.0) (Some v.1) None)
-        → option_map (λ (u : Name × ℤ). u.1) (cond b (Some w) rest) ≡ option_or (option_map (λ (u : Name × ℤ). u.1) (cond b (Some w) (find (λ u. bytes_eq name u.0) vs))) (cond (bytes_eq name v.0) (Some v.1) None)
+    by : (b : Bool) → option_map (λ (u : Name × ℤ). u.1) rest ≡ option_or (number_named vs name)
+        (cond (bytes_eq name v.0) (Some v.1) None)
+        → option_map (λ (u : Name × ℤ). u.1) (cond b (Some w) rest) ≡ option_or
+        (option_map (λ (u : Name × ℤ). u.1) (cond b (Some w) (find (λ u. bytes_eq name u.0) vs)))
+        (cond (bytes_eq name v.0) (Some v.1) None)
     by true h = refl
     by false h = h
 
@@ -50,16 +55,25 @@ loop-resolved-preserved c =
       room = omega arith;
       repeats =
           let again : c.in_ok-note_number.field-0 ≡ list_any (bytes_eq name) (map name_of_value (take i values)) =
-          grind (arith, rules, c.loop-resolved.invariant.numbers name, named_again c.args.base c.args.flags (take i values) name) in
+          grind (
+            arith,
+            rules,
+            c.loop-resolved.invariant.numbers name,
+            named_again c.args.base c.args.flags (take i values) name,
+          ) in
           grind (arith, common_steps, again, c.loop-resolved.invariant.repeats);
       numbers = λ other.
-          let more : map value (take (i + 1) values) ≡ map value (take i values) ++ value r ∷ [] = grind (arith, common_steps) in
+          let more : map value (take (i + 1) values) ≡ map value (take i values) ++ value r ∷ [] =
+          grind (arith, common_steps) in
           let same : (value r).1 ≡ number = grind rules in
           let fits : FitsSigned w128 number = search rules in
-          let noted : number_of c.note_number.new.numbers other ≡ option_or (number_of old other) (cond (bytes_eq other name) (Some number) None) =
+          let noted : number_of c.note_number.new.numbers other ≡ option_or (number_of old other)
+          (cond (bytes_eq other name) (Some number) None) =
           grind (arith, rules, c.in_ok-note_number.ensures.numbers other, to_z-of_z w128 number fits) in
           noted
-          ∙ ap (λ o. option_or o (cond (bytes_eq other name) (Some number) None)) (c.loop-resolved.invariant.numbers other)
-          ∙ ap (λ n. option_or (number_named (map value (take i values)) other) (cond (bytes_eq other name) (Some n) None)) (sym same)
+          ∙ ap (λ o. option_or o (cond (bytes_eq other name) (Some number) None))
+          (c.loop-resolved.invariant.numbers other)
+          ∙ ap (λ n. option_or (number_named (map value (take i values)) other)
+          (cond (bytes_eq other name) (Some n) None)) (sym same)
           ∙ sym (ap (λ vs. number_named vs other) more ∙ named_more (map value (take i values)) (value r) other);
     }

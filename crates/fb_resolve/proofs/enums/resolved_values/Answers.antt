@@ -20,12 +20,15 @@ loop-value-preserved c =
     let i = c.loop-value.value-index in
     let n = c.written_number-number.result in
     let v = c.value-item.result in
-    let near : unsigned_abs n ≤ greatest_magnitude + i = c.written_number-number.ensures.near i c.loop-value.invariant.near in
+    let near : unsigned_abs n ≤ greatest_magnitude + i =
+    c.written_number-number.ensures.near i c.loop-value.invariant.near in
     let fits : FitsSigned w128 n = search rules in
     let number : to_z w128 (of_z w128 n) ≡ n = to_z-of_z w128 n fits in
-    let sum : to_z w128 (of_z w128 (n +ℤ pos 1)) ≡ n +ℤ pos 1 = to_z-of_z w128 (n +ℤ pos 1) (grind (arith, ints, near)) in
+    let sum : to_z w128 (of_z w128 (n +ℤ pos 1)) ≡ n +ℤ pos 1 =
+    to_z-of_z w128 (n +ℤ pos 1) (grind (arith, ints, near)) in
     record {
       room = omega arith;
-      so_far = rw (number, sum, c.written_number-number.ensures.number) (grind (arith, common_steps, c.loop-value.invariant.so_far));
+      so_far = rw (number, sum, c.written_number-number.ensures.number)
+          (grind (arith, common_steps, c.loop-value.invariant.so_far));
       near = rw (number, sum) (grind (arith, ints, near));
     }

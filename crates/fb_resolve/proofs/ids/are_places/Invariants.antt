@@ -5,5 +5,6 @@ use Rattle.fb_resolve.proofs.ids.are_places.Given as goal
 abbrev pub invariant-loop-number : goal.invariant-loop-number
 invariant-loop-number l = record {
   count : length l.taken.items ≡ length l.numbers;
-  marks : (k : ℕ) → k < length l.numbers → get_or l.taken.items k false ≡ list_any (λ n. k == n) (take l.number-index l.numbers);
+  marks : (k : ℕ) → k < length l.numbers → get_or l.taken.items k false ≡ list_any (λ n. k == n)
+      (take l.number-index l.numbers);
 }

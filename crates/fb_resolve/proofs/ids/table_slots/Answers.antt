@@ -11,5 +11,7 @@ returns-in_ok-sort_by_key-in-ById c =
     let fields = c.args.table.fields in
     let slots = c.loop-field.slots.items in
     let read : map field_seen slots ≡ slots_by_id fields = grind (arith, common_steps, c.loop-field.invariant) in
-    let up = IsNonDecreasingBy-from_sort_by_key (λ s. s.slot) _ c.in_ok-sort_by_key-in-ById.ensures.sorted (λ a r q k. search rules) in
-    placed_by_id fields slots c.sort_by_key.new.self.items (grind rules) c.requires read c.sort_by_key.ensures.permutation up
+    let up = IsNonDecreasingBy-from_sort_by_key (λ s. s.slot) _ c.in_ok-sort_by_key-in-ById.ensures.sorted
+    (λ a r q k. search rules) in
+    placed_by_id fields slots c.sort_by_key.new.self.items
+    (grind rules) c.requires read c.sort_by_key.ensures.permutation up

@@ -4,4 +4,5 @@ use Rattle.fb_resolve.specs.SlotsRead.{slots_by_id}
 use Rattle.fb_resolve.proofs.ids.table_slots.Given as goal
 
 abbrev pub invariant-loop-field : goal.invariant-loop-field
-invariant-loop-field l = map field_seen l.slots.items ++ slots_by_id l.field-iterator.rest.items ≡ slots_by_id l.fn.table.fields
+invariant-loop-field l = map field_seen l.slots.items
+    ++ slots_by_id l.field-iterator.rest.items ≡ slots_by_id l.fn.table.fields

@@ -10,7 +10,12 @@ use Rattle.fb_resolve.proofs.resolve.resolved_types.Goals as goal
 
 pub index-notes-requires : goal.index-notes-requires
 index-notes-requires c = let names = c.args.names.now in
-    omega (arith, AllZip-long (AreNotesOf (tree_of names.scopes) (names_of names.scopes)) names.notes.items c.args.types.now c.requires.notes, c.loop-number-test.true)
+    omega (
+      arith,
+      AllZip-long (AreNotesOf (tree_of names.scopes) (names_of names.scopes)) names.notes.items
+          c.args.types.now c.requires.notes,
+      c.loop-number-test.true,
+    )
 
 pub index-values-requires : goal.index-values-requires
 index-values-requires c = let types = c.args.types.now in
@@ -18,12 +23,16 @@ index-values-requires c = let types = c.args.types.now in
 
 pub invariant_of-scope : goal.invariant_of-scope
 invariant_of-scope c = let names = c.args.names.now in
-    let noted = zip_at (AreNotesOf (tree_of names.scopes) (names_of names.scopes)) names.notes.items c.args.types.now c.loop-number.number c.index-notes.result.now c.index-types-number.result c.requires.notes c.loop-number-test.true in
+    let noted = zip_at (AreNotesOf (tree_of names.scopes) (names_of names.scopes)) names.notes.items c.args.types.now
+    c.loop-number.number c.index-notes.result.now c.index-types-number.result c.requires.notes
+    c.loop-number-test.true in
     record { valued = c.requires.values; here = grind (rules, noted.namespace) }
 
 pub resolved_declaration-requires-clause-used : goal.resolved_declaration-requires-clause-used
 resolved_declaration-requires-clause-used c = let names = c.args.names.now in
-    let noted = zip_at (AreNotesOf (tree_of names.scopes) (names_of names.scopes)) names.notes.items c.args.types.now c.loop-number.number c.index-notes.result.now c.index-types-number.result c.requires.notes c.loop-number-test.true in
+    let noted = zip_at (AreNotesOf (tree_of names.scopes) (names_of names.scopes)) names.notes.items c.args.types.now
+    c.loop-number.number c.index-notes.result.now c.index-types-number.result c.requires.notes
+    c.loop-number-test.true in
     grind (rules, noted.uses)
 
 pub loop-number-preserved : goal.loop-number-preserved

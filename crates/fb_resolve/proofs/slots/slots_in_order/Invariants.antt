@@ -4,4 +4,6 @@ use Rattle.fb_resolve.specs.SlotsRead.{slots_in_order}
 use Rattle.fb_resolve.proofs.slots.slots_in_order.Given as goal
 
 abbrev pub invariant-loop-field : goal.invariant-loop-field
-invariant-loop-field l = map field_seen l.slots.items ++ slots_in_order (length (map field_seen l.slots.items)) l.field-iterator.rest.items ≡ slots_in_order 0 l.fn.fields.items
+invariant-loop-field l = map field_seen l.slots.items
+    ++ slots_in_order (length (map field_seen l.slots.items)) l.field-iterator.rest.items ≡ slots_in_order 0
+    l.fn.fields.items

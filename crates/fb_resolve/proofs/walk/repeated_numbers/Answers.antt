@@ -20,6 +20,12 @@ loop-number-preserved c =
     record {
       room = omega arith;
       count = simp length-set c.loop-number.invariant.count;
-      marks = λ k h. grind (arith, common_steps, nat_tests, list_any_more (λ m. k == m) ns i 0 c.loop-number-test.true, c.loop-number.invariant.marks k h);
+      marks = λ k h. grind (
+        arith,
+        common_steps,
+        nat_tests,
+        list_any_more (λ m. k == m) ns i 0 c.loop-number-test.true,
+        c.loop-number.invariant.marks k h,
+      );
       told = grind (arith, common_steps, told, take_more ns i 0 c.loop-number-test.true);
     }

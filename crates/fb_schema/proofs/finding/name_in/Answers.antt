@@ -1,4 +1,5 @@
-use Rattle.std.proofs.Common.{◌≡◌, ◌≢◌, ℕ, List, String, Global, ℤ, map, AllPairs, position, slice_get, Option, None, Some, string_bytes, ap, sym, subst, ◌∙◌}
+use Rattle.std.proofs.Common.{◌≡◌, ◌≢◌, ℕ, List, String, Global, ℤ, map, AllPairs, position, slice_get, Option, None}
+use Rattle.std.proofs.Common.{Some, string_bytes, ap, sym, subst, ◌∙◌}
 use Rattle.std.specs.Option.{option_map}
 use Rattle.std.specs.Ordering.{int_eq}
 use Rattle.std.proofs.lemmas.Int.{to_z-of_z}
@@ -15,36 +16,48 @@ abbrev seen : String Global × ℤ → Name × ℤ
 seen v = (string_bytes v.0, v.1)
 
 -- the name of the value at a place
-name_at : (values : List (String Global × ℤ)) (at : ℕ) (value : String Global × ℤ) (declared : List (Name × ℤ)) → Some value ≡ slice_get values at
+name_at : (values : List (String Global × ℤ)) (at : ℕ) (value : String Global × ℤ) (declared : List (Name × ℤ))
+    → Some value ≡ slice_get values at
     → map seen values ≡ declared → Some (string_bytes value.0) ≡ option_map (λ v. v.0) (slice_get declared at)
 name_at values at value declared there same =
     ap (λ (o : Option (String Global × ℤ)). option_map (λ v. v.0) (option_map seen o)) there
-    ∙ ap (option_map (λ v. v.0)) (sym (slice_get-map seen values at) ∙ ap (λ (l : List (Name × ℤ)). slice_get l at) same)
+    ∙ ap (option_map (λ v. v.0)) (sym (slice_get-map seen values at)
+    ∙ ap (λ (l : List (Name × ℤ)). slice_get l at) same)
 
 pub position-requires-clause-indexed : goal.position-requires-clause-indexed
 position-requires-clause-indexed c =
-    subst (λ (ns : List ℤ). IndexesNumbers c.args.numbers.now ns) (sym (keys_seen seen (λ v. v.1) (int_eq c.args.number) c.values_of-values.result.now (values_in (body_seen c.args.body.now)) c.values_of-values.ensures))
+    subst (λ (ns : List ℤ). IndexesNumbers c.args.numbers.now ns)
+    (sym (keys_seen seen (λ v. v.1) (int_eq c.args.number) c.values_of-values.result.now
+    (values_in (body_seen c.args.body.now)) c.values_of-values.ensures))
     c.requires.indexed
 
 pub position-requires-clause-distinct : goal.position-requires-clause-distinct
 position-requires-clause-distinct c =
-    subst (λ (ns : List ℤ). AllPairs (λ a b. a ≢ b) ns) (sym (keys_seen seen (λ v. v.1) (int_eq c.args.number) c.values_of-values.result.now (values_in (body_seen c.args.body.now)) c.values_of-values.ensures))
+    subst (λ (ns : List ℤ). AllPairs (λ a b. a ≢ b) ns)
+    (sym (keys_seen seen (λ v. v.1) (int_eq c.args.number) c.values_of-values.result.now
+    (values_in (body_seen c.args.body.now)) c.values_of-values.ensures))
     c.requires.distinct.numbers
 
 pub returns-in_err-position : goal.returns-in_err-position
 returns-in_err-position c =
     let none : Option ℕ = None in
     let numbers : List ℤ = map (λ (v : String Global × ℤ). v.1) c.values_of-values.result.now in
-    let place = subst (λ (n : ℤ). none ≡ position (int_eq n) numbers) (to_z-of_z w128 c.args.number c.ranges.number) c.in_err-position.ensures in
-    rw c.from_residual.ensures (ap (option_map (λ v. v.0)) (found_through seen (λ v. v.1) (int_eq c.args.number) c.values_of-values.result.now (values_in (body_seen c.args.body.now)) c.values_of-values.ensures None place))
+    let place = subst (λ (n : ℤ). none ≡ position (int_eq n) numbers)
+    (to_z-of_z w128 c.args.number c.ranges.number) c.in_err-position.ensures in
+    rw c.from_residual.ensures (ap (option_map (λ v. v.0))
+    (found_through seen (λ v. v.1) (int_eq c.args.number) c.values_of-values.result.now
+    (values_in (body_seen c.args.body.now)) c.values_of-values.ensures None place))
 
 pub returns : goal.returns
 returns c =
     let values = c.values_of-values.result.now in
     let numbers : List ℤ = map (λ (v : String Global × ℤ). v.1) values in
     let at = c.in_ok-position.field-0 in
-    let place = subst (λ (n : ℤ). Some at ≡ position (int_eq n) numbers) (to_z-of_z w128 c.args.number c.ranges.number) c.in_ok-position.ensures in
-    let there = got values at (Some c.in_ok-value.value) c.in_ok-value.ensures.lookup.0 c.in_ok-value.ensures.lookup.1 in
+    let place = subst (λ (n : ℤ). Some at ≡ position (int_eq n) numbers)
+    (to_z-of_z w128 c.args.number c.ranges.number) c.in_ok-position.ensures in
+    let there = got values at (Some c.in_ok-value.value) c.in_ok-value.ensures.lookup.0 c.in_ok-value.ensures.lookup.1
+    in
     ap Some c.as_str.ensures.value
     ∙ (name_at values at c.in_ok-value.value.now _ there c.values_of-values.ensures
-    ∙ ap (option_map (λ v. v.0)) (found_through seen (λ v. v.1) (int_eq c.args.number) values (values_in (body_seen c.args.body.now)) c.values_of-values.ensures (Some at) place))
+    ∙ ap (option_map (λ v. v.0)) (found_through seen (λ v. v.1) (int_eq c.args.number) values
+    (values_in (body_seen c.args.body.now)) c.values_of-values.ensures (Some at) place))

@@ -15,4 +15,5 @@ numbers c =
 
 pub returns-in-Some : goal.returns-in-Some
 returns-in-Some c =
-    subst (λ (ns : List ℤ). IfOk c.of.result (λ index. IndexesNumbers index ns)) (sym (numbers (goal.at.returns-in-Some c).In-Some)) c.of.ensures
+    subst (λ (ns : List ℤ). IfOk c.of.result (λ index. IndexesNumbers index ns))
+    (sym (numbers (goal.at.returns-in-Some c).In-Some)) c.of.ensures

@@ -8,11 +8,16 @@ returns-then-is_same g c =
     let name = c.args.name.now in
     let item = c.index-items-place.result in
     let same : bytes_eq name (g.T.Named.name (get_or items c.loop-place.place item)) ≡ true =
-    ap (λ x. bytes_eq name (g.T.Named.name x)) (sym c.index-items-place.is) ∙ (ap (bytes_eq name) (sym c.name.ensures) ∙ (sym c.is_same.ensures ∙ c.if-is_same.true)) in
-    sym (position-map g.T.Named.name (bytes_eq name) items ∙ found_here (λ x. bytes_eq name (g.T.Named.name x)) items c.loop-place.place c.loop-place.invariant item c.loop-place-test.true same)
+    ap (λ x. bytes_eq name (g.T.Named.name x)) (sym c.index-items-place.is)
+    ∙ (ap (bytes_eq name) (sym c.name.ensures) ∙ (sym c.is_same.ensures ∙ c.if-is_same.true)) in
+    sym (position-map g.T.Named.name (bytes_eq name) items
+    ∙ found_here (λ x. bytes_eq name (g.T.Named.name x)) items c.loop-place.place c.loop-place.invariant item
+    c.loop-place-test.true same)
 
 pub returns : goal.returns
 returns g c =
     let items = c.args.items.now in
     let name = c.args.name.now in
-    sym (position-map g.T.Named.name (bytes_eq name) items ∙ found_nowhere (λ x. bytes_eq name (g.T.Named.name x)) items c.loop-place.place c.loop-place.invariant c.loop-place-test.false)
+    sym (position-map g.T.Named.name (bytes_eq name) items
+    ∙ found_nowhere (λ x. bytes_eq name (g.T.Named.name x)) items c.loop-place.place c.loop-place.invariant
+    c.loop-place-test.false)

@@ -3,4 +3,5 @@ use Rattle.std.specs.List.{position_from}
 use Rattle.fb_schema.proofs.name_index.position_among.Given as goal
 
 abbrev pub invariant-loop-place : goal.invariant-loop-place
-invariant-loop-place g l = position_from (λ x. bytes_eq l.name (g.T.Named.name x)) 0 l.items ≡ position_from (λ x. bytes_eq l.name (g.T.Named.name x)) l.place (drop l.place l.items)
+invariant-loop-place g l = position_from (λ x. bytes_eq l.name (g.T.Named.name x)) 0 l.items ≡ position_from
+    (λ x. bytes_eq l.name (g.T.Named.name x)) l.place (drop l.place l.items)

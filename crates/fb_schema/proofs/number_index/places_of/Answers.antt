@@ -9,4 +9,5 @@ range_more a (suc n) j e = ap (λ ks. a ∷ ks) (range_more (a + 1) n j (omega (
 pub loop-place-preserved : goal.loop-place-preserved
 loop-place-preserved c =
     let next : c.loop-place.place + 1 ≡ suc c.loop-place.place = omega arith in
-    c.in_ok-push.ensures.items ∙ (ap (λ ks. ks ++ c.loop-place.place ∷ []) c.loop-place.invariant ∙ (sym (range_more 0 c.loop-place.place c.loop-place.place (omega arith)) ∙ ap (range_with_len 0) (sym next)))
+    c.in_ok-push.ensures.items ∙ (ap (λ ks. ks ++ c.loop-place.place ∷ []) c.loop-place.invariant
+    ∙ (sym (range_more 0 c.loop-place.place c.loop-place.place (omega arith)) ∙ ap (range_with_len 0) (sym next)))

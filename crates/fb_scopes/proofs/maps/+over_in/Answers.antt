@@ -2,9 +2,11 @@ use Rattle.std.proofs.Common.{◌-◌, arith}
 use Rattle.std.proofs.lemmas.Result.{IfOk-weaker}
 use Rattle.fb_scopes.specs.Maps.{empty_fork}
 use Rattle.fb_scopes.proofs.MapsKept.{kept-map}
-use Rattle.fb_scopes.proofs.MapsMade.{fork-of-map, map-of-fork, over-none, none-over, over-values, over-fork, over-found}
+use Rattle.fb_scopes.proofs.MapsMade.{fork-of-map, map-of-fork, over-none, none-over, over-values, over-fork}
+use Rattle.fb_scopes.proofs.MapsMade.{over-found}
 use Rattle.fb_scopes.proofs.maps.+over_in.Goals as goal
-use Rattle.fb_scopes.proofs.maps.+over_in.Goals.{then-outer-eq0-via-then-outer-eq0, then-outer-eq0-via-else-outer-eq0+then-levels-eq0}
+use Rattle.fb_scopes.proofs.maps.+over_in.Goals.{then-outer-eq0-via-then-outer-eq0}
+use Rattle.fb_scopes.proofs.maps.+over_in.Goals.{then-outer-eq0-via-else-outer-eq0+then-levels-eq0}
 
 pub returns-then-inner-eq0-clause-found : goal.returns-then-inner-eq0-clause-found
 returns-then-inner-eq0-clause-found t c = λ k.

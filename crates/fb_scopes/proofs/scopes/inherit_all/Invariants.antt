@@ -9,6 +9,10 @@ invariant-loop-path l = record {
   kept : HasMaps l.noted;
   path : path_count l.noted ≡ path_count l.initial.noted;
   name : name_count l.noted ≡ name_count l.initial.noted;
-  done : (types : List Path) (rest : Path) (n : ℕ) → ((p : ℕ) → p < length (paths l.tree) → noted_at l.initial.noted p n ≡ place_of_path types (get_or (paths l.tree) p [] ++ rest))
-      → (p : ℕ) → p < length (paths l.tree) → noted_at l.noted p n ≡ (if nat_lt p l.path then meant_inside types (get_or (paths l.tree) p []) rest else place_of_path types (get_or (paths l.tree) p [] ++ rest));
+  done : (types : List Path) (rest : Path) (n : ℕ)
+      → ((p : ℕ) → p < length (paths l.tree) → noted_at l.initial.noted p n ≡ place_of_path types
+      (get_or (paths l.tree) p [] ++ rest))
+      → (p : ℕ) → p < length (paths l.tree) → noted_at l.noted p n ≡
+      (if nat_lt p l.path then meant_inside types (get_or (paths l.tree) p []) rest else place_of_path types
+      (get_or (paths l.tree) p [] ++ rest));
 }

@@ -7,7 +7,8 @@ use Rattle.fb_scopes.proofs.scopes.note_type.Given as goal
 abbrev pub invariant-loop-next : goal.invariant-loop-next
 invariant-loop-next l = record {
   room : HasRoom l.noted (length (paths l.tree)) (length (paths l.used));
-  noting : Noting (paths l.tree) (paths l.used) (get_or (paths l.tree) l.full_name []) l.number (noted_at l.initial.noted) (noted_at l.noted) l.next;
+  noting : Noting (paths l.tree) (paths l.used) (get_or (paths l.tree) l.full_name []) l.number
+      (noted_at l.initial.noted) (noted_at l.noted) l.next;
 }
 
 abbrev pub left : Option (ℕ × ℕ) → ℕ

@@ -4,4 +4,5 @@ use Rattle.fb_syntax.specs.Integers.{digit_value, digits_value}
 use Rattle.fb_syntax.proofs.integers.digits_value.Given as goal
 
 abbrev pub invariant-loop-byte : goal.invariant-loop-byte
-invariant-loop-byte l = number_from_digits_after l.base l.high (map digit_value (drop l.byte-index l.digits)) ≡ digits_value l.base l.digits
+invariant-loop-byte l = number_from_digits_after l.base l.high
+    (map digit_value (drop l.byte-index l.digits)) ≡ digits_value l.base l.digits

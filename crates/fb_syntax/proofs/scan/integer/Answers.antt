@@ -6,12 +6,17 @@ use Rattle.fb_syntax.proofs.scan.integer.Goals as goal
 
 pub returns-then-len-eq0-clause-piece : goal.returns-then-len-eq0-clause-piece
 returns-then-len-eq0-clause-piece c =
-    no_integer _ _ _ c.requires c.sign_len-sign.ensures.len (rw take_rest at c.number_len-len.ensures.len) (λ some. absurd (omega arith))
+    no_integer _ _ _ c.requires c.sign_len-sign.ensures.len (rw take_rest at c.number_len-len.ensures.len)
+    (λ some. absurd (omega arith))
 
 pub returns-in-Some-clause-piece : goal.returns-in-Some-clause-piece
-returns-in-Some-clause-piece c =
-    (integer_longest _ _ _ c.requires c.sign_len-sign.ensures.len (rw take_rest at c.number_len-len.ensures.len) (omega arith), grind (arith, common_steps, c.in-Some.ensures, c.magnitude.type_inv))
+returns-in-Some-clause-piece c = (
+  integer_longest _ _ _ c.requires c.sign_len-sign.ensures.len (rw take_rest at c.number_len-len.ensures.len)
+      (omega arith),
+  grind (arith, common_steps, c.in-Some.ensures, c.magnitude.type_inv),
+)
 
 pub returns-in-None-clause-piece : goal.returns-in-None-clause-piece
 returns-in-None-clause-piece c =
-    no_integer _ _ _ c.requires c.sign_len-sign.ensures.len (rw take_rest at c.number_len-len.ensures.len) (λ some. omega (arith, c.in-None.ensures))
+    no_integer _ _ _ c.requires c.sign_len-sign.ensures.len (rw take_rest at c.number_len-len.ensures.len)
+    (λ some. omega (arith, c.in-None.ensures))

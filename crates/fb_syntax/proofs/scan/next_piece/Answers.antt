@@ -11,7 +11,11 @@ pub returns-then-is_blank-clause-piece : goal.returns-then-is_blank-clause-piece
 returns-then-is_blank-clause-piece c = blank_gap _ (sym c.is_blank.ensures ∙ c.if-is_blank.true)
 
 pub returns-then-is_letter-clause-piece : goal.returns-then-is_letter-clause-piece
-returns-then-is_letter-clause-piece c = (word_longest _ _ (sym c.is_letter.ensures ∙ c.if-is_letter.true) c.run.ensures.run, tt)
+returns-then-is_letter-clause-piece c = (
+  word_longest _ _
+      (sym c.is_letter.ensures ∙ c.if-is_letter.true) c.run.ensures.run,
+  tt,
+)
 
 pub returns-then-is_punct-clause-piece : goal.returns-then-is_punct-clause-piece
 returns-then-is_punct-clause-piece c = (punct_longest _ (sym c.is_punct.ensures ∙ c.if-is_punct.true), tt)

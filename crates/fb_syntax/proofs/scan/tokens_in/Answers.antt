@@ -7,11 +7,15 @@ use Rattle.fb_syntax.proofs.FrontPieces.{Passed, over_piece, over_fault, over}
 use Rattle.fb_syntax.proofs.scan.tokens_in.Goals as goal
 use Rattle.fb_syntax.proofs.scan.tokens_in.Goals.{In-Ok-Gap, In-Ok-Token}
 
-gap_here : (c : In-Ok-Gap) → Passed (mark_len c.as_bytes-bytes.result.now) c.as_bytes-bytes.result.now c.loop-at.at c.loop-at.found.items (pieces.Gap c.in-Ok-Gap.len)
-gap_here c = over_piece _ _ _ _ (pieces.Gap c.in-Ok-Gap.len) c.loop-at.invariant (rw (take_rest c.as_bytes-bytes.result.now c.loop-at.at, c.in-Ok-Gap.field-0-is) at c.in-Ok-Gap.ensures.piece)
+gap_here : (c : In-Ok-Gap) → Passed (mark_len c.as_bytes-bytes.result.now) c.as_bytes-bytes.result.now c.loop-at.at
+    c.loop-at.found.items (pieces.Gap c.in-Ok-Gap.len)
+gap_here c = over_piece _ _ _ _ (pieces.Gap c.in-Ok-Gap.len) c.loop-at.invariant
+    (rw (take_rest c.as_bytes-bytes.result.now c.loop-at.at, c.in-Ok-Gap.field-0-is) at c.in-Ok-Gap.ensures.piece)
 
-token_here : (c : In-Ok-Token) → Passed (mark_len c.as_bytes-bytes.result.now) c.as_bytes-bytes.result.now c.loop-at.at c.loop-at.found.items (pieces.Token c.in-Ok-Token.kind c.in-Ok-Token.len)
-token_here c = over_piece _ _ _ _ (pieces.Token c.in-Ok-Token.kind c.in-Ok-Token.len) c.loop-at.invariant (rw (take_rest c.as_bytes-bytes.result.now c.loop-at.at, c.in-Ok-Token.field-0-is) at c.in-Ok-Token.ensures.piece)
+token_here : (c : In-Ok-Token) → Passed (mark_len c.as_bytes-bytes.result.now) c.as_bytes-bytes.result.now c.loop-at.at
+    c.loop-at.found.items (pieces.Token c.in-Ok-Token.kind c.in-Ok-Token.len)
+token_here c = over_piece _ _ _ _ (pieces.Token c.in-Ok-Token.kind c.in-Ok-Token.len) c.loop-at.invariant
+    (rw (take_rest c.as_bytes-bytes.result.now c.loop-at.at, c.in-Ok-Token.field-0-is) at c.in-Ok-Token.ensures.piece)
 
 pub overflow_add-at : goal.overflow_add-at
 overflow_add-at c = let h = gap_here (goal.at.overflow_add-at c).In-Ok-Gap in omega (arith, h.0)
@@ -29,10 +33,16 @@ loop-at-preserved c =
 
 pub returns-in-Err-clause-only : goal.returns-in-Err-clause-only
 returns-in-Err-clause-only c =
-    λ tokens spelled. absurd (over_fault _ _ _ _ c.loop-at.invariant c.loop-at-test.true (rw take_rest at c.in-Err.ensures.piece) tokens (rw c.as_bytes-bytes.ensures.value spelled.spelled))
+    λ tokens spelled. absurd (over_fault _ _ _ _ c.loop-at.invariant c.loop-at-test.true
+    (rw take_rest at c.in-Err.ensures.piece) tokens (rw c.as_bytes-bytes.ensures.value spelled.spelled))
 
 pub returns-clause-found : goal.returns-clause-found
-returns-clause-found c = record { utf8 = c.utf8.text; spelled = rw c.as_bytes-bytes.ensures.value at (over _ _ _ _ c.loop-at.invariant c.loop-at-test.false).0 }
+returns-clause-found c = record {
+  utf8 = c.utf8.text;
+  spelled =
+      rw c.as_bytes-bytes.ensures.value at (over _ _ _ _ c.loop-at.invariant c.loop-at-test.false).0;
+}
 
 pub returns-clause-only : goal.returns-clause-only
-returns-clause-only c = λ tokens spelled. (over _ _ _ _ c.loop-at.invariant c.loop-at-test.false).1 tokens (rw c.as_bytes-bytes.ensures.value spelled.spelled)
+returns-clause-only c = λ tokens spelled. (over _ _ _ _ c.loop-at.invariant c.loop-at-test.false).1 tokens
+    (rw c.as_bytes-bytes.ensures.value spelled.spelled)

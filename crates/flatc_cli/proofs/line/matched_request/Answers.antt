@@ -7,6 +7,7 @@ use Rattle.flatc_cli.proofs.line.matched_request.Goals as goal
 
 pub returns-in-Err-clause-memory : goal.returns-in-Err-clause-memory
 returns-in-Err-clause-memory c = λ line.
-    let pair = one_pair (out-ArgMatches c.args.matches.now).subcommand c.in-Some.job.now (rows_of (found_of c.in-Some.found.now))
+    let pair = one_pair (out-ArgMatches c.args.matches.now).subcommand c.in-Some.job.now
+    (rows_of (found_of c.in-Some.found.now))
     c.in-Some.ensures.name c.in-Some.ensures.rows in
     c.misuse_error-in-Err.ensures.memory (c.in-Err.ensures.refusal (sym (ap is_line pair) ∙ line))

@@ -4,4 +4,5 @@ use Rattle.flatc_cli.specs.Runs.{target_in}
 use Rattle.flatc_cli.proofs.targets.targets_in.Given as goal
 
 abbrev pub invariant-loop-file : goal.invariant-loop-file
-invariant-loop-file l = map path_buf_bytes l.targets.items ≡ map (λ file. target_in l.dir l.extension (string_bytes file)) (take l.file-index l.files)
+invariant-loop-file l = map path_buf_bytes l.targets.items ≡ map
+    (λ file. target_in l.dir l.extension (string_bytes file)) (take l.file-index l.files)

@@ -3,7 +3,8 @@ use Rattle.fb_schema_text.proofs.SchemaTextHasOneLayout.{refused_excludes}
 use Rattle.flatc_tool.proofs.evolution.conforming.Goals as goal
 
 pub returns-in-Err-clause-exact : goal.returns-in-Err-clause-exact
-returns-in-Err-clause-exact c rule texts = refused_excludes c.layer_laws.ensures.laws.schema c.args.old.now c.in-Err.fault
+returns-in-Err-clause-exact c rule texts = refused_excludes c.layer_laws.ensures.laws.schema c.args.old.now
+    c.in-Err.fault
     c.in-Err.ensures.refused rule texts.0 texts.2
 
 pub returns-in-Err-schema_of-clause-exact : goal.returns-in-Err-schema_of-clause-exact

@@ -21,7 +21,8 @@ returns-in-Ok-write_text-clause-printed g c =
     let root = at_layout L view.layout.now view.table.0 c.args.options.now.defaults_json held.0 start known (Ok tt)
     c.in-Ok.ensures.root.0 c.in-Ok.ensures.root.1 printed in
     sent c.layer_laws.ensures.laws c.args.bytes.now c.args.options.now.limits c.args.options.now.raw_binary
-    c.args.options.now.defaults_json L held.0 held.1 start known tt c.schema-schema.ensures.made c.texts_are_utf8.ensures small
+    c.args.options.now.defaults_json L held.0 held.1 start known tt c.schema-schema.ensures.made
+    c.texts_are_utf8.ensures small
     root
 
 pub returns-in-Err-write_text-clause-refused : goal.returns-in-Err-write_text-clause-refused

@@ -9,5 +9,6 @@ returns c =
     let items = c.declarations.result.now in
     let len = c.text_len.result in
     let all : outline_behind nothing_read items len ≡ outline_of c.args.decls.now = grind (arith, common_steps) in
-    subst (λ (o : Outline). IfOk c.outline.result (λ r. r ≡ o)) (c.in_ok-repeats.ensures.passed len ∙ ap (λ read. outline_behind read items len) c.new-walk.ensures.empty ∙ all)
+    subst (λ (o : Outline). IfOk c.outline.result (λ r. r ≡ o))
+    (c.in_ok-repeats.ensures.passed len ∙ ap (λ read. outline_behind read items len) c.new-walk.ensures.empty ∙ all)
     c.outline.ensures

@@ -19,18 +19,29 @@ returns-clause-placed c =
     let one : TypeRead = record { scope = option_copied w.scope; declaration = c.args.declaration.now } in
     let full_name = c.in_ok-full_name.full_name in
     let placed = c.requires.placed in
-    let grown = placed_grown w tree used w.scope w.path made.tree made.kept noted.tree noted.kept (made.kept w.path _ placed.scope) placed in
+    let grown = placed_grown w tree used w.scope w.path made.tree made.kept noted.tree noted.kept
+    (made.kept w.path _ placed.scope) placed in
     let named : IsPath tree full_name (words (name_of_type one)) =
-    path_inside w.tree tree w.path full_name one.scope (word_of one.declaration).bytes placed.scope (grind (rules, made.path)) in
+    path_inside w.tree tree w.path full_name one.scope (word_of one.declaration).bytes placed.scope
+    (grind (rules, made.path)) in
     record {
       tree = grown.tree;
       used = grown.used;
       scope = grown.scope;
       notes = rw (c.in_ok-push-3.ensures.items, c.in_ok-push-4.ensures.items)
-          (all_zipped_more (AreNotesOf tree used) w.notes.items w.types.items _ one grown.notes (record { namespace = grown.scope; uses = noted.uses }));
-      values = λ types. rw (c.in_ok-push-2.ensures.items, c.in_ok-push-4.ensures.items, map_push (enum_values_of types) w.types.items one, grown.values types, c.in_ok-values.ensures types one.scope) refl;
+          (all_zipped_more (AreNotesOf tree used) w.notes.items w.types.items _ one grown.notes
+          (record { namespace = grown.scope; uses = noted.uses }));
+      values = λ types. rw (
+        c.in_ok-push-2.ensures.items,
+        c.in_ok-push-4.ensures.items,
+        map_push (enum_values_of types) w.types.items one,
+        grown.values types,
+        c.in_ok-values.ensures types one.scope,
+      )
+          refl;
       full_names = rw (c.in_ok-push.ensures.items, c.in_ok-push-4.ensures.items)
-          (all_zipped_more (λ n r. IsPath tree n (words (name_of_type r))) w.full_names.items w.types.items full_name one grown.full_names named);
+          (all_zipped_more (λ n r. IsPath tree n (words (name_of_type r))) w.full_names.items w.types.items full_name
+          one grown.full_names named);
       root = grown.root;
     }
 

@@ -9,4 +9,5 @@ returns-clause-placed c =
     let made = c.in_ok-self.ensures in
     let path = c.in_ok-self.field-0 in
     placed_grown w tree w.used (Some c.as_str-name.result) path made.tree made.kept c.requires.placed.used (λ n p h. h)
-    (path_inside w.tree tree 0 path None c.as_str-name.result.now c.requires.placed.tree.first made.path) c.requires.placed
+    (path_inside w.tree tree 0 path None c.as_str-name.result.now c.requires.placed.tree.first made.path)
+    c.requires.placed

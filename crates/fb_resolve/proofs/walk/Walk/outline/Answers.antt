@@ -12,7 +12,8 @@ invariant_of-result c =
     let made = c.in_ok-of.ensures in
     let full_names = c.as_slice.ensures.value in (
       record {
-        scopes = rw (← (names_numbered w.tree w.full_names.items w.types.items placed.full_names).1, ← full_names) made.scopes;
+        scopes = rw (← (names_numbered w.tree w.full_names.items w.types.items placed.full_names).1, ← full_names)
+            made.scopes;
         notes = rw (made.tree, made.names) placed.notes;
         values = placed.values w.types.items;
         repeats = c.requires.repeats;

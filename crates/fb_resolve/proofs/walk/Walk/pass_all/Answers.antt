@@ -1,4 +1,5 @@
-use Rattle.std.proofs.Common.{◌≡◌, ◌==◌, ◌++◌, ◌+◌, ◌∙◌, ℕ, List, [], ◌∷◌, drop, map, refl, sym, ap, subst, rules, arith}
+use Rattle.std.proofs.Common.{◌≡◌, ◌==◌, ◌++◌, ◌+◌, ◌∙◌, ℕ, List, [], ◌∷◌, drop, map, refl, sym, ap, subst, rules}
+use Rattle.std.proofs.Common.{arith}
 use Rattle.std.specs.List.{AllZip, list_any}
 use Rattle.std.specs.Result.{IfOk}
 use Rattle.std.specs.Str.{bytes_eq}
@@ -23,19 +24,24 @@ abbrev AreNamed : PathTree → List ℕ → List TypeRead → Type 0
 AreNamed tree ns rs = AllZip (λ n r. IsPath tree n (words (name_of_type r))) ns rs
 
 -- one name is another exactly where its path's number is
-same_number : (tree : PathTree) → IsTree tree → (m n : ℕ) (a b : Name) → IsPath tree m (words a) → IsPath tree n (words b) → (n == m) ≡ bytes_eq b a
+same_number : (tree : PathTree) → IsTree tree → (m n : ℕ) (a b : Name) → IsPath tree m (words a)
+    → IsPath tree n (words b) → (n == m) ≡ bytes_eq b a
 same_number tree is m n a b at there = grind (arith, nat_tests, is.apart n m, words-inj b a, bytes_eq-Decides b a)
 
 -- a number is among those of types exactly where its path's name is among theirs
-same_among : (tree : PathTree) → IsTree tree → (n : ℕ) (name : Name) → IsPath tree n (words name) → (ns : List ℕ) (rs : List TypeRead) → AreNamed tree ns rs
+same_among : (tree : PathTree) → IsTree tree → (n : ℕ) (name : Name) → IsPath tree n (words name)
+    → (ns : List ℕ) (rs : List TypeRead) → AreNamed tree ns rs
     → list_any (λ m. n == m) (map (λ m. m) ns) ≡ list_any (bytes_eq name) (map name_of_type rs)
 same_among tree is n name there [] [] zipped = refl
 same_among tree is n name there [] (r ∷ rs) zipped = absurd zipped
 same_among tree is n name there (m ∷ ns) [] zipped = absurd zipped
-same_among tree is n name there (m ∷ ns) (r ∷ rs) zipped = rw (same_number tree is m n (name_of_type r) name zipped.0 there, same_among tree is n name there ns rs zipped.1) refl
+same_among tree is n name there (m ∷ ns) (r ∷ rs) zipped =
+    rw (same_number tree is m n (name_of_type r) name zipped.0 there, same_among tree is n name there ns rs zipped.1)
+    refl
 
 -- types of repeated numbers are those of repeated names
-names_repeated : (tree : PathTree) → IsTree tree → (ms : List ℕ) (qs : List TypeRead) → AreNamed tree ms qs → (ns : List ℕ) (rs : List TypeRead) → AreNamed tree ns rs
+names_repeated : (tree : PathTree) → IsTree tree → (ms : List ℕ) (qs : List TypeRead) → AreNamed tree ms qs
+    → (ns : List ℕ) (rs : List TypeRead) → AreNamed tree ns rs
     → again_behind (λ n m. n == m) (λ n. n) ms ns ≡ again_behind bytes_eq name_of_type qs rs
 names_repeated tree is ms qs before [] [] zipped = refl
 names_repeated tree is ms qs before [] (r ∷ rs) zipped = absurd zipped
@@ -43,7 +49,8 @@ names_repeated tree is ms qs before (n ∷ ns) [] zipped = absurd zipped
 names_repeated tree is ms qs before (n ∷ ns) (r ∷ rs) zipped =
     rw (
       same_among tree is n (name_of_type r) zipped.0 ms qs before,
-      names_repeated tree is (ms ++ n ∷ []) (qs ++ r ∷ []) (all_zipped_more (λ n r. IsPath tree n (words (name_of_type r))) ms qs n r before zipped.0) ns rs zipped.1,
+      names_repeated tree is (ms ++ n ∷ []) (qs ++ r ∷ [])
+          (all_zipped_more (λ n r. IsPath tree n (words (name_of_type r))) ms qs n r before zipped.0) ns rs zipped.1,
     ) refl
 
 pub loop-declaration-preserved : goal.loop-declaration-preserved
@@ -51,15 +58,19 @@ loop-declaration-preserved c =
     let i = c.loop-declaration.declaration-index in
     let items = c.args.declarations.now in
     let d = c.declaration-item.result in
-    let next : drop i items ≡ d ∷ drop (i + 1) items = drop_more items i d c.loop-declaration-test.true ∙ ap (λ d. d ∷ drop (i + 1) items) (sym c.declaration-item.is) in
+    let next : drop i items ≡ d ∷ drop (i + 1) items = drop_more items i d c.loop-declaration-test.true
+    ∙ ap (λ d. d ∷ drop (i + 1) items) (sym c.declaration-item.is) in
     record {
       placed = c.in_ok-pass.ensures.placed;
-      passed = λ len. c.in_ok-pass.ensures.passed (drop (i + 1) items) len ∙ ap (λ ds. outline_behind (walk_read c.loop-declaration.self) ds len) (sym next) ∙ c.loop-declaration.invariant.passed len;
+      passed = λ len. c.in_ok-pass.ensures.passed (drop (i + 1) items) len
+          ∙ ap (λ ds. outline_behind (walk_read c.loop-declaration.self) ds len) (sym next)
+          ∙ c.loop-declaration.invariant.passed len;
     }
 
 pub repeated_numbers-requires : goal.repeated_numbers-requires
 repeated_numbers-requires c = let w = c.loop-declaration.self in
-    rw (c.as_slice.ensures.value, c.len.ensures) (names_numbered w.tree w.full_names.items w.types.items c.loop-declaration.invariant.placed.full_names).0
+    rw (c.as_slice.ensures.value, c.len.ensures) (names_numbered w.tree w.full_names.items w.types.items
+    c.loop-declaration.invariant.placed.full_names).0
 
 pub returns-clause-passed : goal.returns-clause-passed
 returns-clause-passed c = λ len.
@@ -73,5 +84,6 @@ returns-clause-repeats c =
     let w = c.loop-declaration.self in
     let placed = c.loop-declaration.invariant.placed in
     subst (λ bs. IfOk c.repeated_numbers.result (λ r. r.items ≡ bs))
-    (rw c.as_slice.ensures.value (names_repeated w.tree placed.tree [] [] tt w.full_names.items w.types.items placed.full_names))
+    (rw c.as_slice.ensures.value (names_repeated w.tree placed.tree [] [] tt w.full_names.items w.types.items
+    placed.full_names))
     c.repeated_numbers.ensures

@@ -7,5 +7,6 @@ use Rattle.fb_resolve.proofs.walk.Walk.pass_all.Given as goal
 abbrev pub invariant-loop-declaration : goal.invariant-loop-declaration
 invariant-loop-declaration l = record {
   placed : IsPlaced l.self;
-  passed : (len : ℕ) → outline_behind (walk_read l.self) (drop l.declaration-index l.declarations) len ≡ outline_behind (walk_read l.fn.self) l.declarations len;
+  passed : (len : ℕ) → outline_behind (walk_read l.self) (drop l.declaration-index l.declarations) len ≡ outline_behind
+      (walk_read l.fn.self) l.declarations len;
 }

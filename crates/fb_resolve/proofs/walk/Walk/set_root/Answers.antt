@@ -11,7 +11,8 @@ returns-clause-placed c =
     let used = c.type_use.new.used in
     let noted = c.in_ok-self.ensures in
     let placed = c.requires.placed in
-    let grown = placed_grown w w.tree used w.scope w.path placed.tree (λ n p h. h) noted.tree noted.kept placed.scope placed in
+    let grown = placed_grown w w.tree used w.scope w.path placed.tree
+    (λ n p h. h) noted.tree noted.kept placed.scope placed in
     let number = c.in_ok-self.field-0 in
     let name : c.as_str.result.now ≡ c.args.name.now.bytes = grind rules in
     let named : IsNoted used number c.args.name.now.bytes = rw name at noted.noted in record {
@@ -21,5 +22,6 @@ returns-clause-placed c =
       notes = grown.notes;
       values = grown.values;
       full_names = grown.full_names;
-      root = λ r e. subst (λ r. IsPath w.tree w.path (words_of_scope r.scope) × IsNoted used number r.name.bytes) (same_Some _ r e) (grown.scope, named);
+      root = λ r e. subst (λ r. IsPath w.tree w.path (words_of_scope r.scope) × IsNoted used number r.name.bytes)
+          (same_Some _ r e) (grown.scope, named);
     }

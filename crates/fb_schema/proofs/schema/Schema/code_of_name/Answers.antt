@@ -11,36 +11,46 @@ code_in-requires-clause-indexed c =
     let s = c.self.inside in
     let info = c.in_ok-info.info in
     let index = c.in_ok-names.names in
-    let there = got_of c.deref.result.now s.types.items c.args.union.0 (Some info) c.deref.ensures.value c.in_ok-info.ensures.lookup.0 c.in_ok-info.ensures.lookup.1 in
-    let held = got_of c.deref-2.result.now s.inner_names.items c.args.union.0 (Some index) c.deref-2.ensures.value c.in_ok-names.ensures.lookup.0 c.in_ok-names.ensures.lookup.1 in
-    index_there s.types.items c.args.union.0 info.now there (λ index t. IndexesNames index (inner_names t.body)) s.inner_names.items index.now c.self.invariant.names held
+    let there = got_of c.deref.result.now s.types.items c.args.union.0
+    (Some info) c.deref.ensures.value c.in_ok-info.ensures.lookup.0 c.in_ok-info.ensures.lookup.1 in
+    let held = got_of c.deref-2.result.now s.inner_names.items c.args.union.0
+    (Some index) c.deref-2.ensures.value c.in_ok-names.ensures.lookup.0 c.in_ok-names.ensures.lookup.1 in
+    index_there s.types.items c.args.union.0 info.now there
+    (λ index t. IndexesNames index (inner_names t.body)) s.inner_names.items index.now c.self.invariant.names held
 
 pub code_in-requires-clause-distinct : goal.code_in-requires-clause-distinct
 code_in-requires-clause-distinct c =
     let s = c.self.inside in
     let info = c.in_ok-info.info in
-    let there = got_of c.deref.result.now s.types.items c.args.union.0 (Some info) c.deref.ensures.value c.in_ok-info.ensures.lookup.0 c.in_ok-info.ensures.lookup.1 in
+    let there = got_of c.deref.result.now s.types.items c.args.union.0
+    (Some info) c.deref.ensures.value c.in_ok-info.ensures.lookup.0 c.in_ok-info.ensures.lookup.1 in
     no_repeats_there s.types.items c.args.union.0 info.now there s.root s.identifier c.self.invariant.declared
 
 pub code_in-requires-clause-few : goal.code_in-requires-clause-few
 code_in-requires-clause-few c =
     let s = c.self.inside in
     let info = c.in_ok-info.info in
-    let there = got_of c.deref.result.now s.types.items c.args.union.0 (Some info) c.deref.ensures.value c.in_ok-info.ensures.lookup.0 c.in_ok-info.ensures.lookup.1 in
+    let there = got_of c.deref.result.now s.types.items c.args.union.0
+    (Some info) c.deref.ensures.value c.in_ok-info.ensures.lookup.0 c.in_ok-info.ensures.lookup.1 in
     few_members s.types.items c.args.union.0 info.now there s.root s.identifier c.self.invariant.declared
 
 pub returns-in_err-names : goal.returns-in_err-names
 returns-in_err-names c =
     let s = c.self.inside in
     let info = c.in_ok-info.info in
-    let there = got_of c.deref.result.now s.types.items c.args.union.0 (Some info) c.deref.ensures.value c.in_ok-info.ensures.lookup.0 c.in_ok-info.ensures.lookup.1 in
-    let held = got_of c.deref-2.result.now s.inner_names.items c.args.union.0 None c.deref-2.ensures.value c.in_err-names.ensures.lookup.0 c.in_err-names.ensures.lookup.1 in
-    absurd (index_held s.types.items c.args.union.0 info.now there (λ index t. IndexesNames index (inner_names t.body)) s.inner_names.items c.self.invariant.names held)
+    let there = got_of c.deref.result.now s.types.items c.args.union.0
+    (Some info) c.deref.ensures.value c.in_ok-info.ensures.lookup.0 c.in_ok-info.ensures.lookup.1 in
+    let held = got_of c.deref-2.result.now s.inner_names.items c.args.union.0 None c.deref-2.ensures.value
+    c.in_err-names.ensures.lookup.0 c.in_err-names.ensures.lookup.1 in
+    absurd (index_held s.types.items c.args.union.0 info.now there
+    (λ index t. IndexesNames index (inner_names t.body)) s.inner_names.items c.self.invariant.names held)
 
 pub returns : goal.returns
 returns c =
     let s = c.self.inside in
     let info = c.in_ok-info.info in
-    let there = got_of c.deref.result.now s.types.items c.args.union.0 (Some info) c.deref.ensures.value c.in_ok-info.ensures.lookup.0 c.in_ok-info.ensures.lookup.1 in
+    let there = got_of c.deref.result.now s.types.items c.args.union.0
+    (Some info) c.deref.ensures.value c.in_ok-info.ensures.lookup.0 c.in_ok-info.ensures.lookup.1 in
     rw (← c.self.view_is)
-    (c.code_in.ensures ∙ ap (λ (b : DeclaredBody). code_named b c.args.name.now) (sym (body_there s.types.items c.args.union.0 info.now there)))
+    (c.code_in.ensures ∙ ap (λ (b : DeclaredBody). code_named b c.args.name.now)
+    (sym (body_there s.types.items c.args.union.0 info.now there)))

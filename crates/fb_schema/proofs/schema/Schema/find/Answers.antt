@@ -1,4 +1,5 @@
-use Rattle.std.proofs.Common.{◌≡◌, ◌≢◌, ℕ, List, map, position, AllPairs, Option, None, Some, bytes_eq, string_bytes, ap, sym, subst, ◌∙◌}
+use Rattle.std.proofs.Common.{◌≡◌, ◌≢◌, ℕ, List, map, position, AllPairs, Option, None, Some, bytes_eq, string_bytes}
+use Rattle.std.proofs.Common.{ap, sym, subst, ◌∙◌}
 use Rattle.std.proofs.lemmas.Simd.{map-map}
 use Rattle.fb_schema.specs.declared.types.TypeInfo.{TypeInfo}
 use Rattle.fb_schema.specs.Schema.{Name, DeclaredType}
@@ -9,29 +10,36 @@ use Rattle.fb_schema.proofs.Positions.{position-map}
 use Rattle.fb_schema.proofs.schema.Schema.find.Goals as goal
 
 -- the full names of the types that are lent
-names_lent : (types xs : List TypeInfo) → xs ≡ types → map (λ t. t.name) (map type_seen types) ≡ map (λ t. string_bytes t.name) xs
+names_lent : (types xs : List TypeInfo) → xs ≡ types
+    → map (λ t. t.name) (map type_seen types) ≡ map (λ t. string_bytes t.name) xs
 names_lent types xs lent = map-map (λ t. t.name) type_seen types ∙ ap (map (λ t. string_bytes t.name)) (sym lent)
 
 -- a name's place in the list of the full names
-placed : (types : List DeclaredType) (names : List Name) (name : Name) (at : Option ℕ) → map (λ t. t.name) types ≡ names → at ≡ position (bytes_eq name) names
+placed : (types : List DeclaredType) (names : List Name) (name : Name) (at : Option ℕ) → map (λ t. t.name) types ≡ names
+    → at ≡ position (bytes_eq name) names
     → at ≡ position (λ t. bytes_eq name t.name) types
-placed types names name at listed place = place ∙ (ap (position (bytes_eq name)) (sym listed) ∙ position-map (λ t. t.name) (bytes_eq name) types)
+placed types names name at listed place = place
+    ∙ (ap (position (bytes_eq name)) (sym listed) ∙ position-map (λ t. t.name) (bytes_eq name) types)
 
 pub position-requires-clause-indexed : goal.position-requires-clause-indexed
 position-requires-clause-indexed c =
-    subst (λ (names : List Name). IndexesNames c.self.inside.full_names names) (names_lent c.self.inside.types.items c.as_slice.result.now c.as_slice.ensures.value) c.self.invariant.full
+    subst (λ (names : List Name). IndexesNames c.self.inside.full_names names)
+    (names_lent c.self.inside.types.items c.as_slice.result.now c.as_slice.ensures.value) c.self.invariant.full
 
 pub position-requires-clause-distinct : goal.position-requires-clause-distinct
 position-requires-clause-distinct c =
-    subst (λ (names : List Name). AllPairs (λ a b. a ≢ b) names) (names_lent c.self.inside.types.items c.as_slice.result.now c.as_slice.ensures.value)
+    subst (λ (names : List Name). AllPairs (λ a b. a ≢ b) names)
+    (names_lent c.self.inside.types.items c.as_slice.result.now c.as_slice.ensures.value)
     (keys_differ (λ t. t.name) (map type_seen c.self.inside.types.items) c.self.invariant.declared.names)
 
 pub returns-in_err-at : goal.returns-in_err-at
 returns-in_err-at c =
     rw (c.from_residual.ensures, ← c.self.view_is)
-    (placed (map type_seen c.self.inside.types.items) _ c.args.full_name.now None (names_lent c.self.inside.types.items c.as_slice.result.now c.as_slice.ensures.value) c.in_err-at.ensures)
+    (placed (map type_seen c.self.inside.types.items) _ c.args.full_name.now None
+    (names_lent c.self.inside.types.items c.as_slice.result.now c.as_slice.ensures.value) c.in_err-at.ensures)
 
 pub returns : goal.returns
 returns c =
     rw (← c.self.view_is)
-    (placed (map type_seen c.self.inside.types.items) _ c.args.full_name.now (Some c.in_ok-at.at) (names_lent c.self.inside.types.items c.as_slice.result.now c.as_slice.ensures.value) c.in_ok-at.ensures)
+    (placed (map type_seen c.self.inside.types.items) _ c.args.full_name.now (Some c.in_ok-at.at)
+    (names_lent c.self.inside.types.items c.as_slice.result.now c.as_slice.ensures.value) c.in_ok-at.ensures)

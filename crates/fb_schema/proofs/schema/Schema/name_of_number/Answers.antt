@@ -15,30 +15,41 @@ name_in-requires-clause-indexed c =
     let s = c.self.inside in
     let info = c.in_ok-info.info in
     let index = c.in_ok-numbers.numbers in
-    let there = got_of c.deref.result.now s.types.items c.args.enumeration.0 (Some info) c.deref.ensures.value c.in_ok-info.ensures.lookup.0 c.in_ok-info.ensures.lookup.1 in
-    let held = got_of c.deref-2.result.now s.inner_numbers.items c.args.enumeration.0 (Some index) c.deref-2.ensures.value c.in_ok-numbers.ensures.lookup.0 c.in_ok-numbers.ensures.lookup.1 in
-    index_there s.types.items c.args.enumeration.0 info.now there (λ index t. IndexesNumbers index (inner_numbers t.body)) s.inner_numbers.items index.now c.self.invariant.numbers held
+    let there = got_of c.deref.result.now s.types.items c.args.enumeration.0
+    (Some info) c.deref.ensures.value c.in_ok-info.ensures.lookup.0 c.in_ok-info.ensures.lookup.1 in
+    let held = got_of c.deref-2.result.now s.inner_numbers.items c.args.enumeration.0
+    (Some index) c.deref-2.ensures.value c.in_ok-numbers.ensures.lookup.0 c.in_ok-numbers.ensures.lookup.1 in
+    index_there s.types.items c.args.enumeration.0 info.now there
+    (λ index t. IndexesNumbers index (inner_numbers t.body)) s.inner_numbers.items index.now
+    c.self.invariant.numbers held
 
 pub name_in-requires-clause-distinct : goal.name_in-requires-clause-distinct
 name_in-requires-clause-distinct c =
     let s = c.self.inside in
     let info = c.in_ok-info.info in
-    let there = got_of c.deref.result.now s.types.items c.args.enumeration.0 (Some info) c.deref.ensures.value c.in_ok-info.ensures.lookup.0 c.in_ok-info.ensures.lookup.1 in
+    let there = got_of c.deref.result.now s.types.items c.args.enumeration.0
+    (Some info) c.deref.ensures.value c.in_ok-info.ensures.lookup.0 c.in_ok-info.ensures.lookup.1 in
     no_repeats_there s.types.items c.args.enumeration.0 info.now there s.root s.identifier c.self.invariant.declared
 
 pub returns-in_err-numbers : goal.returns-in_err-numbers
 returns-in_err-numbers c =
     let s = c.self.inside in
     let info = c.in_ok-info.info in
-    let there = got_of c.deref.result.now s.types.items c.args.enumeration.0 (Some info) c.deref.ensures.value c.in_ok-info.ensures.lookup.0 c.in_ok-info.ensures.lookup.1 in
-    let held = got_of c.deref-2.result.now s.inner_numbers.items c.args.enumeration.0 None c.deref-2.ensures.value c.in_err-numbers.ensures.lookup.0 c.in_err-numbers.ensures.lookup.1 in
-    absurd (index_held s.types.items c.args.enumeration.0 info.now there (λ index t. IndexesNumbers index (inner_numbers t.body)) s.inner_numbers.items c.self.invariant.numbers held)
+    let there = got_of c.deref.result.now s.types.items c.args.enumeration.0
+    (Some info) c.deref.ensures.value c.in_ok-info.ensures.lookup.0 c.in_ok-info.ensures.lookup.1 in
+    let held = got_of c.deref-2.result.now s.inner_numbers.items c.args.enumeration.0 None c.deref-2.ensures.value
+    c.in_err-numbers.ensures.lookup.0 c.in_err-numbers.ensures.lookup.1 in
+    absurd (index_held s.types.items c.args.enumeration.0 info.now there
+    (λ index t. IndexesNumbers index (inner_numbers t.body)) s.inner_numbers.items c.self.invariant.numbers held)
 
 pub returns : goal.returns
 returns c =
     let s = c.self.inside in
     let info = c.in_ok-info.info in
-    let there = got_of c.deref.result.now s.types.items c.args.enumeration.0 (Some info) c.deref.ensures.value c.in_ok-info.ensures.lookup.0 c.in_ok-info.ensures.lookup.1 in
-    let found = subst (λ (n : ℤ). option_copied c.name_in.result ≡ name_numbered (body_seen info.now.body) n) (to_z-of_z w128 c.args.number c.ranges.number) c.name_in.ensures in
+    let there = got_of c.deref.result.now s.types.items c.args.enumeration.0
+    (Some info) c.deref.ensures.value c.in_ok-info.ensures.lookup.0 c.in_ok-info.ensures.lookup.1 in
+    let found = subst (λ (n : ℤ). option_copied c.name_in.result ≡ name_numbered (body_seen info.now.body) n)
+    (to_z-of_z w128 c.args.number c.ranges.number) c.name_in.ensures in
     rw (← c.self.view_is)
-    (found ∙ ap (λ (b : DeclaredBody). name_numbered b c.args.number) (sym (body_there s.types.items c.args.enumeration.0 info.now there)))
+    (found ∙ ap (λ (b : DeclaredBody). name_numbered b c.args.number)
+    (sym (body_there s.types.items c.args.enumeration.0 info.now there)))

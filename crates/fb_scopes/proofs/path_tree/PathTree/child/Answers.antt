@@ -5,7 +5,9 @@ use Rattle.fb_scopes.proofs.path_tree.PathTree.child.Goals as goal
 
 pub returns-in_err-index-clause-missing : goal.returns-in_err-index-clause-missing
 returns-in_err-index-clause-missing c = if_none {P = Unit {0}} c.from_residual.result (λ u.
-    child_missing c.args.self.now.links.keys c.requires.tree c.args.path c.args.word.now c.requires.inside (sym c.in_err-index.ensures.found)) (search rules)
+    child_missing c.args.self.now.links.keys c.requires.tree c.args.path c.args.word.now c.requires.inside
+    (sym c.in_err-index.ensures.found)) (search rules)
 
 pub returns-clause-found : goal.returns-clause-found
-returns-clause-found c = child_found c.args.self.now.links.keys c.requires.tree c.in_ok-index.index c.args.path c.args.word.now (sym c.in_ok-index.ensures.index)
+returns-clause-found c = child_found c.args.self.now.links.keys c.requires.tree c.in_ok-index.index c.args.path
+    c.args.word.now (sym c.in_ok-index.ensures.index)

@@ -14,12 +14,18 @@ loop-word-preserved c =
       text = search rules;
       tree = search rules;
       kept = λ n p at. c.in_ok-path.ensures.kept n p (c.loop-word.invariant.kept n p at);
-      left = left_more (paths c.loop-word.self) (paths c.insert.new.self) c.loop-word.path c.in_ok-path.path c.in-Some.word.now (words rest) (words c.in-Some.behind.now) (get_or (paths c.args.self.now) c.args.path [] ++ words c.args.name.now)
-          c.loop-word.invariant.left (words-first rest c.in-Some.word.now c.in-Some.behind.now split.0 split.1 split.2) c.in_ok-path.ensures.child;
+      left = left_more (paths c.loop-word.self) (paths c.insert.new.self) c.loop-word.path c.in_ok-path.path
+          c.in-Some.word.now (words rest) (words c.in-Some.behind.now)
+          (get_or (paths c.args.self.now) c.args.path [] ++ words c.args.name.now)
+          c.loop-word.invariant.left (words-first rest c.in-Some.word.now c.in-Some.behind.now split.0 split.1 split.2)
+          c.in_ok-path.ensures.child;
     }
 
 pub returns-clause-path : goal.returns-clause-path
 returns-clause-path c =
     let rest = c.loop-word.rest.now in
     let one = words-one rest (c.in_default.ensures.byte (omega arith) (λ w o h. h)) in
-    IfOk-weaker c.insert-2.result _ _ (λ n at. left_last (paths c.loop-word.self) (paths c.insert-2.new.self) c.loop-word.path n rest (words rest) (get_or (paths c.args.self.now) c.args.path [] ++ words c.args.name.now) c.loop-word.invariant.left one at) c.insert-2.ensures.child
+    IfOk-weaker c.insert-2.result _ _ (λ n at. left_last (paths c.loop-word.self)
+    (paths c.insert-2.new.self) c.loop-word.path n rest (words rest)
+    (get_or (paths c.args.self.now) c.args.path [] ++ words c.args.name.now) c.loop-word.invariant.left one at)
+    c.insert-2.ensures.child

@@ -35,12 +35,15 @@ into_loose_spec 𝓤 𝓛 𝓜 𝓡 wired =
     let Run : List Val → SProp 𝓤 = λ ws. WpFn 𝓤 𝓛.H 𝓣.C 𝓣.Λ code.function ws Post in
     qed 𝓛 ((‵ ftrue ⊛ ‵ (fsep (Held.own_val v z.0.4.0) ftrue)) ∷ raw (fact 𝓤 (IsSome v.value)) ∷ []) ∵
     move ! (1 ∷ []) $ heard ! _ (λ some. split ! $ move ! (1 ∷ []) $ fsplit ! $ held_out ! v z.0.4.0 (λ is.
-    is_owned ! v.at v.value some (λ x has. at_block Kept ! v.at x (λ b o at_b. keep ! (0 ∷ []) $ let w : Val = lone (block_ptr b o) in
-    suffices ! (Run (w ∷ [])) (subst (λ (us : List Val). ent 𝓤 (Run (w ∷ [])) (Run us)) (sym (λ i. (is ∙ ap (λ (p : Ptr). lone p ∷ []) at_b) i ++ [])) (id⊢ 𝓤 (Run (w ∷ [])))) $
+    is_owned ! v.at v.value some (λ x has. at_block Kept ! v.at x
+    (λ b o at_b. keep ! (0 ∷ []) $ let w : Val = lone (block_ptr b o) in
+    suffices ! (Run (w ∷ [])) (subst (λ (us : List Val). ent 𝓤 (Run (w ∷ [])) (Run us))
+    (sym (λ i. (is ∙ ap (λ (p : Ptr). lone p ∷ []) at_b) i ++ [])) (id⊢ 𝓤 (Run (w ∷ [])))) $
     enter ! 𝓣.C 𝓣.Λ code.function (w ∷ []) Post $ alloc_all ! (λ l. pass_all ! refl ((tt, (tt, tt)), tt) $
     sets ! (of_opd ! (get_in ! (fld ! refl (stop !)) (sub ! 0 refl (whole !)))) refl (tt, tt) $
     sets ! (of_opd ! (get ! refl)) refl (tt, tt) $
     sets ! (agg ! (and_then ! (get ! refl) (no_more !))) refl (tt, (tt, tt)) $
     returns ! (look_at ! 0 refl) $ free_all ! refl $ loose_in Kept ! (block_ptr b o) x $
-    suffices ! _ (ends_at 𝓛 f.ended stayed c z (lone (block_ptr b o)) (record { at = block_ptr b o; value = x }) (tt, tt) (tt, tt)) $ says ! (sym has) $
+    suffices ! _ (ends_at 𝓛 f.ended stayed c z (lone (block_ptr b o)) (record { at = block_ptr b o; value = x })
+    (tt, tt) (tt, tt)) $ says ! (sym has) $
     nothing ! $ nothing ! $ join ! $ nothing ! $ done !))))))

@@ -33,13 +33,17 @@ of_spec 𝓤 𝓛 𝓜 𝓡 wired =
     f.Key.name code.function (code.unfolded 𝓤 𝓛.H 𝓜 𝓡 wired) (λ z are.
     let v = z.0.3.0 in let Post : Val → SProp 𝓤 = (walk_of 𝓛 f.ended stayed c).post z in
     let Run : List Val → SProp 𝓤 = λ ws. WpFn 𝓤 𝓛.H 𝓣.C 𝓣.Λ code.function ws Post in
-    qed 𝓛 ((‵ ftrue ⊛ ‵ (fsep ((Loose Kept).own_val v z.0.4.0) ftrue)) ∷ ‵ ftrue ∷ []) ∵ split ! $ move ! (1 ∷ []) $ fsplit ! $
-    loose_out Kept ! v z.0.4.0 (λ is. at_block Kept ! v.at v.value (λ b o at_b. keep ! (0 ∷ []) $ let w : Val = lone (block_ptr b o) in
-    suffices ! (Run (w ∷ [])) (subst (λ (us : List Val). ent 𝓤 (Run (w ∷ [])) (Run us)) (sym (λ i. (is ∙ ap (λ (p : Ptr). lone p ∷ []) at_b) i ++ [])) (id⊢ 𝓤 (Run (w ∷ [])))) $
+    qed 𝓛 ((‵ ftrue ⊛ ‵ (fsep ((Loose Kept).own_val v z.0.4.0) ftrue)) ∷ ‵ ftrue ∷ []) ∵ split ! $ move !
+    (1 ∷ []) $ fsplit ! $
+    loose_out Kept ! v z.0.4.0 (λ is. at_block Kept ! v.at v.value
+    (λ b o at_b. keep ! (0 ∷ []) $ let w : Val = lone (block_ptr b o) in
+    suffices ! (Run (w ∷ [])) (subst (λ (us : List Val). ent 𝓤 (Run (w ∷ [])) (Run us))
+    (sym (λ i. (is ∙ ap (λ (p : Ptr). lone p ∷ []) at_b) i ++ [])) (id⊢ 𝓤 (Run (w ∷ [])))) $
     enter ! 𝓣.C 𝓣.Λ code.function (w ∷ []) Post $ alloc_all ! (λ l. pass_all ! refl ((tt, (tt, tt)), tt) $
     sets ! (of_opd ! (get_in ! (fld ! refl (stop !)) (sub ! 0 refl (whole !)))) refl (tt, tt) $
     sets ! (of_opd ! (get ! refl)) refl (tt, tt) $
     sets ! (agg ! (and_then ! (get ! refl) (no_more !))) refl (tt, (tt, tt)) $
     returns ! (look_at ! 0 refl) $ free_all ! refl $ held_in ! (block_ptr b o) (Some v.value) $
-    suffices ! _ (ends_at 𝓛 f.ended stayed c z (lone (block_ptr b o)) (record { at = block_ptr b o; value = Some v.value }) (tt, tt) (tt, tt)) $ says ! refl $
+    suffices ! _ (ends_at 𝓛 f.ended stayed c z (lone (block_ptr b o))
+    (record { at = block_ptr b o; value = Some v.value }) (tt, tt) (tt, tt)) $ says ! refl $
     nothing ! $ nothing ! $ join ! $ nothing ! $ done !))))
