@@ -450,7 +450,7 @@ MEMORY = {
 
 
 def told_of_memory(err):
-    """The number of a line for want of memory, if it is explained; a line of 114 may stand alone, before there is a job."""
+    """The number of a line that memory ran out, if it is explained; a line of 114 may stand alone, before there is a job."""
     number, _, rest = err.decode().partition(" ")
     explained = f"Memory\nmemory ran out while {MEMORY[int(number)]}\n" if number in map(str, MEMORY) else None
     return number if rest == explained or (number, rest) == ("114", "Memory\n") else None
@@ -478,7 +478,7 @@ def memory(tests):
         tests.tell(f"growth {n} refused", number or not alone, f"{alone!r}")
         tests.tell(f"growths from {n} on refused", later == b"114 Memory\n", f"{later!r}")
     tests.tell("growths that are only asked for ahead", ahead == ASKED_AHEAD, f"{ahead}")
-    tests.tell("each want of memory was met", met - {None} == {str(it) for it in MEMORY}, f"{met}")
+    tests.tell("each fault of memory was met", met - {None} == {str(it) for it in MEMORY}, f"{met}")
     write("v.json", b'{"name":"Orc","weapons":[{"damage":70000}]}')
     words = ["binary", "--explain", "s.fbs", "v.json", "out.bin"]
     whole = tests.run(words).stderr

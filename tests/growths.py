@@ -17,7 +17,7 @@ from harness import Tests, content, program_of
 from hostile import refusing, shim
 
 EXAMPLES = ("tables", "structs", "union")
-# Each call, and the numbers that its want of memory may have; 0 is an error without a number.
+# Each call, and the numbers that its fault of memory may have; 0 is an error without a number.
 SCHEMA = {7, 23, 32}
 CALLS = {
     "parse": {7},
@@ -103,7 +103,7 @@ def growths(tests):
             totals[call].append(total)
             met[call] |= numbers
     for call, numbers in CALLS.items():
-        tests.tell(f"each want of memory of {call} was met", met[call] == numbers, f"{met[call]}, not {numbers}")
+        tests.tell(f"each fault of memory of {call} was met", met[call] == numbers, f"{met[call]}, not {numbers}")
         tests.tell(f"{call} takes memory", max(totals[call]) > 0)
     print("growths: " + ", ".join(f"{call} {' + '.join(map(str, counts))}" for call, counts in totals.items()))
     for example in EXAMPLES:

@@ -49,7 +49,7 @@ def refusing(library, wish, counts):
 
 
 def is_short_of_memory(done, front):
-    """Whether a run ended with the line for want of memory, and printed nothing but a part of its text."""
+    """Whether a run ended with the line that memory ran out, and printed nothing but a part of its text."""
     told = done.returncode == 1 and MEMORY.fullmatch(done.stderr)
     return told and front.startswith(done.stdout) and (not front or done.stdout != front)
 
