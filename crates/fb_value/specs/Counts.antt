@@ -1,112 +1,120 @@
 -- Cells, tables, vectors and texts, depth and nesting of a value, and whether it is whole.
 -- From the FlatBuffers documentation, "Verification": the depth of tables is bounded. Cells are this project's own
 -- measure.
-use Rattle.std.specs.Prelude.{ℕ, suc, ◌+◌, max, length, Bool, true, false, ◌&&◌}
-use Rattle.fb_value.specs.Datum.{Datum, a_number, a_text, a_vector, a_struct, a_table, a_member, an_unknown, Parts}
-use Rattle.fb_value.specs.Datum.{no_parts, more_parts, SlotEntries, no_entries, absent_entry, present_entry, count}
+use Rattle.std.specs.Prelude.{ℕ, suc, ◌+◌, max, Bool, true, false, ◌&&◌}
+use Rattle.fb_value.specs.Datum.{Datum, Parts, SlotEntries}
+use Rattle.fb_value.specs.Fold.{Measure, fold, parts_fold, entries_fold}
 
 -- One for each table, text and vector, one for each byte of a text and for each element of a vector.
-abbrev mutual
-  pub cells : Datum → ℕ
-  cells (a_number n) = 0
-  cells (a_text bytes) = 1 + length bytes
-  cells (a_vector ds) = (1 + count ds) + parts_cells ds
-  cells (a_struct ds) = parts_cells ds
-  cells (a_table t es) = 1 + entries_cells es
-  cells (a_member c d) = cells d
-  cells (an_unknown c) = 0
+abbrev pub cell_measure : Measure ℕ
+cell_measure = record {
+  nothing = 0;
+  text = λ bytes. 1 + bytes;
+  vector = λ elements within. (1 + elements) + within;
+  struct = λ within. within;
+  table = λ within. 1 + within;
+  member = λ within. within;
+  unknown = 0;
+  join = λ first rest. first + rest;
+}
 
-  pub parts_cells : Parts → ℕ
-  parts_cells no_parts = 0
-  parts_cells (more_parts d ds) = cells d + parts_cells ds
+abbrev pub cells : Datum → ℕ
+cells d = fold cell_measure d
 
-  pub entries_cells : SlotEntries → ℕ
-  entries_cells no_entries = 0
-  entries_cells (absent_entry es) = entries_cells es
-  entries_cells (present_entry d es) = cells d + entries_cells es
+abbrev pub parts_cells : Parts → ℕ
+parts_cells ds = parts_fold cell_measure ds
+
+abbrev pub entries_cells : SlotEntries → ℕ
+entries_cells es = entries_fold cell_measure es
 
 -- Its tables, vectors and texts, each as often as it stands there.
-abbrev mutual
-  pub entered : Datum → ℕ
-  entered (a_number n) = 0
-  entered (a_text bytes) = 1
-  entered (a_vector ds) = 1 + parts_entered ds
-  entered (a_struct ds) = parts_entered ds
-  entered (a_table t es) = 1 + entries_entered es
-  entered (a_member c d) = entered d
-  entered (an_unknown c) = 0
+abbrev pub entered_measure : Measure ℕ
+entered_measure = record {
+  nothing = 0;
+  text = λ bytes. 1;
+  vector = λ elements within. 1 + within;
+  struct = λ within. within;
+  table = λ within. 1 + within;
+  member = λ within. within;
+  unknown = 0;
+  join = λ first rest. first + rest;
+}
 
-  pub parts_entered : Parts → ℕ
-  parts_entered no_parts = 0
-  parts_entered (more_parts d ds) = entered d + parts_entered ds
+abbrev pub entered : Datum → ℕ
+entered d = fold entered_measure d
 
-  pub entries_entered : SlotEntries → ℕ
-  entries_entered no_entries = 0
-  entries_entered (absent_entry es) = entries_entered es
-  entries_entered (present_entry d es) = entered d + entries_entered es
+abbrev pub parts_entered : Parts → ℕ
+parts_entered ds = parts_fold entered_measure ds
+
+abbrev pub entries_entered : SlotEntries → ℕ
+entries_entered es = entries_fold entered_measure es
 
 -- The number of tables on the longest way, the outermost counted.
-abbrev mutual
-  pub depth : Datum → ℕ
-  depth (a_number n) = 0
-  depth (a_text bytes) = 0
-  depth (a_vector ds) = parts_depth ds
-  depth (a_struct ds) = parts_depth ds
-  depth (a_table t es) = suc (entries_depth es)
-  depth (a_member c d) = depth d
-  depth (an_unknown c) = 0
+abbrev pub depth_measure : Measure ℕ
+depth_measure = record {
+  nothing = 0;
+  text = λ bytes. 0;
+  vector = λ elements within. within;
+  struct = λ within. within;
+  table = λ within. suc within;
+  member = λ within. within;
+  unknown = 0;
+  join = λ first rest. max first rest;
+}
 
-  pub parts_depth : Parts → ℕ
-  parts_depth no_parts = 0
-  parts_depth (more_parts d ds) = max (depth d) (parts_depth ds)
+abbrev pub depth : Datum → ℕ
+depth d = fold depth_measure d
 
-  pub entries_depth : SlotEntries → ℕ
-  entries_depth no_entries = 0
-  entries_depth (absent_entry es) = entries_depth es
-  entries_depth (present_entry d es) = max (depth d) (entries_depth es)
+abbrev pub parts_depth : Parts → ℕ
+parts_depth ds = parts_fold depth_measure ds
 
--- Tables, vectors and union members on the longest way, and a struct as one level whatever structs stand in it.
-abbrev mutual
-  pub nesting : Datum → ℕ
-  nesting (a_number n) = 0
-  nesting (a_text bytes) = 0
-  nesting (a_vector ds) = suc (parts_nesting ds)
-  nesting (a_struct ds) = suc (struct_nesting ds)
-  nesting (a_table t es) = suc (entries_nesting es)
-  nesting (a_member c d) = suc (nesting d)
-  nesting (an_unknown c) = 0
+abbrev pub entries_depth : SlotEntries → ℕ
+entries_depth es = entries_fold depth_measure es
 
-  pub parts_nesting : Parts → ℕ
-  parts_nesting no_parts = 0
-  parts_nesting (more_parts d ds) = max (nesting d) (parts_nesting ds)
+-- Tables, vectors and union members on the longest way, and a struct as one level whatever structs stand in it: beside
+-- what a part takes, what it takes inside a struct, where a struct has no level of its own.
+abbrev pub nesting_measure : Measure (ℕ × ℕ)
+nesting_measure = record {
+  nothing = (0, 0);
+  text = λ bytes. (0, 0);
+  vector = λ elements within. (suc within.0, suc within.0);
+  struct = λ within. (suc within.1, within.1);
+  table = λ within. (suc within.0, suc within.0);
+  member = λ within. (suc within.0, suc within.0);
+  unknown = (0, 0);
+  join = λ first rest. (max first.0 rest.0, max first.1 rest.1);
+}
 
-  -- inside a struct, the structs in it take no level of their own
-  pub struct_nesting : Parts → ℕ
-  struct_nesting no_parts = 0
-  struct_nesting (more_parts (a_struct es) ds) = max (struct_nesting es) (struct_nesting ds)
-  struct_nesting (more_parts d ds) = max (nesting d) (struct_nesting ds)
+abbrev pub nesting : Datum → ℕ
+nesting d = (fold nesting_measure d).0
 
-  pub entries_nesting : SlotEntries → ℕ
-  entries_nesting no_entries = 0
-  entries_nesting (absent_entry es) = entries_nesting es
-  entries_nesting (present_entry d es) = max (nesting d) (entries_nesting es)
+abbrev pub parts_nesting : Parts → ℕ
+parts_nesting ds = (parts_fold nesting_measure ds).0
+
+abbrev pub struct_nesting : Parts → ℕ
+struct_nesting ds = (parts_fold nesting_measure ds).1
+
+abbrev pub entries_nesting : SlotEntries → ℕ
+entries_nesting es = (entries_fold nesting_measure es).0
 
 -- Whether it has no code that its schema doesn't know.
-abbrev mutual
-  pub is_whole : Datum → Bool
-  is_whole (a_number n) = true
-  is_whole (a_text bytes) = true
-  is_whole (a_vector ds) = parts_whole ds
-  is_whole (a_struct ds) = parts_whole ds
-  is_whole (a_table t es) = entries_whole es
-  is_whole (a_member c d) = is_whole d
-  is_whole (an_unknown c) = false
+abbrev pub whole_measure : Measure Bool
+whole_measure = record {
+  nothing = true;
+  text = λ bytes. true;
+  vector = λ elements within. within;
+  struct = λ within. within;
+  table = λ within. within;
+  member = λ within. within;
+  unknown = false;
+  join = λ first rest. first && rest;
+}
 
-  pub parts_whole : Parts → Bool
-  parts_whole no_parts = true
-  parts_whole (more_parts d ds) = is_whole d && parts_whole ds
+abbrev pub is_whole : Datum → Bool
+is_whole d = fold whole_measure d
 
-  pub entries_whole : SlotEntries → Bool
-  entries_whole no_entries = true
-  entries_whole (absent_entry es) = entries_whole es
-  entries_whole (present_entry d es) = is_whole d && entries_whole es
+abbrev pub parts_whole : Parts → Bool
+parts_whole ds = parts_fold whole_measure ds
+
+abbrev pub entries_whole : SlotEntries → Bool
+entries_whole es = entries_fold whole_measure es

@@ -1,5 +1,7 @@
 pub mod Datum
+pub mod Fold
 pub mod Counts
+pub mod Counted
 pub mod UpTo
 pub mod View
 pub mod Fits

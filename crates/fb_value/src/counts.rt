@@ -1,9 +1,9 @@
-//! Counts over values.
-ghost use Rattle.std.specs.Prelude.{◌≤◌, ◌^◌};
+//! What is counted of values.
+ghost use Rattle.std.specs.Prelude.{◌≡◌, ◌≤◌, ◌^◌, ◌+◌, max, ◌&&◌};
 ghost use Rattle.fb_value.specs.View.{view, parts_view, entries_view};
-ghost use Rattle.fb_value.specs.Counts.{cells as cells_of, parts_cells, entries_cells, nesting};
-ghost use Rattle.fb_value.specs.Counts.{depth as depth_of, parts_depth, entries_depth};
-ghost use Rattle.fb_value.specs.UpTo.{SomeBelow};
+ghost use Rattle.fb_value.specs.Counts.{cells as cells_of, depth as depth_of, is_whole, nesting};
+ghost use Rattle.fb_value.specs.Counted.{IsCountOf, IsCountOfParts, IsCountOfEntries};
+ghost use Rattle.fb_value.specs.UpTo.{SomeBelow, at_most_usize};
 
 use crate::values::Value;
 
@@ -13,48 +13,7 @@ pub fn cells(value: &Value) -> Option<u32>
     requires { nesting (view value.now) ≤ 300 }
     ensures { SomeBelow (2 ^ 32) result (cells_of (view value.now)) }
 {
-    cells_in(value)
-}
-
-#[cycle(cells)]
-fn cells_in(value: &Value) -> Option<u32>
-    ensures { SomeBelow (2 ^ 32) result (cells_of (view value.now)) }
-{
-    match value {
-        Value::Number(_) | Value::Other(_) => Some(0),
-        Value::Text(text) => u32::try_from(text.len()).ok()?.checked_add(1),
-        Value::Items(items) => {
-            let own = u32::try_from(items.len()).ok()?.checked_add(1)?;
-            own.checked_add(cells_in_parts(items)?)
-        }
-        Value::Fixed(parts) => cells_in_parts(parts),
-        Value::Fields(_, entries) => cells_in_entries(entries)?.checked_add(1),
-        Value::Member(_, member) => cells_in(member),
-    }
-}
-
-#[cycle(cells)]
-fn cells_in_parts(parts: &[Value]) -> Option<u32>
-    ensures { SomeBelow (2 ^ 32) result (parts_cells (parts_view parts.now)) }
-{
-    let mut total = 0u32;
-    for part in parts {
-        total = total.checked_add(cells_in(part)?)?;
-    }
-    Some(total)
-}
-
-#[cycle(cells)]
-fn cells_in_entries(entries: &[Option<Value>]) -> Option<u32>
-    ensures { SomeBelow (2 ^ 32) result (entries_cells (entries_view entries.now)) }
-{
-    let mut total = 0u32;
-    for entry in entries {
-        if let Some(value) = entry {
-            total = total.checked_add(cells_in(value)?)?;
-        }
-    }
-    Some(total)
+    u32::try_from(count(value).cells).ok()
 }
 
 /// The number of tables on the longest way, the outermost counted; None where that is over the
@@ -63,41 +22,99 @@ pub fn depth(value: &Value) -> Option<u8>
     requires { nesting (view value.now) ≤ 300 }
     ensures { SomeBelow (2 ^ 8) result (depth_of (view value.now)) }
 {
-    depth_in(value)
+    u8::try_from(count(value).depth).ok()
 }
 
-#[cycle(depth)]
-fn depth_in(value: &Value) -> Option<u8>
-    ensures { SomeBelow (2 ^ 8) result (depth_of (view value.now)) }
+/// Whether no union in it has a code that no member has.
+pub fn whole(value: &Value) -> bool
+    requires { nesting (view value.now) ≤ 300 }
+    ensures { result ≡ is_whole (view value.now) }
+{
+    count(value).is_whole
+}
+
+// What is counted of a value, with each number up to its type's greatest.
+#[derive(Clone, Copy)]
+struct Counts {
+    cells: usize,
+    depth: usize,
+    is_whole: bool,
+}
+
+const NOTHING: Counts = Counts {
+    cells: 0,
+    depth: 0,
+    is_whole: true,
+};
+
+#[cycle(count)]
+fn count(value: &Value) -> Counts
+    ensures { IsCountOf result (view value.now) }
 {
     match value {
-        Value::Number(_) | Value::Text(_) | Value::Other(_) => Some(0),
-        Value::Items(parts) | Value::Fixed(parts) => depth_in_parts(parts),
-        Value::Fields(_, entries) => depth_in_entries(entries)?.checked_add(1),
-        Value::Member(_, member) => depth_in(member),
+        Value::Number(_) => NOTHING,
+        Value::Text(text) => Counts {
+            cells: text.len().saturating_add(1),
+            ..NOTHING
+        },
+        Value::Items(items) => {
+            let within = count_parts(items);
+            let own = items.len().saturating_add(1);
+            Counts {
+                cells: own.saturating_add(within.cells),
+                ..within
+            }
+        }
+        Value::Fixed(parts) => count_parts(parts),
+        Value::Fields(_, entries) => {
+            let within = count_entries(entries);
+            Counts {
+                cells: within.cells.saturating_add(1),
+                depth: within.depth.saturating_add(1),
+                ..within
+            }
+        }
+        Value::Member(_, member) => count(member),
+        Value::Other(_) => Counts {
+            is_whole: false,
+            ..NOTHING
+        },
     }
 }
 
-#[cycle(depth)]
-fn depth_in_parts(parts: &[Value]) -> Option<u8>
-    ensures { SomeBelow (2 ^ 8) result (parts_depth (parts_view parts.now)) }
+#[cycle(count)]
+fn count_parts(parts: &[Value]) -> Counts
+    ensures { IsCountOfParts result (parts_view parts.now) }
 {
-    let mut deepest = 0u8;
+    let mut total = NOTHING;
     for part in parts {
-        deepest = deepest.max(depth_in(part)?);
+        total = join(total, count(part));
     }
-    Some(deepest)
+    total
 }
 
-#[cycle(depth)]
-fn depth_in_entries(entries: &[Option<Value>]) -> Option<u8>
-    ensures { SomeBelow (2 ^ 8) result (entries_depth (entries_view entries.now)) }
+#[cycle(count)]
+fn count_entries(entries: &[Option<Value>]) -> Counts
+    ensures { IsCountOfEntries result (entries_view entries.now) }
 {
-    let mut deepest = 0u8;
+    let mut total = NOTHING;
     for entry in entries {
         if let Some(value) = entry {
-            deepest = deepest.max(depth_in(value)?);
+            total = join(total, count(value));
         }
     }
-    Some(deepest)
+    total
+}
+
+// What is counted of one value and of the next together.
+fn join(first: Counts, next: Counts) -> Counts
+    ensures cells { result.cells ≡ at_most_usize (first.cells + next.cells) }
+    ensures depth { result.depth ≡ max first.depth next.depth }
+    ensures whole { result.is_whole ≡ (first.is_whole && next.is_whole) }
+{
+    Counts {
+        cells: first.cells.saturating_add(next.cells),
+        depth: first.depth.max(next.depth),
+        is_whole: first.is_whole && next.is_whole,
+    }
 }

@@ -10,11 +10,10 @@ mod laws;
 mod limits;
 mod rooms;
 mod shapes;
-mod union_codes;
 mod values;
 
 pub use copies::{copy, copy_part};
-pub use counts::{cells, depth};
+pub use counts::{cells, depth, whole};
 pub use equality::same;
 pub use faults::ReadFault;
 pub use fit::fits;
@@ -27,5 +26,4 @@ pub use laws::{
 };
 pub use limits::Limits;
 pub use rooms::{buffer_room, room, table_room, text_room, vector_room};
-pub use union_codes::whole;
 pub use values::Value;

@@ -51,7 +51,6 @@ module _ (L : LaidSchema) (made : IsWellMade L) (b : Bytes) (small : All (λ x. 
       known (part_place text_part) (p + num b p 4) (rw same lies.1)
   element_fits (table_kind t) p (Some X) d is known lies = let same : table_part t ≡ X = cc in
       known (part_place (table_part t)) (p + num b p 4) (rw same lies.1)
-  element_fits (scalar_kind base) p (Some X) d is known lies = cc
   element_fits _ p (Some X) d is known lies = cc
 
   mutual

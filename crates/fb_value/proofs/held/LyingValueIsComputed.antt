@@ -78,7 +78,6 @@ entry_complete L b (unknown_place c) p d ss fuel known lies = rw lies refl
 code_complete : (L : LaidSchema) (b : Bytes) (s : Sort) (p : ℕ) (ss : SlotEntries) (fuel : ℕ) → IsCode L b s p
     → entry_at L b (λ s q. datum_at fuel L b s q) s p ss ≡ Some (absent_entry ss)
 code_complete L b (code_place u k required here) p ss fuel lies = rw lies
-code_complete L b (ref_place X) p ss fuel lies = absurd lies
 code_complete L b _ p ss fuel lies = absurd lies
 
 -- A slot without an entry is computed to have none.
@@ -152,8 +151,7 @@ pub at_complete : (L : LaidSchema) (b : Bytes) (s : Sort) (p : ℕ) (d : Datum) 
 at_complete L b (ref_place X) p d fuel lies h = rw (lies.0, complete L b (part_place X) _ d fuel lies.1 h)
 at_complete L b (part_place X) p d fuel lies h = complete L b (part_place X) p d fuel lies h
 at_complete L b (inline_place kind) p d fuel lies h = complete L b (inline_place kind) p d fuel lies h
-at_complete L b (code_place u k required here) p d fuel lies h = absurd lies
-at_complete L b (unknown_place c) p d fuel lies h = absurd lies
+at_complete L b _ p d fuel lies h = absurd lies
 
 -- What lies at a place is one value at most.
 pub one_value : (L : LaidSchema) (b : Bytes) (s : Sort) (p : ℕ) (v w : Datum) → LiesAt L b s p v → LiesAt L b s p w

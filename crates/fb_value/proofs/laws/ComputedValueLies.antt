@@ -66,8 +66,7 @@ module _ (L : LaidSchema) (b : Bytes) (fuel : ℕ) (known : (s : Sort) (q : ℕ)
       (found.0, known (part_place X) _ d found.1)
   through_sound (part_place X) p d e = known (part_place X) p d e
   through_sound (inline_place kind) p d e = known (inline_place kind) p d e
-  through_sound (code_place u k required here) p d e = cc
-  through_sound (unknown_place c) p d e = cc
+  through_sound _ p d e = cc
 
   -- The element that is computed lies there.
   element_sound : (kind : StoredKind) (p : ℕ) (X : Option Target) (d : Datum)
@@ -178,6 +177,4 @@ sound (suc fuel) L b (part_place (member_part c t)) p d e =
     let found = bind_some _ _ _ e in
     subst (λ (x : Datum). Lies L b (part_place (member_part c t)) p x) (same_some (a_member c found.0) d found.2)
     (refl, sound fuel L b (part_place (table_part t)) p found.0 found.1)
-sound (suc fuel) L b (ref_place X) p d e = cc
-sound (suc fuel) L b (code_place u k required here) p d e = cc
-sound (suc fuel) L b (unknown_place c) p d e = cc
+sound (suc fuel) L b _ p d e = cc

@@ -5,7 +5,7 @@ use Rattle.fb_schema.specs.declared.kinds.TypeId.{TypeId}
 use Rattle.fb_schema.specs.declared.kinds.Kind.TheVariants.{Scalar, Enum, Struct, Table, Union, Code, Text}
 use Rattle.fb_schema.specs.declared.kinds.Shape.{Shape}
 use Rattle.fb_schema.specs.declared.kinds.Shape.TheVariants.{One, Many}
-use Rattle.fb_schema.specs.Schema.{DeclaredField, DeclaredBody, table_body, struct_body, enum_body, union_body}
+use Rattle.fb_schema.specs.Schema.{DeclaredField, DeclaredBody, table_body}
 use Rattle.fb_schema.specs.Schema.{DeclaredType, DeclaredSchema, body_at, body_in, slots_in}
 use Rattle.fb_schema.specs.WellDeclared.{IsBody, MarksFit, IsUnionPair}
 use Rattle.fb_layout.specs.Laid.{LaidSchema, Slot, stored_shape, slot_of, slots_of}
@@ -42,9 +42,7 @@ module _ (L : LaidSchema) (made : IsWellMade L) where
   body_marks : (t : ℕ) (body : DeclaredBody) → IsBody L.schema t body → (k : ℕ) (df : DeclaredField)
       → slice_get (slots_in body) k ≡ Some df → MarksFit L.schema df df.shape
   body_marks t (table_body fs) is k df e = (is.shapes k df e).1
-  body_marks t (struct_body fs align) is k df e = cc
-  body_marks t (enum_body base flags values) is k df e = cc
-  body_marks t (union_body members) is k df e = cc
+  body_marks t _ is k df e = cc
 
   type_marks : (t : ℕ) (o : Option DeclaredType) → slice_get L.schema.types t ≡ o → (k : ℕ) (df : DeclaredField)
       → slice_get (slots_in (body_in o)) k ≡ Some df → MarksFit L.schema df df.shape
@@ -59,9 +57,7 @@ module _ (L : LaidSchema) (made : IsWellMade L) where
       → slice_get (slots_in body) k ≡ Some df → df.shape ≡ One (Union u) → Led (slots_in body) k df u
   unfolding Led
   body_led t (table_body fs) is k df u e shape = is.unions.led k df u e shape
-  body_led t (struct_body fs align) is k df u e shape = cc
-  body_led t (enum_body base flags values) is k df u e shape = cc
-  body_led t (union_body members) is k df u e shape = cc
+  body_led t _ is k df u e shape = cc
 
   type_led : (t : ℕ) (o : Option DeclaredType) → slice_get L.schema.types t ≡ o
       → (k : ℕ) (df : DeclaredField) (u : TypeId) → slice_get (slots_in (body_in o)) k ≡ Some df

@@ -297,7 +297,6 @@ code_keeps L b f u k needed here q (Some d) lies = absurd lies
 -- the slot behind others
 pub next_there : (fs : List Slot) (j : ℕ) (f : Slot) → slice_get fs (suc j) ≡ Some f
     → next_required (drop (suc j) fs) ≡ f.required
-next_there [] j f e = cc
-next_there (g ∷ []) j f e = cc
 next_there (g ∷ h ∷ fs) zero f e = let is : h ≡ f = cc in rw is refl
 next_there (g ∷ h ∷ fs) (suc j) f e = next_there (h ∷ fs) j f e
+next_there _ j f e = cc

@@ -93,8 +93,7 @@ behind_sure L b most fuel (part_place X) p tables spent d known lies enough h i 
     known (part_place X) p fuel tables spent lies enough h i
 behind_sure L b most fuel (inline_place kind) p tables spent d known lies enough h i =
     known (inline_place kind) p fuel tables spent lies enough h i
-behind_sure L b most fuel (code_place u k required here) p tables spent d known lies enough h i = absurd lies
-behind_sure L b most fuel (unknown_place c) p tables spent d known lies enough h i = absurd lies
+behind_sure L b most fuel _ p tables spent d known lies enough h i = absurd lies
 
 -- No fault stands at a place without limits that names nothing.
 pub quiet : (L : LaidSchema) (b : Bytes) (most : Bounds) (fuel : ℕ) (s : Sort) (p tables spent : ℕ)
@@ -110,7 +109,6 @@ code_quiet : (L : LaidSchema) (b : Bytes) (most : Bounds) (fuel : ℕ) (s : Sort
     → Enough b p fuel → first_fault fuel L b most (record { sort = s; at = p }) tables spent ≡ None
 code_quiet L b most fuel (code_place u k required here) p tables spent is enough =
     quiet L b most fuel (code_place u k required here) p tables spent refl refl is enough
-code_quiet L b most fuel (ref_place X) p tables spent is enough = absurd is
 code_quiet L b most fuel _ p tables spent is enough = absurd is
 
 -- At the place that a slot names, no fault stands exactly where the entry is within the limits.

@@ -268,8 +268,7 @@ module _ (L : LaidSchema) (b : Bytes) (most : ℕ) (made : IsResolved L most) wh
       inlines_found fuel (scalar_kind base) refl tt h (p + 4) (num b p 4)
   vector_found fuel known (struct_kind s) p good ample h keep =
       inlines_found fuel (struct_kind s) refl good h (p + 4) (num b p 4)
-  vector_found fuel known (union_kind u) p good ample h keep = absurd good
-  vector_found fuel known (code_kind u) p good ample h keep = absurd good
+  vector_found fuel known _ p good ample h keep = absurd good
 
   -- A table is there.
   table_found : (fuel : ℕ) → Known fuel → (t p : ℕ) → Ample b most p (suc fuel)

@@ -324,9 +324,7 @@ lies_value L b made (inline_place kind) p d lies =
     let fuel = max (height d) (value_levels L b p) in
     inline_place_same L b made (value_levels L b p) fuel kind p (omega arith) (omega arith)
     ∙ complete L b (inline_place kind) p d fuel lies (omega arith)
-lies_value L b made (ref_place X) p d lies = absurd lies
-lies_value L b made (code_place u k needed here) p d lies = absurd lies
-lies_value L b made (unknown_place c) p d lies = absurd lies
+lies_value L b made _ p d lies = absurd lies
 
 -- What is computed at a place is what lies there.
 pub value_where_lies_shown : ValueWhereLies

@@ -56,8 +56,7 @@ behind_cells L b (ref_place X) p d known lies =
     omega (arith, known (part_place X) (p + num b p 4) lies.1, all_kept L b (ref_place X) p lies.0)
 behind_cells L b (part_place X) p d known lies = known (part_place X) p lies
 behind_cells L b (inline_place kind) p d known lies = known (inline_place kind) p lies
-behind_cells L b (code_place u k required here) p d known lies = absurd lies
-behind_cells L b (unknown_place c) p d known lies = absurd lies
+behind_cells L b _ p d known lies = absurd lies
 
 -- Nothing fails at the value of a code that no member has.
 pub unknown_keeps : (L : LaidSchema) (b : Bytes) (c p : ℕ) → Keeps L b (unknown_place c) p
@@ -79,7 +78,6 @@ entry_cells L b (unknown_place c) p d known lies =
 pub code_cells : (L : LaidSchema) (b : Bytes) (s : Sort) (p : ℕ) → IsCode L b s p
     → all L b (record { sort = s; at = p }) ≡ 0
 code_cells L b (code_place u k required here) p is = omega (arith, all_kept L b (code_place u k required here) p is)
-code_cells L b (ref_place X) p is = absurd is
 code_cells L b _ p is = absurd is
 
 -- A slot without an entry adds no cells.
@@ -104,7 +102,6 @@ references L b (Some X) p n = sum_over (all L b) (named_elements X p n)
 pub element_size : (L : LaidSchema) (kind : StoredKind) (X : Target) → target_of kind ≡ Some X → size_of L kind ≡ 4
 element_size L text_kind X e = refl
 element_size L (table_kind t) X e = refl
-element_size L (scalar_kind base) X e = cc
 element_size L _ X e = cc
 
 -- The first of some elements adds its cells.

@@ -6,7 +6,7 @@ use Rattle.fb_value.specs.Num.{Bytes, num}
 use Rattle.fb_layout.specs.Laid.{LaidSchema, Slot, StoredKind, scalar_kind, table_kind, union_kind, text_kind}
 use Rattle.fb_layout.specs.Laid.{StoredShape, one_of, slots_of, member_by_code}
 use Rattle.fb_value.specs.Places.{Target, table_part, member_part, text_part, vector_part, Sort, ref_place, part_place}
-use Rattle.fb_value.specs.Places.{inline_place, code_place, unknown_place, Place, named, named_slots, named_slot}
+use Rattle.fb_value.specs.Places.{Place, named, named_slots, named_slot}
 use Rattle.fb_value.specs.Places.{named_union, named_elements, slot_number, is_present, code_at}
 use Rattle.fb_value.specs.Rules.{Keeps, fault_by}
 use Rattle.fb_value.proofs.rules.RulesHoldOneByOne.{rule_held}
@@ -22,12 +22,9 @@ unfolding fault_by
 keeps_within L b (ref_place X) p k y e n = leb-true _ _ (rule_held _ _ _ (rule_held _ _ _ e).1).0
 keeps_within L b (part_place (table_part t)) p k y e n = leb-true _ _ (rule_held _ _ _ (rule_held _ _ _ e).1).0
 keeps_within L b (part_place (member_part c t)) p k y e n = leb-true _ _ (rule_held _ _ _ (rule_held _ _ _ e).1).0
-keeps_within L b (part_place text_part) p k y e n = cc
 keeps_within L b (part_place (vector_part kind)) p k y e n =
     leb-true _ _ (and_parts _ _ (rule_held _ _ _ (rule_held _ _ _ e).1).0).0
-keeps_within L b (inline_place kind) p k y e n = cc
-keeps_within L b (code_place u j required here) p k y e n = cc
-keeps_within L b (unknown_place c) p k y e n = cc
+keeps_within L b _ p k y e n = cc
 
 -- a place that stands only where a test holds
 pub if_there : (c : Bool) (x y : Place) → cond c (Some x) None ≡ Some y → (c ≡ true) × (x ≡ y)
@@ -87,7 +84,6 @@ pub vector_higher : (L : LaidSchema) (b : Bytes) (p : ℕ) (kind : StoredKind) (
     → slice_get (named L b (part_place (vector_part kind)) p) j ≡ Some (Some y) → p < y.at
 vector_higher L b p text_kind j y e = omega (arith, elements_higher text_part (p + 4) _ j y e)
 vector_higher L b p (table_kind t) j y e = omega (arith, elements_higher (table_part t) (p + 4) _ j y e)
-vector_higher L b p (scalar_kind base) j y e = cc
 vector_higher L b p _ j y e = cc
 
 -- What a reference leads to is at a greater position.
@@ -105,8 +101,5 @@ pub steps_up : (L : LaidSchema) (b : Bytes) (s : Sort) (p k : ℕ) (y : Place) �
 steps_up L b (ref_place X) p k y e n = ref_higher L b X p k y e n
 steps_up L b (part_place (table_part t)) p k y e n = slots_higher L b p 0 (slots_of L t) k y n
 steps_up L b (part_place (member_part c t)) p k y e n = slots_higher L b p 0 (slots_of L t) k y n
-steps_up L b (part_place text_part) p k y e n = cc
 steps_up L b (part_place (vector_part kind)) p k y e n = vector_higher L b p kind k y n
-steps_up L b (inline_place kind) p k y e n = cc
-steps_up L b (code_place u j required here) p k y e n = cc
-steps_up L b (unknown_place c) p k y e n = cc
+steps_up L b _ p k y e n = cc

@@ -232,8 +232,7 @@ module _ (L : LaidSchema) (al al2 : Aligned) (b c : Bytes) (k : ℕ)
       )
   behind_lies (part_place X) p d known h = known (part_place X) p h
   behind_lies (inline_place kind) p d known h = known (inline_place kind) p h
-  behind_lies (code_place u j required here) p d known h = absurd h
-  behind_lies (unknown_place e) p d known h = absurd h
+  behind_lies _ p d known h = absurd h
 
   element_lies : (kind : StoredKind) (p : ℕ) (X : Option Target) (d : Datum) → Known d
       → ElementBy al L b kind p X d (λ s q. LiesBy al L b s q d)

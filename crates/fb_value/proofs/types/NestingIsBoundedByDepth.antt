@@ -2,7 +2,7 @@
 use Rattle.std.proofs.Common.{◌≡◌, ◌↔◌, ℕ, ◌+◌, ◌*◌, ◌<◌, ◌≤◌, List, [], ◌∷◌, length, IsTrue, Option, None, Some}
 use Rattle.std.proofs.Common.{slice_get, refl, arith}
 use Rattle.std.proofs.lemmas.Option.{slice_get-get_or}
-use Rattle.fb_schema.specs.Schema.{DeclaredBody, table_body, struct_body, enum_body, union_body, DeclaredType, body_in}
+use Rattle.fb_schema.specs.Schema.{DeclaredBody, table_body, DeclaredType, body_in}
 use Rattle.fb_schema.specs.Schema.{is_table}
 use Rattle.fb_layout.specs.Laid.{LaidSchema, Slot, StoredKind, scalar_kind, struct_kind, table_kind, union_kind}
 use Rattle.fb_layout.specs.Laid.{code_kind, text_kind, StoredShape, one_of, vector_of, slots_of, parts_of, struct_at}
@@ -96,9 +96,7 @@ module _ (L : LaidSchema) (most : ℕ) (made : IsResolved L most) where
 body_fits : (L : LaidSchema) (t : ℕ) (type : DeclaredType) (body : DeclaredBody) (d : Datum) → type.body ≡ body
     → IsTrue (is_table body) → FitsKind L (kind_of_type t (Some type)) d ↔ Fits L (one_of (table_kind t)) d
 body_fits L t type (table_body fs) d e is = rw e ((λ h. h), (λ h. h))
-body_fits L t type (struct_body fs align) d e is = cc
-body_fits L t type (enum_body base flags values) d e is = cc
-body_fits L t type (union_body members) d e is = cc
+body_fits L t type _ d e is = cc
 
 type_fits : (L : LaidSchema) (t : ℕ) (o : Option DeclaredType) (d : Datum) → slice_get L.schema.types t ≡ o
     → t < length L.schema.types → IsTrue (is_table (body_in o))

@@ -95,9 +95,8 @@ element_stored S (Scalar base) names may = tt
 element_stored S (Enum e) names may = tt
 element_stored S (Struct s) names may = names.0
 element_stored S (Table t) names may = tt
-element_stored S (Union u) names may = absurd may
-element_stored S (Code u) names may = absurd may
 element_stored S Text names may = tt
+element_stored S _ names may = absurd may
 
 -- A declared shape, as a slot's.
 pub shape_stored : (S : DeclaredSchema) (shape : Shape) → IsShape S shape
