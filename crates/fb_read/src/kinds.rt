@@ -1,8 +1,11 @@
 //! What the values of a kind are.
 ghost use Rattle.std.specs.Prelude.{◌≡◌, option_map};
 ghost use Rattle.fb_layout.specs.Laid.{LaidSchema, stored_kind};
+ghost use Rattle.fb_value.specs.Places.{target_of};
+ghost use Rattle.fb_read.specs.Values.{led_to};
 ghost use Rattle.fb_read.specs.Kinds.{base_wanted, structure_wanted, table_wanted, is_text};
 
+use crate::reference::Reference;
 use fb_layout::Layout;
 use fb_schema::{Base, Kind, TypeId};
 
@@ -45,6 +48,18 @@ pub fn table_of(kind: Kind) -> Option<TypeId>
         | Kind::Union(_)
         | Kind::Code(_)
         | Kind::Text => None,
+    }
+}
+
+/// What a vector's elements refer to, where they are references.
+#[inline(always)]
+pub fn reference_of(kind: Kind) -> Option<Reference>
+    ensures { (L : LaidSchema) → option_map led_to result ≡ target_of (stored_kind L.schema kind) }
+{
+    match kind {
+        Kind::Text => Some(Reference::ToText),
+        Kind::Table(table) => Some(Reference::ToTable(table)),
+        Kind::Scalar(_) | Kind::Enum(_) | Kind::Struct(_) | Kind::Union(_) | Kind::Code(_) => None,
     }
 }
 

@@ -1,7 +1,7 @@
 //! A walk over all that is reached from a place.
 //!
 //! A call passes slices and results through memory, which costs more than most rules. So all that is
-//! done at a table is inlined into `visit_table`, but for what is seldom or has a loop of its own.
+//! done at a table is inlined into `visit_table_behind`, but for what is seldom or has a loop of its own.
 ghost use Rattle.std.specs.Prelude.{◌≡◌, ◌+◌, ◌*◌, ◌<◌, ◌≤◌, ◌^◌, length, OnOk, IfOk, Some, None, Err};
 ghost use Rattle.fb_layout.specs.Laid.{StoredKind, Slot, stored_kind, member_by_code};
 ghost use Rattle.fb_value.specs.Num.{num};
@@ -17,6 +17,7 @@ ghost use Rattle.fb_read.specs.Walks.{place, visit_in, visit_each_in, visit_entr
 ghost use Rattle.fb_read.specs.Walks.{TicksWithin, EntersAt, EntersSlot, EntersSlots, EntersItems};
 
 use crate::buffer::Buffer;
+use crate::kinds::reference_of;
 use crate::places::{follow, held_slot, stored_slots};
 use crate::reference::Reference;
 use crate::rules::{enter_table, open_vector, union_code};
@@ -31,7 +32,6 @@ use fb_schema::{FieldInfo, Kind, Shape, TypeId};
 use fb_value::ReadFault;
 
 /// Visits the table behind a reference.
-#[inline(always)]
 #[cycle(visit)]
 #[tactic(auto, using(crate::proofs::visit_tables::VisitsOnePlaceAfterAnother::visit_ref))]
 pub fn visit_table_behind<V: Visitor>(
@@ -60,6 +60,7 @@ pub fn visit_table_behind<V: Visitor>(
     visited
 }
 
+#[inline(always)]
 #[cycle(visit)]
 #[tactic(auto, using(crate::proofs::visit_tables::VisitsOnePlaceAfterAnother::table_limits))]
 fn visit_table<V: Visitor>(
@@ -308,19 +309,9 @@ fn visit_vector<V: Visitor>(
     }
     walk.spent = after;
     let first = at + 4;
-    match kind {
-        Kind::Text => visit_elements(buffer, walk, Reference::ToText, first, count, tables),
-        Kind::Table(table) => {
-            visit_elements(
-                buffer,
-                walk,
-                Reference::ToTable(table),
-                first,
-                count,
-                tables,
-            )
-        }
-        Kind::Scalar(_) | Kind::Enum(_) | Kind::Struct(_) | Kind::Union(_) | Kind::Code(_) => {
+    match reference_of(kind) {
+        Some(reference) => visit_elements(buffer, walk, reference, first, count, tables),
+        None => {
             let bytes = buffer.bytes;
             Ok(
                 walk.visitor

@@ -4,7 +4,7 @@ use Rattle.fb_schema.specs.declared.kinds.Kind.{Kind}
 use Rattle.fb_layout.specs.Laid.{struct_kind, slot_of, slots_of, stored_kind, member_by_code}
 use Rattle.fb_value.specs.Num.{num}
 use Rattle.fb_value.specs.Nth.{nth_entry, slot_place}
-use Rattle.fb_value.specs.Places.{member_part, table_part, text_part, vector_part, ref_place}
+use Rattle.fb_value.specs.Places.{member_part, table_part, vector_part, ref_place}
 use Rattle.fb_value.specs.Places.{part_place, inline_place, code_place}
 use Rattle.fb_value.specs.Places.{is_present, next_required, named_slots, named_elements}
 use Rattle.fb_read.specs.Values.{led_to}
@@ -13,7 +13,6 @@ use Rattle.fb_read.specs.Visits.{slot_seen, slots_seen, union_place}
 use Rattle.fb_read.proofs.visit_tables.EnteredPartsAreCounted.{slot_step, rest_entered, element_step, parts_end}
 use Rattle.fb_read.proofs.visit_tables.EnteredPartsAreCounted.{vector_entered, items_free, member_slot_entered}
 use Rattle.fb_read.proofs.visit_tables.EnteredPartsAreCounted.{inline_slot_entered, on_ok, on_any}
-use Rattle.fb_read.proofs.kinds.OnlyTextsAndTablesAreReferences.{no_target}
 use Rattle.fb_read.proofs.visit_tables.VisitsOnePlaceAfterAnother.{visit_fault, visit_table, visit_vector, visit_member}
 use Rattle.fb_read.proofs.visit_tables.VisitsOnePlaceAfterAnother.{visit_no_member, no_references, each_nil}
 use Rattle.fb_read.proofs.visit_tables.FrontIsFreeOfFaults.{front_next, front_fails, front_whole, slots_rest_free}
@@ -81,8 +80,8 @@ visit_slots-returns-clause-each g t c es lies =
     let all = c.loop-slot.invariant.entered es lies in
     omega (arith, rest, all)
 
-pub visit_vector-returns-in-Text-clause-visit : goal.visit_vector-returns-in-Text-clause-visit
-visit_vector-returns-in-Text-clause-visit g t c =
+pub visit_vector-returns-in-Some-clause-visit : goal.visit_vector-returns-in-Some-clause-visit
+visit_vector-returns-in-Some-clause-visit g t c =
     let L = c.args.buffer.now.layout.now in
     let b = c.args.buffer.now.bytes.now in
     let most = limits_of c.args.buffer.now in
@@ -94,42 +93,17 @@ visit_vector-returns-in-Text-clause-visit g t c =
     rw (
       visit_vector L b most (stored_kind L.schema c.args.kind) c.args.at c.args.tables c.args.walk.now.spent keeps
           small,
-      c.in-Text.is,
+      sym (c.in-Some.ensures L),
     ) visited
 
-pub visit_vector-returns-in-Text-clause-each : goal.visit_vector-returns-in-Text-clause-each
-visit_vector-returns-in-Text-clause-each g t c =
+pub visit_vector-returns-in-Some-clause-each : goal.visit_vector-returns-in-Some-clause-each
+visit_vector-returns-in-Some-clause-each g t c =
     let L = c.args.buffer.now.layout.now in
     let b = c.args.buffer.now.bytes.now in
     on_ok c.visit_elements.result (λ all. vector_entered L b (stored_kind L.schema c.args.kind) c.args.at
     c.in_ok-count.count _ _ c.in_ok-count.ensures.count
     (λ ds long lies. omega (arith, c.tick.ensures, all ds long lies)))
-    (c.visit_elements.ensures.each (stored_kind L.schema c.args.kind) (rw c.in-Text.is refl))
-
-pub visit_vector-returns-in-Table-clause-visit : goal.visit_vector-returns-in-Table-clause-visit
-visit_vector-returns-in-Table-clause-visit g t c =
-    let L = c.args.buffer.now.layout.now in
-    let b = c.args.buffer.now.bytes.now in
-    let most = limits_of c.args.buffer.now in
-    let keeps = c.in_ok-count.ensures.rules L (stored_kind L.schema c.args.kind) c.size_of-size.ensures
-    c.align_of.ensures in
-    let long : c.in_ok-count.count ≡ num b c.args.at 4 = c.in_ok-count.ensures.count in
-    let small : c.args.walk.now.spent + (1 + num b c.args.at 4) ≤ c.args.buffer.now.most_cells = omega arith in
-    let visited = rw (c.from.ensures, long) at c.visit_elements-in-Table.ensures.visit in
-    rw (
-      visit_vector L b most (stored_kind L.schema c.args.kind) c.args.at c.args.tables c.args.walk.now.spent keeps
-          small,
-      c.in-Table.is,
-    ) visited
-
-pub visit_vector-returns-in-Table-clause-each : goal.visit_vector-returns-in-Table-clause-each
-visit_vector-returns-in-Table-clause-each g t c =
-    let L = c.args.buffer.now.layout.now in
-    let b = c.args.buffer.now.bytes.now in
-    on_ok c.visit_elements-in-Table.result (λ all. vector_entered L b (stored_kind L.schema c.args.kind) c.args.at
-    c.in_ok-count.count _ _ c.in_ok-count.ensures.count
-    (λ ds long lies. omega (arith, c.tick.ensures, all ds long lies)))
-    (c.visit_elements-in-Table.ensures.each (stored_kind L.schema c.args.kind) (rw c.in-Table.is refl))
+    (c.visit_elements.ensures.each (stored_kind L.schema c.args.kind) (sym (c.in-Some.ensures L)))
 
 pub visit_slot-returns-in-One-Struct-clause-each : goal.visit_slot-returns-in-One-Struct-clause-each
 visit_slot-returns-in-One-Struct-clause-each g t c =
@@ -416,25 +390,15 @@ visit_vector-returns-then-after-most-clause-hears g t c = λ lasts.
     (c.in_ok-count.ensures.rules L kind c.size_of-size.ensures c.align_of.ensures) c.in_ok-count.ensures.count
     (omega arith)
 
-pub visit_vector-returns-in-Text-clause-hears : goal.visit_vector-returns-in-Text-clause-hears
-visit_vector-returns-in-Text-clause-hears g t c =
+pub visit_vector-returns-in-Some-clause-hears : goal.visit_vector-returns-in-Some-clause-hears
+visit_vector-returns-in-Some-clause-hears g t c =
     let L = c.args.buffer.now.layout.now in
     let kind = stored_kind L.schema c.args.kind in
-    vector_hears g.V.Visitor.takes_memory g.V.Visitor.told g.met.V.Visitor.silent c.args.buffer.now kind text_part
+    vector_hears g.V.Visitor.takes_memory g.V.Visitor.told g.met.V.Visitor.silent c.args.buffer.now kind (led_to c.in-Some.reference)
     c.args.at c.args.tables
-    c.args.walk.now.spent c.in_ok-count.count _ _ c.visit_elements.result (rw c.in-Text.is refl)
+    c.args.walk.now.spent c.in_ok-count.count _ _ c.visit_elements.result (sym (c.in-Some.ensures L))
     (c.in_ok-count.ensures.rules L kind c.size_of-size.ensures c.align_of.ensures) c.in_ok-count.ensures.count
     (omega arith) (rw c.from.ensures at c.visit_elements.ensures.hears)
-
-pub visit_vector-returns-in-Table-clause-hears : goal.visit_vector-returns-in-Table-clause-hears
-visit_vector-returns-in-Table-clause-hears g t c =
-    let L = c.args.buffer.now.layout.now in
-    let kind = stored_kind L.schema c.args.kind in
-    vector_hears g.V.Visitor.takes_memory g.V.Visitor.told g.met.V.Visitor.silent c.args.buffer.now kind (table_part
-    c.in-Table.table.0)
-    c.args.at c.args.tables c.args.walk.now.spent c.in_ok-count.count _ _ c.visit_elements-in-Table.result
-    (rw c.in-Table.is refl) (c.in_ok-count.ensures.rules L kind c.size_of-size.ensures c.align_of.ensures)
-    c.in_ok-count.ensures.count (omega arith) (rw c.from.ensures at c.visit_elements-in-Table.ensures.hears)
 
 pub visit_slot-returns-in-One-Scalar-clause-hears : goal.visit_slot-returns-in-One-Scalar-clause-hears
 visit_slot-returns-in-One-Scalar-clause-hears g t c =
@@ -524,21 +488,13 @@ visit_table-returns-clause-kept g t c =
     (length c.slots_of-slots.result.now) c.in_ok-entries.entries c.table.result long
     (rw slots c.in_ok-entries.ensures.kept) c.table.ensures
 
-pub visit_vector-returns-in-Text-clause-kept : goal.visit_vector-returns-in-Text-clause-kept
-visit_vector-returns-in-Text-clause-kept g t c =
+pub visit_vector-returns-in-Some-clause-kept : goal.visit_vector-returns-in-Some-clause-kept
+visit_vector-returns-in-Some-clause-kept g t c =
     let L = c.args.buffer.now.layout.now in
     let kind = stored_kind L.schema c.args.kind in
     if_ok c.visit_elements.result (λ kept known. vector_kept g.V.Visitor.keeps L c.args.buffer.now.bytes.now kind
-    c.args.at c.in_ok-count.count kept c.in_ok-count.ensures.count (known kind (rw c.in-Text.is refl)))
+    c.args.at c.in_ok-count.count kept c.in_ok-count.ensures.count (known kind (sym (c.in-Some.ensures L))))
     c.visit_elements.ensures.kept
-
-pub visit_vector-returns-in-Table-clause-kept : goal.visit_vector-returns-in-Table-clause-kept
-visit_vector-returns-in-Table-clause-kept g t c =
-    let L = c.args.buffer.now.layout.now in
-    let kind = stored_kind L.schema c.args.kind in
-    if_ok c.visit_elements-in-Table.result (λ kept known. vector_kept g.V.Visitor.keeps L c.args.buffer.now.bytes.now
-    kind c.args.at c.in_ok-count.count kept c.in_ok-count.ensures.count (known kind (rw c.in-Table.is refl)))
-    c.visit_elements-in-Table.ensures.kept
 
 pub visit_slot-returns-in_err-visit_code-in-One-Code-clause-visit :
     goal.visit_slot-returns-in_err-visit_code-in-One-Code-clause-visit
@@ -668,8 +624,8 @@ visit_union-returns-in-None-2-clause-visit g t c =
     rw none (visit_no_member L c.args.buffer.now.bytes.now most c.args.code c.args.at c.args.tables
     c.args.walk.now.spent)
 
-pub visit_vector-returns-in_ok-inlines-in-Scalar : goal.visit_vector-returns-in_ok-inlines-in-Scalar
-visit_vector-returns-in_ok-inlines-in-Scalar g t c =
+pub visit_vector-returns-in_ok-inlines-in-None : goal.visit_vector-returns-in_ok-inlines-in-None
+visit_vector-returns-in_ok-inlines-in-None g t c =
     let L = c.args.buffer.now.layout.now in
     let b = c.args.buffer.now.bytes.now in
     let most = limits_of c.args.buffer.now in
@@ -677,7 +633,7 @@ visit_vector-returns-in_ok-inlines-in-Scalar g t c =
     c.align_of.ensures in
     let long : c.from.result ≡ num b c.args.at 4 = c.from.ensures ∙ c.in_ok-count.ensures.count in
     let small : c.args.walk.now.spent + (1 + num b c.args.at 4) ≤ c.args.buffer.now.most_cells = omega arith in
-    let none = no_target L.schema c.args.kind c.in-Scalar.is in
+    let none = sym (c.in-None.ensures L) in
     record {
       visit = rw (
         visit_vector L b most (stored_kind L.schema c.args.kind) c.args.at c.args.tables c.args.walk.now.spent
@@ -693,5 +649,5 @@ visit_vector-returns-in_ok-inlines-in-Scalar g t c =
           omega (arith, free, c.tick.ensures));
       hears = refl;
       kept = vector_kept g.V.Visitor.keeps L b (stored_kind L.schema c.args.kind) c.args.at c.in_ok-count.count _
-          c.in_ok-count.ensures.count c.in_ok-inlines-in-Scalar.ensures.kept;
+          c.in_ok-count.ensures.count c.in_ok-inlines-in-None.ensures.kept;
     }

@@ -1,2 +1,0 @@
--- What the proofs of src/kinds.rt use.
-pub mod OnlyTextsAndTablesAreReferences
