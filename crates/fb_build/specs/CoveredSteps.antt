@@ -70,7 +70,7 @@ MadeWhole =
     → most ≤ greatest_align L (front ++ s) (reached_parts L (front ++ s) v)
     → IsMadeOf L (front ++ s) v
 
--- A buffer is covered once its header is laid in front of a tail in which a value lies that has nothing to spare.
+-- A buffer is covered once its header is laid in front of a tail in which a value lies that has no slack.
 abbrev pub CoveredWhole : Type 0
 CoveredWhole =
     (L : LaidSchema) (m : ℕ) (front s : Bytes) (e : ℕ) (v : Datum)

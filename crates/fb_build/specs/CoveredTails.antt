@@ -10,16 +10,16 @@ use Rattle.fb_build.specs.Stored.{IsTightTable}
 use Rattle.fb_tape.specs.InlineBytes.{IsTightInline, EachInlineAt}
 use Rattle.fb_build.specs.Pieces.{PartAt, reached, tables_vtables, Piece, part_piece}
 
--- A table has nothing to spare, and its vtable is in the tail too.
+-- A table has no slack, and its vtable is in the tail too.
 pub record IsTightInTail (L : LaidSchema) (s : Bytes) (t p : ℕ) : Type 0 where
   pub tight : IsTightTable L s t p
   pub inside : (nat_lt (num s p 4) (2 ^ 31) && nat_lt p (num s p 4)) ≡ false
 
--- The tables of the value that lies e bytes before the end have nothing to spare.
+-- The tables of the value that lies e bytes before the end have no slack.
 abbrev pub TightInTail : LaidSchema → Bytes → Sort → ℕ → Datum → Type 0
 TightInTail L s sort e d = EachTableAt L s (λ t p. IsTightInTail L s t p) sort (length s - e) d
 
--- Bytes laid in front keep that tables have nothing to spare.
+-- Bytes laid in front keep that tables have no slack.
 abbrev pub TightKeptInFront : Type 0
 TightKeptInFront = (L : LaidSchema) (m : ℕ) (front s : Bytes) (sort : Sort) (e : ℕ) (d : Datum)
     → LiesInTail L m s sort e d → TightInTail L s sort e d → TightInTail L (front ++ s) sort e d
@@ -48,11 +48,11 @@ abbrev pub ReachedKeptInFront : Type 0
 ReachedKeptInFront = (L : LaidSchema) (m : ℕ) (front s : Bytes) (X : Target) (e : ℕ) (d : Datum)
     → LiesInTail L m s (part_place X) e d → PartsKeptInFront L front s X e d
 
--- The numbers and structs of the value that lies e bytes before the end have nothing to spare.
+-- The numbers and structs of the value that lies e bytes before the end have no slack.
 abbrev pub InlineInTail : LaidSchema → Bytes → Sort → ℕ → Datum → Type 0
 InlineInTail L s sort e d = EachInlineAt L s (IsTightInline L s) sort (length s - e) d
 
--- Bytes laid in front keep that numbers and structs have nothing to spare.
+-- Bytes laid in front keep that numbers and structs have no slack.
 abbrev pub InlineKeptInFront : Type 0
 InlineKeptInFront = (L : LaidSchema) (m : ℕ) (front s : Bytes) (sort : Sort) (e : ℕ) (d : Datum)
     → LiesInTail L m s sort e d → InlineInTail L s sort e d → InlineInTail L (front ++ s) sort e d

@@ -12,7 +12,7 @@ use Rattle.fb_build.specs.CoveredTails.{IsTightInTail}
 use Rattle.fb_tape.specs.InlineBytes.{IsTightInline, EachInlineItem}
 
 -- Elements lie one behind the other, from the first byte of a tail on, their tables have nothing in slots that aren't
--- in use, and they, their structs and their numbers have nothing to spare.
+-- in use, and they, their structs and their numbers have no slack.
 pub record ItemsEnd (L : LaidSchema) (m : ℕ) (s : Bytes) (kind : StoredKind) (ds : Parts) : Type 0 where
   pub lie : LiesItemsBy (from_end s m) L s kind 0 ds
   pub old : EachItem L s (λ t p. IsOldTable L s t p) kind 0 ds

@@ -102,7 +102,7 @@ abbrev pub CodesItsMembers : LaidSchema → Bytes → ℕ → ℕ → Type 0
 CodesItsMembers L b t p = (k : ℕ) (f : Slot) (u : ℕ) → slice_get (slots_of L t) k ≡ Some f
     → f.shape ≡ one_of (union_kind u) → is_present b p k ≡ true → code_at b p (k - 1) ≢ 0
 
--- A table and its vtable have nothing to spare.
+-- A table and its vtable have no slack.
 pub record IsTightTable (L : LaidSchema) (b : Bytes) (t p : ℕ) : Type 0 where
   pub size : TellsItsSize L b t p
   pub trimmed : EndsWithAField b p

@@ -21,7 +21,7 @@ pub record Grows (a b : TailSeen) : Type 0 where
   pub multiple : divides a.most b.most ≡ true
 
 -- A value lies e bytes before the end, its tables have nothing in slots that aren't in use, and they, its structs and
--- its numbers have nothing to spare.
+-- its numbers have no slack.
 pub record LaidInTail (L : LaidSchema) (m : ℕ) (s : Bytes) (sort : Sort) (e : ℕ) (d : Datum) : Type 0 where
   pub lies : LiesInTail L m s sort e d
   pub old : OldInTail L s sort e d

@@ -1,5 +1,5 @@
--- The order in which breaches are told: the root, the identifier, then the old types by number, in a type its slots by
--- number, and at one place the lowest number first.
+-- The order in which breaches are reported: the root, the identifier, then the old types by number, in a type its slots
+-- by number, and at one place the lowest number first.
 use Rattle.std.specs.Prelude.{ℕ, ◌≡◌, ◌+◌, ◌<◌, ◌⊎◌}
 use Rattle.std.specs.Option.{option_map_or}
 use Rattle.fb_layout.specs.Laid.{LaidSchema}

@@ -1,24 +1,24 @@
-//! What breaches are told to.
+//! What breaches are reported to.
 ghost use Rattle.std.specs.Prelude.{⊤, ◌≡◌, List, [], ◌∷◌, ◌++◌, IfErr, OnOk};
 ghost use Rattle.fb_conform.specs.declared.breaches.Breach.{Breach};
 
 use crate::breaches::Breach;
 use std::alloc::AllocError;
 
-/// Is told breaches, one after another, until it stops.
+/// Takes breaches, one after another, until it stops.
 pub(crate) trait Sink {
     type Error;
 
-    // What it was told.
-    ghost told: { Self → List Breach };
+    // What was reported to it.
+    ghost reported: { Self → List Breach };
 
-    // By what error it stops at a breach, if it was told these before.
+    // By what error it stops at a breach, if these were reported before.
     ghost stops: { List Breach → Breach → Self.Error → Type 0 };
 
-    /// Tells it one more breach.
-    fn tell(&mut self, breach: Breach) -> Result<(), Self::Error>
-        ensures more { OnOk result (told self.new ≡ told self.old ++ breach ∷ []) }
-        ensures stopped { IfErr result (stops (told self.old) breach) };
+    /// Reports one more breach to it.
+    fn report(&mut self, breach: Breach) -> Result<(), Self::Error>
+        ensures more { OnOk result (reported self.new ≡ reported self.old ++ breach ∷ []) }
+        ensures stopped { IfErr result (stops (reported self.old) breach) };
 }
 
 /// Stops at the first breach.
@@ -28,11 +28,11 @@ pub(crate) struct FirstBreach;
 impl Sink for FirstBreach {
     type Error = Breach;
 
-    ghost told = { λ first. [] };
+    ghost reported = { λ first. [] };
 
     ghost stops = { λ before breach error. (before ≡ []) × (error ≡ breach) };
 
-    fn tell(&mut self, breach: Breach) -> Result<(), Breach> {
+    fn report(&mut self, breach: Breach) -> Result<(), Breach> {
         Err(breach)
     }
 }
@@ -41,11 +41,11 @@ impl Sink for FirstBreach {
 impl Sink for Vec<Breach> {
     type Error = AllocError;
 
-    ghost told = { λ list. list.items };
+    ghost reported = { λ list. list.items };
 
     ghost stops = { λ before breach error. ⊤ };
 
-    fn tell(&mut self, breach: Breach) -> Result<(), AllocError> {
+    fn report(&mut self, breach: Breach) -> Result<(), AllocError> {
         self.push(breach)?;
         Ok(())
     }

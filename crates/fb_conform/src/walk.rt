@@ -1,4 +1,4 @@
-//! One walk over two schemas that tells each breach that stands, in order.
+//! One walk over two schemas that reports each breach that stands, in order.
 ghost use Rattle.std.specs.Prelude.{◌≡◌, ◌<◌, ◌+◌, ◌↔◌, [], length, IsTrue, Some, option_map, option_copied};
 ghost use Rattle.fb_schema.specs.Seen.{field_seen};
 ghost use Rattle.fb_layout.specs.Laid.{LaidSchema};
@@ -18,12 +18,12 @@ use fb_layout::Layout;
 use fb_schema::{Body, FieldInfo, TypeId};
 
 /// Tells a breach, unless what it is about is kept.
-fn tell_unless<S: Sink>(sink: &mut S, kept: bool, breach: Breach) -> Result<(), S::Error>
+fn report_unless<S: Sink>(sink: &mut S, kept: bool, breach: Breach) -> Result<(), S::Error>
     ensures { (A B : LaidSchema) → IsTrue kept ↔ Kept A B breach
-        → Lists A B (λ r. IsBefore r breach) (S.told sink.old)
-        → Walks A B S.stops (λ r. IsUpTo r breach) (S.told sink.new) result }
+        → Lists A B (λ r. IsBefore r breach) (S.reported sink.old)
+        → Walks A B S.stops (λ r. IsUpTo r breach) (S.reported sink.new) result }
 {
-    if kept { Ok(()) } else { sink.tell(breach) }
+    if kept { Ok(()) } else { sink.report(breach) }
 }
 
 /// Tells the breaches of two fields in one slot.
@@ -38,17 +38,17 @@ fn walk_fields<S: Sink>(
 ) -> Result<(), S::Error>
     requires slot { TableSlot old.now.schema new.now.schema type_id.0 slot
         (Some (field_seen was.now)) (Some (field_seen is.now)) }
-    requires before { Lists old.now new.now (IsOfSlotsBelow type_id.0 slot) (S.told sink.old) }
-    ensures { Walks old.now new.now S.stops (IsOfSlotsBelow type_id.0 (slot + 1)) (S.told sink.new) result }
+    requires before { Lists old.now new.now (IsOfSlotsBelow type_id.0 slot) (S.reported sink.old) }
+    ensures { Walks old.now new.now S.stops (IsOfSlotsBelow type_id.0 (slot + 1)) (S.reported sink.new) result }
 {
     let shape = same_type(old, new, was, is);
-    tell_unless(sink, shape, Breach::FieldTypeChanged(type_id, slot))?;
+    report_unless(sink, shape, Breach::FieldTypeChanged(type_id, slot))?;
     let default = same_default(was, is);
-    tell_unless(sink, default, Breach::DefaultChanged(type_id, slot))?;
+    report_unless(sink, default, Breach::DefaultChanged(type_id, slot))?;
     let required = same_required(was, is);
-    tell_unless(sink, required, Breach::RequiredChanged(type_id, slot))?;
+    report_unless(sink, required, Breach::RequiredChanged(type_id, slot))?;
     let deprecated = stays_deprecated(was, is);
-    tell_unless(sink, deprecated, Breach::DeprecatedTakenBack(type_id, slot))
+    report_unless(sink, deprecated, Breach::DeprecatedTakenBack(type_id, slot))
 }
 
 /// Tells the breaches of one slot of two tables.
@@ -63,15 +63,15 @@ fn walk_slot<S: Sink>(
 ) -> Result<(), S::Error>
     requires slot { TableSlot old.now.schema new.now.schema type_id.0 slot
         (option_map field_seen (option_copied was)) (option_map field_seen (option_copied is)) }
-    requires before { Lists old.now new.now (IsOfSlotsBelow type_id.0 slot) (S.told sink.old) }
-    ensures { Walks old.now new.now S.stops (IsOfSlotsBelow type_id.0 (slot + 1)) (S.told sink.new) result }
+    requires before { Lists old.now new.now (IsOfSlotsBelow type_id.0 slot) (S.reported sink.old) }
+    ensures { Walks old.now new.now S.stops (IsOfSlotsBelow type_id.0 (slot + 1)) (S.reported sink.new) result }
 {
     match (was, is) {
         (Some(was), Some(is)) => walk_fields(sink, old, new, type_id, slot, was, is),
-        (Some(_), None) => sink.tell(Breach::SlotGone(type_id, slot)),
+        (Some(_), None) => sink.report(Breach::SlotGone(type_id, slot)),
         (None, Some(is)) => {
             let plain = !is_required(is);
-            tell_unless(sink, plain, Breach::NewRequired(type_id, slot))
+            report_unless(sink, plain, Breach::NewRequired(type_id, slot))
         }
         (None, None) => Ok(()),
     }
@@ -86,8 +86,8 @@ fn walk_slots<S: Sink>(
     twin: TypeId,
 ) -> Result<(), S::Error>
     requires tables { TableTwins old.now.schema new.now.schema type_id.0 twin.0 }
-    requires before { Lists old.now new.now (IsOfTypesBelow type_id.0) (S.told sink.old) }
-    ensures { Walks old.now new.now S.stops (IsOfTypesBelow (type_id.0 + 1)) (S.told sink.new) result }
+    requires before { Lists old.now new.now (IsOfTypesBelow type_id.0) (S.reported sink.old) }
+    ensures { Walks old.now new.now S.stops (IsOfTypesBelow (type_id.0 + 1)) (S.reported sink.new) result }
 {
     let was = old.slots_of(type_id);
     let is = new.slots_of(twin);
@@ -108,8 +108,8 @@ fn walk_bodies<S: Sink>(
     requires known { type_id.0 < length old.now.schema.types }
     requires found { twin.0 < length new.now.schema.types }
     requires twins { Twins old.now.schema new.now.schema type_id.0 twin.0 }
-    requires before { Lists old.now new.now (IsOfTypesBelow type_id.0) (S.told sink.old) }
-    ensures { Walks old.now new.now S.stops (IsOfTypesBelow (type_id.0 + 1)) (S.told sink.new) result }
+    requires before { Lists old.now new.now (IsOfTypesBelow type_id.0) (S.reported sink.old) }
+    ensures { Walks old.now new.now S.stops (IsOfTypesBelow (type_id.0 + 1)) (S.reported sink.new) result }
 {
     let was = body_of(old.schema(), type_id);
     let is = body_of(new.schema(), twin);
@@ -117,18 +117,18 @@ fn walk_bodies<S: Sink>(
         (Body::Table(_), Body::Table(_)) => walk_slots(sink, old, new, type_id, twin),
         (Body::Struct(_, _), Body::Struct(_, _)) => {
             let kept = same_struct(old, new, type_id, twin);
-            tell_unless(sink, kept, Breach::StructChanged(type_id))
+            report_unless(sink, kept, Breach::StructChanged(type_id))
         }
         (Body::Enum(base, flags, values), Body::Enum(other, marks, _)) => {
             let kept = same_numbers(*base, *flags, *other, *marks)
                 && has_values(new.schema(), twin, values);
-            tell_unless(sink, kept, Breach::EnumChanged(type_id))
+            report_unless(sink, kept, Breach::EnumChanged(type_id))
         }
         (Body::Union(members), Body::Union(_)) => {
             let kept = keeps_codes(old.schema(), new.schema(), twin, members);
-            tell_unless(sink, kept, Breach::UnionChanged(type_id))
+            report_unless(sink, kept, Breach::UnionChanged(type_id))
         }
-        _ => sink.tell(Breach::KindChanged(type_id)),
+        _ => sink.report(Breach::KindChanged(type_id)),
     }
 }
 
@@ -140,12 +140,12 @@ fn walk_type<S: Sink>(
     type_id: TypeId,
 ) -> Result<(), S::Error>
     requires known { type_id.0 < length old.now.schema.types }
-    requires before { Lists old.now new.now (IsOfTypesBelow type_id.0) (S.told sink.old) }
-    ensures { Walks old.now new.now S.stops (IsOfTypesBelow (type_id.0 + 1)) (S.told sink.new) result }
+    requires before { Lists old.now new.now (IsOfTypesBelow type_id.0) (S.reported sink.old) }
+    ensures { Walks old.now new.now S.stops (IsOfTypesBelow (type_id.0 + 1)) (S.reported sink.new) result }
 {
     match twin_of(old.schema(), new.schema(), type_id) {
         Some(twin) => walk_bodies(sink, old, new, type_id, twin),
-        None => sink.tell(Breach::TypeGone(type_id)),
+        None => sink.report(Breach::TypeGone(type_id)),
     }
 }
 
@@ -168,20 +168,20 @@ fn same_identifier(old: &Layout, new: &Layout) -> bool
 
 /// Tells the breaches of the root and the identifier.
 fn walk_header<S: Sink>(sink: &mut S, old: &Layout, new: &Layout) -> Result<(), S::Error>
-    requires { S.told sink.old ≡ [] }
-    ensures { Walks old.now new.now S.stops (IsOfTypesBelow 0) (S.told sink.new) result }
+    requires { S.reported sink.old ≡ [] }
+    ensures { Walks old.now new.now S.stops (IsOfTypesBelow 0) (S.reported sink.new) result }
 {
     let root = same_root(old, new);
-    tell_unless(sink, root, Breach::RootChanged)?;
+    report_unless(sink, root, Breach::RootChanged)?;
     let identifier = same_identifier(old, new);
-    tell_unless(sink, identifier, Breach::IdentifierChanged)
+    report_unless(sink, identifier, Breach::IdentifierChanged)
 }
 
 /// Tells each breach that stands: the root's, the identifier's, then the old types' by number, in a type its
 /// slots' by number, and at one place the one of the lowest number first.
 pub(crate) fn walk<S: Sink>(sink: &mut S, old: &Layout, new: &Layout) -> Result<(), S::Error>
-    requires { S.told sink.old ≡ [] }
-    ensures { Walks old.now new.now S.stops IsAny (S.told sink.new) result }
+    requires { S.reported sink.old ≡ [] }
+    ensures { Walks old.now new.now S.stops IsAny (S.reported sink.new) result }
 {
     walk_header(sink, old, new)?;
     for i in 0..old.schema().types().len() {

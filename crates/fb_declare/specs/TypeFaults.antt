@@ -41,7 +41,7 @@ abbrev pub names_of_field : FieldHost → ResolvedField → List Name
 names_of_field fields.Table r = names_of (slots_of_field r 0)
 names_of_field (fields.Struct struct) r = r.field.name.bytes ∷ []
 
--- A scalar or enum can't be required. Where the type is at fault `required` is let pass.
+-- A scalar or enum can't be required. Where the type is at fault `required` is ignored.
 abbrev pub attribute_host : FieldHost → FieldType → Meaning → AttributeHost
 attribute_host (fields.Struct struct) kind m = hosts.StructField
 attribute_host fields.Table (One n) (Known (Scalar base)) = hosts.ScalarField
@@ -78,7 +78,7 @@ struct_faults types declared lower s =
     ++ when (length s.fields == 0) (EmptyStruct s.declared.name.at)
     ++ faults_in_turn (field_behind declared (fields.Struct (length lower))) s.fields
 
--- Flags need an unsigned type. Where the type is at fault `bit_flags` is let pass.
+-- Flags need an unsigned type. Where the type is at fault `bit_flags` is ignored.
 abbrev pub host_of_enum : Option Base → AttributeHost
 host_of_enum None = hosts.Enum
 host_of_enum (Some base) = if is_unsigned base then hosts.Enum else hosts.SignedEnum

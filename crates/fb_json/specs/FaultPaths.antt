@@ -71,7 +71,7 @@ pub record Reaches {A S : Type 0} (reader : ℕ → A → S → Result S JsonFau
 
 -- ---- slots
 
--- a slot: the code that it tells or hands on, and the cells that are left behind it
+-- a slot: the code that it tells or passes on, and the cells that are left behind it
 abbrev pub slot_reader : LaidSchema → Look → ℕ → ℕ → ℕ → DeclaredField → ℕ × ℕ → Result (ℕ × ℕ) JsonFault
 slot_reader L look t levels k f s =
     code_after L.schema look (slot_place t k) s.0 f.deprecated f.name f.shape >>= λ c.

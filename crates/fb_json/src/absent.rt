@@ -51,7 +51,7 @@ fn is_of_union(slot: &FieldInfo) -> bool
     matches!(slot.shape, Shape::One(Kind::Union(_) | Kind::Code(_)))
 }
 
-/// Whether a slot has no member and needs none. Such a slot hands on the code that it was handed, and what it is given
+/// Whether a slot has no member and needs none. Such a slot passes on the code that it was given, and what it is given
 /// is its default, if it has one. In a table of many fields most slots are so.
 #[inline(always)]
 pub fn is_absent(slot: &FieldInfo, tree: Option<&Json>) -> bool

@@ -1,6 +1,6 @@
 //! Cuts a JSON text: the members of an object's text, and runs of the elements of an array's.
 //!
-//! Strings, escapes, brackets, commas and colons are all that is looked at. Whether a text may be cut there is decided
+//! Strings, escapes, brackets, commas and colons are all that it reads. Whether a text may be cut there is decided
 //! by reading the pieces.
 ghost use Rattle.std.specs.Prelude.{◌<◌, ◌≤◌, IfOk, IfSome, length};
 ghost use Rattle.fb_pieces.specs.Cuts.{IsMemberOf, IsRunOf};

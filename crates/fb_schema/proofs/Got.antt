@@ -1,4 +1,4 @@
--- What `get` of a slice lends is what is at the index.
+-- What `get` of a slice returns is what is at the index.
 use Rattle.std.proofs.Common.{◌≡◌, ℕ, Bor, List, length, get_or, slice_get, Option, None, Some, is_some, nat_lt, refl}
 use Rattle.std.proofs.Common.{ap, sym, ◌∙◌, arith}
 use Rattle.std.specs.Option.{option_copied, IfSome}

@@ -31,7 +31,7 @@ pub record OfLayout (text : List ℕ) (P : LaidSchema → Type 0) : Type 0 where
   pub accepted : IsAccepted text layout
   pub has : P layout
 
--- What a refusal by tokens or grammar says: whether the bytes are UTF-8 is looked at before all else.
+-- What a refusal by tokens or grammar says: whether the bytes are UTF-8 is checked first.
 abbrev pub IsSyntaxRefused : List ℕ → SyntaxFault → Type 0
 IsSyntaxRefused text (syntax_faults.NotUtf8 at) = (¬ (IsUtf8 text)) × (at ≡ utf8_valid_len text)
 IsSyntaxRefused text syntax_faults.Memory = IsUtf8 text
@@ -46,7 +46,7 @@ IsRefused text (Schema f) = (d : DeclsRead) × Parses text d
 IsRefused text (Layout f) = (d : DeclsRead) × (S : DeclaredSchema) × Parses text d × Declares d S
     × (f ≢ layout_faults.Memory → Refuses S f)
 
--- a want of memory in one of the layers
+-- one of the layers ran out of memory
 abbrev pub IsWant : SchemaTextFault → Type 0
 IsWant (Syntax f) = f ≡ syntax_faults.Memory
 IsWant (Schema f) = f ≡ schema_faults.Memory

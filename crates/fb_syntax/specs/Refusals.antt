@@ -7,7 +7,7 @@ use Rattle.fb_syntax.specs.declared.faults.SyntaxFault.TheVariants.{Unexpected, 
 use Rattle.fb_syntax.specs.FaultTable.{offset_of}
 use Rattle.fb_syntax.specs.Spells.{SpellsText}
 
--- Every fault but NotUtf8, also want of memory, is told of a text that is UTF-8.
+-- Every fault but NotUtf8 is that of a text that is UTF-8, and so is running out of memory.
 abbrev pub IsToldOfUtf8 : List ℕ → SyntaxFault → Type 0
 IsToldOfUtf8 text (NotUtf8 at) = Unit {0}
 IsToldOfUtf8 text _ = IsUtf8 text
@@ -30,7 +30,7 @@ IsToldOfTokens text _ = Unit {0}
 abbrev pub StandsWithin : ℕ → SyntaxFault → Type 0
 StandsWithin len fault = IfSome (offset_of fault) (λ at. at ≤ len)
 
--- what a text that is UTF-8 may be refused for before its grammar is looked at
+-- what a text that is UTF-8 may be refused for before its grammar is checked
 abbrev pub IsTokenFault : SyntaxFault → Type 0
 IsTokenFault (NotUtf8 at) = ⊥
 IsTokenFault (Unexpected at) = ⊥

@@ -18,7 +18,7 @@ fault_at stops.Memory offset = Memory
 fault_at stops.Unexpected offset = Unexpected offset
 fault_at stops.NestedVector offset = NestedVector offset
 
--- a fault of the grammar, or want of memory: no fault of a token
+-- a fault of the grammar, or that memory ran out: no fault of a token
 abbrev pub IsGrammarFault : SyntaxFault → Type 0
 IsGrammarFault Memory = Unit {0}
 IsGrammarFault (Unexpected at) = Unit {0}

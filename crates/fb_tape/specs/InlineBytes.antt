@@ -30,7 +30,7 @@ is_in_part L _ _ i = false
 abbrev pub PadsStructWithZeros : LaidSchema → Bytes → ℕ → ℕ → Type 0
 PadsStructWithZeros L b s p = ZeroUnless (is_in_part L (parts_of L s) (struct_at L s).offsets) b p (struct_at L s).size
 
--- A number or a struct has nothing to spare: a `bool` is 0 or 1, and a struct is padded with zeros.
+-- A number or a struct has no slack: a `bool` is 0 or 1, and a struct is padded with zeros.
 abbrev pub IsTightInline : LaidSchema → Bytes → StoredKind → ℕ → Type 0
 IsTightInline L b (scalar_kind base) p = IsBit base (num b p 1)
 IsTightInline L b (struct_kind s) p = PadsStructWithZeros L b s p

@@ -42,7 +42,7 @@ unfolding num slot_number named_slots named_elements first_failing fault_by all_
     fault_from header_fault
 cut_identifier = refl
 
--- In raw bytes no identifier is looked at.
+-- In raw bytes no identifier is checked.
 pub raw_held : Holds identified_int usual true (set test_bytes 4 0x55) (one_number 0)
 unfolding num slot_number named_slots first_failing fault_by header_fault
 raw_held = record {

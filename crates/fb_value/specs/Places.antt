@@ -22,7 +22,7 @@ pub data Sort : Type 0 where
   inline_place : StoredKind → Sort
   -- a union's code: its union, its value's slot, and whether that is required and present
   code_place : ℕ → ℕ → Bool → Bool → Sort
-  -- the value of a code that no member has: nothing is looked at there
+  -- the value of a code that no member has: nothing is read there
   unknown_place : ℕ → Sort
 
 pub record Place : Type 0 where
@@ -44,7 +44,7 @@ is_present b p k = nat_lt 0 (slot_number b p k)
 abbrev pub code_at : Bytes → ℕ → ℕ → ℕ
 code_at b p k = if is_present b p k then num b (p + slot_number b p k) 1 else 0
 
--- A union's value is the table of its code's member. Where no member has the code, nothing is looked at behind it.
+-- A union's value is the table of its code's member. Where no member has the code, nothing behind it is read.
 abbrev pub named_union : Bytes → ℕ → ℕ → ℕ → Option ℕ → Option Place
 named_union b p k c None =
     if not (c == 0) && is_present b p k then Some (record { sort = unknown_place c; at = p + slot_number b p k })

@@ -5,7 +5,7 @@ ghost use Rattle.flatc_c.specs.Settings.{limits_of, AreSet};
 
 use flatc_tool::Limits;
 
-/// The limits, and what is let pass.
+/// The limits, and what is ignored.
 ///
 /// `size` is the struct's size in bytes as the caller knows it; fields that end behind it have their defaults.
 #[repr(C)]

@@ -65,8 +65,8 @@ abbrev pub MayBeBinary : List ℕ → List ℕ → Bounds → Bool → Type 0
 MayBeBinary schema json most unknown = OfLayout schema (λ L. MayBeBinaryOf L json most unknown)
 
 -- The refusal of the first layer that refuses, in the order JSON text, value, size; of a tree that breaks rules its
--- first fault. Where a layer wants memory, the layers before it have passed; `Memory` alone is of the reading of the
--- JSON text.
+-- first fault. Where a layer runs out of memory, the layers before it have passed; `Memory` alone is of the reading of
+-- the JSON text.
 abbrev pub BinaryRefusedOf : LaidSchema → List ℕ → Bounds → Bool → ToolFault → Type 0
 BinaryRefusedOf L json most unknown BadJson = (t : Data) → ¬ IsTree json t
 BinaryRefusedOf L json most unknown (Json f) = (t : Data) × IsTree json t × TreeRefused L most unknown t f
@@ -76,7 +76,7 @@ BinaryRefusedOf L json most unknown (Build the_build.Memory) = MayBeBinaryOf L j
 BinaryRefusedOf L json most unknown Memory = Unit {0}
 BinaryRefusedOf L json most unknown _ = ⊥
 
--- The refusal of the schema, which is looked at first, or one under its layout.
+-- The refusal of the schema, which is checked first, or one under its layout.
 abbrev pub BinaryRefused : List ℕ → List ℕ → Bounds → Bool → ToolFault → Type 0
 BinaryRefused schema json most unknown (Schema f) = IsRefused schema f
 BinaryRefused schema json most unknown f = OfLayout schema (λ L. BinaryRefusedOf L json most unknown f)
@@ -111,7 +111,7 @@ TextRefusedOf L b most raw (Read f) = Refuses L most raw b f
 TextRefusedOf L b most raw (Text f) = (v : Datum) × Holds L most raw b v × IsUnnamed (type_place L.schema.root) v f
 TextRefusedOf L b most raw _ = ⊥
 
--- The refusal of the schema, which is looked at first, or one under its layout.
+-- The refusal of the schema, which is checked first, or one under its layout.
 abbrev pub TextRefused : List ℕ → Bytes → Bounds → Bool → ToolFault → Type 0
 TextRefused schema b most raw (Schema f) = IsRefused schema f
 TextRefused schema b most raw f = OfLayout schema (λ L. TextRefusedOf L b most raw f)

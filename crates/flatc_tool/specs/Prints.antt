@@ -38,7 +38,7 @@ PrintRefusedOf L b most raw defaults start known (Write (WriteFailed n)) =
     × Appends start known (take m text) × (n ≡ counted m)
 PrintRefusedOf L b most raw defaults start known _ = ⊥
 
--- The refusal of the schema, which is looked at first, or one under its layout.
+-- The refusal of the schema, which is checked first, or one under its layout.
 abbrev pub PrintRefused : List ℕ → Bytes → Bounds → Bool → Bool → Option (List ℕ) → Option (List ℕ) → ToolFault → Type 0
 PrintRefused schema b most raw defaults start known (Schema f) = IsRefused schema f
 PrintRefused schema b most raw defaults start known f =

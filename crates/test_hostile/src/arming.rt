@@ -1,7 +1,7 @@
 //! The part of a run whose growths may be refused, and what came of a call there.
 use std::io::{self, Write};
 
-/// What came of a call: the right answer, want of memory by the number of its layer, or anything else.
+/// What came of a call: the right answer, that memory ran out by the number of its layer, or anything else.
 #[derive(Clone, Copy, PartialEq, Eq, Drop)]
 pub(crate) enum Outcome {
     Right,
@@ -19,7 +19,7 @@ impl Outcome {
         }
     }
 
-    /// Of a refusal: `Short` for a number of want of memory.
+    /// Of a refusal: `Short` for a number that says that memory ran out.
     pub(crate) fn of_refusal(number: u8) -> Outcome {
         match number {
             7 | 23 | 32 | 41 | 64 | 80 | 84 | 114 => Outcome::Short(number),

@@ -79,7 +79,7 @@ fn try_line(rt: &HostRuntime, arms: bool) -> Outcome {
     }
 }
 
-/// What comes of a report on a fault: its line, or the line for want of memory.
+/// What comes of a report on a fault: its line, or the line that says that memory ran out.
 fn of_report(status: u8, out: &Matching<'_>, err: &Matching<'_>) -> Outcome {
     if status != 1 || !out.is_first() {
         return Outcome::Wrong;

@@ -28,7 +28,7 @@ fn cut_bytes(example: &Example) -> &'static [u8] {
     }
 }
 
-/// A count that is to be the one that is `known`, or want of memory.
+/// A count that is to be the one that is `known`, or that memory ran out.
 fn of_count(known: Result<usize, AllocError>, answer: Result<usize, AllocError>) -> Outcome {
     let Ok(known) = known else {
         return Outcome::Wrong;

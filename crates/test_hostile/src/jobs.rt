@@ -64,7 +64,7 @@ fn try_conform(rt: &HostRuntime, example: &Example, arms: bool) -> Outcome {
     }
 }
 
-/// A name that is moved, or want of memory.
+/// A name that is moved, or that memory ran out.
 fn try_names(rt: &HostRuntime, example: &Example, arms: bool) -> Outcome {
     arm(rt, arms);
     let answer = conform_names(rt.alloc(), example.schema, example.moved);

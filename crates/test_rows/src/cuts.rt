@@ -2,7 +2,7 @@
 use flatc_tool::schema_of;
 use std::alloc::Global;
 
-/// The numbers of the layers' faults for want of memory.
+/// The numbers of the layers' faults for memory that ran out.
 const MEMORY: [u8; 3] = [7, 23, 32];
 
 /// Whether a text without its end gives a layout or a fault of its own.

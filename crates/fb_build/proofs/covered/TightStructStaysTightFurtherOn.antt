@@ -1,4 +1,4 @@
--- Numbers and structs that have nothing to spare have nothing to spare where the same bytes stand further on.
+-- Numbers and structs that have no slack have none where the same bytes stand further on.
 use Rattle.std.proofs.Common.{◌≡◌, ℕ, ◌+◌, ◌-◌, ◌++◌, List, [], ◌∷◌, length, map, slice_index, Option, None, Some}
 use Rattle.std.proofs.Common.{option_map, ap, sym, ◌∙◌, subst, arith, length-append}
 use Rattle.std.proofs.lemmas.List.{get_or-append-add}

@@ -1,4 +1,4 @@
--- A table that has nothing to spare has nothing to spare where the same bytes stand further on.
+-- A table that has no slack has none where the same bytes stand further on.
 use Rattle.std.proofs.Common.{◌≡◌, ℕ, suc, ◌+◌, ◌-◌, ◌^◌, ◌++◌, true, nat_lt, List, [], ◌∷◌, length, slice_index, refl}
 use Rattle.std.proofs.Common.{ap, sym, ◌∙◌, subst, arith, length-append}
 use Rattle.std.specs.Prelude.{pos}

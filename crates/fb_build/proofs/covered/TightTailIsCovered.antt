@@ -1,4 +1,4 @@
--- A buffer is covered where its tail has nothing to spare.
+-- A buffer is covered where its tail has no slack.
 use Rattle.std.proofs.Common.{◌≡◌, ℕ, ◌+◌, ◌-◌, ◌++◌, inl, inr, true, ◌==◌, List, [], ◌∷◌, length, take, drop, map}
 use Rattle.std.proofs.Common.{slice_index, refl, ap, sym, ◌∙◌, subst, arith, length-append}
 use Rattle.std.proofs.lemmas.Bool.{false≢true, or_cases, or_left, or_right, eqb-true, eq-eqb}

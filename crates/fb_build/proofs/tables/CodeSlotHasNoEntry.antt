@@ -27,7 +27,7 @@ entry_from al L b (code_place u k required here) p d lies h = absurd h
 entry_from al L b (unknown_place c) p d lies h = absurd h
 
 -- what a slot has, whose tables have nothing in slots that aren't in use, and they, its structs and its numbers have
--- nothing to spare
+-- no slack
 unfoldable pub EntryLies : Aligned → LaidSchema → Bytes → Slot → Option Place → Option Datum → Type 0
 EntryLies al L b f place None = AbsentEntryBy al L b f place
 EntryLies al L b f place (Some d) = PresentEntryBy al L b f place d (λ sort q. LiesBy al L b sort q d)

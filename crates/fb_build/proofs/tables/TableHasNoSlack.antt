@@ -1,4 +1,4 @@
--- A table that was laid has nothing to spare.
+-- A table that was laid has no slack.
 use Rattle.std.proofs.Common.{◌≡◌, ◌≢◌, ℕ, zero, suc, ◌+◌, ◌-◌, ◌*◌, ◌^◌, ◌<◌, ◌≤◌, ◌⊎◌, inl, inr, ◌++◌, Bool, true}
 use Rattle.std.proofs.Common.{false, not, ◌&&◌, ◌||◌, nat_lt, List, length, replicate, slice_get, slice_index, Option}
 use Rattle.std.proofs.Common.{None, Some, pos, refl, ap, sym, ◌∙◌, subst, arith, length-append}

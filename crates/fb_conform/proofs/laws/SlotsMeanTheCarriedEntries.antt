@@ -31,7 +31,7 @@ abbrev pub Told : Option DeclaredField → ℕ → ℕ → Type 0
 Told None a b = Unit {0}
 Told (Some g) a b = is_code g.deprecated g.shape ≡ true → b ≡ a
 
--- a slot that is no code in use hands on the code that it was handed
+-- a slot that is no code in use passes on the code that it was given
 pub handed_on : (S : DeclaredSchema) (ms : Members) (g : DeclaredField) (gone : Bool) (s : Shape) (b : ℕ)
     → is_code gone s ≡ false → CodeAt S ms g gone s b b
 handed_on S ms g false (One (Code u)) b e = absurd cc
@@ -223,7 +223,7 @@ pub used_code : (gone : Bool) (s : Shape) → is_code gone s ≡ true → gone �
 used_code false s e = refl
 used_code true s e = absurd cc
 
--- what isn't a code in use hands on what it was handed
+-- what isn't a code in use passes on what it was given
 pub handed : (S : DeclaredSchema) (ms : Members) (f : DeclaredField) (gone : Bool) (s : Shape) (a c : ℕ)
     → is_code gone s ≡ false → CodeAt S ms f gone s a c → c ≡ a
 handed S ms f false (One (Code u)) a c e h = absurd cc

@@ -25,8 +25,8 @@ use Rattle.fb_conform.specs.Order.{IsAny}
 use Rattle.fb_conform.specs.Twins.{twin, Twins, SlotTwins, TableTwins, TableSlot}
 use Rattle.fb_conform.proofs.twins.TypesAreFoundByTheirNames.{twin_declared}
 use Rattle.fb_conform.proofs.walk.EachBreachHasItsPlace.{id, place, numbered, header}
-use Rattle.fb_conform.proofs.walk.BreachesAreToldInOrder.{more, next, slot_start, slot_end, slot_passed, type_passed}
-use Rattle.fb_conform.proofs.walk.BreachesAreToldInOrder.{walked_on, one_walked}
+use Rattle.fb_conform.proofs.walk.BreachesAreReportedInOrder.{more, next, slot_start, slot_end, slot_passed}
+use Rattle.fb_conform.proofs.walk.BreachesAreReportedInOrder.{type_passed, walked_on, one_walked}
 use Rattle.fb_conform.proofs.walk.OtherBreachesAreKept.{own_number, IsOther, not_tables, untwinned, body_kept, no_slots}
 use Rattle.fb_conform.proofs.walk.OtherBreachesAreKept.{slot_kept, tables_own, pair_decides}
 

@@ -1,4 +1,4 @@
--- What is kept of two types of one full name, but for the breaches that a walk tells of them.
+-- What is kept of two types of one full name, but for the breaches that a walk reports of them.
 use Rattle.std.proofs.Common.{◌≡◌, ◌≢◌, ℕ, ◌+◌, ◌<◌, ◌≤◌, ◌⊎◌, inl, inr, ◌↔◌, Bool, true, false, IsTrue, length, List}
 use Rattle.std.proofs.Common.{All, Contains, ℤ, Option}
 use Rattle.std.proofs.Common.{None, Some, slice_get, refl, sym, ap, subst, ◌∙◌, arith}

@@ -1,6 +1,6 @@
 //! The counter that one reading begins and its walk can't forge.
 //!
-//! What a walk enters is bounded by the counter that it was lent. A walk that made a counter of its own
+//! What a walk enters is bounded by the counter that it borrows. A walk that made a counter of its own
 //! could enter each table twice and count it once. So only `read` and `verify` can make this one.
 ghost use Rattle.std.specs.Prelude.{◌≡◌, ◌+◌};
 

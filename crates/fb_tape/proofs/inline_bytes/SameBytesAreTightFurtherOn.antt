@@ -1,4 +1,4 @@
--- Numbers and structs that have nothing to spare have nothing to spare where the same bytes stand further on.
+-- Numbers and structs that have no slack have none where the same bytes stand further on.
 use Rattle.std.proofs.Common.{◌≡◌, ℕ, ◌+◌, List, ◌∷◌, slice_index, ap, sym, ◌∙◌, subst, arith}
 use Rattle.fb_layout.specs.Laid.{LaidSchema, StoredKind, scalar_kind, struct_kind, parts_of, struct_at}
 use Rattle.fb_value.specs.Datum.{Datum, a_struct, Parts, more_parts}

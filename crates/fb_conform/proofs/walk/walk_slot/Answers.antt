@@ -3,7 +3,7 @@ use Rattle.fb_schema.specs.Seen.{field_seen}
 use Rattle.fb_conform.specs.declared.breaches.Breach.TheVariants.{SlotGone, NewRequired}
 use Rattle.fb_conform.specs.Conforms.{is_required}
 use Rattle.fb_conform.specs.Twins.{TableSlot}
-use Rattle.fb_conform.proofs.walk.BreachesAreToldInOrder.{told}
+use Rattle.fb_conform.proofs.walk.BreachesAreReportedInOrder.{reported}
 use Rattle.fb_conform.proofs.walk.EachPlaceIsWalked.{slot_walked, slot_absent}
 use Rattle.fb_conform.proofs.walk.OtherBreachesAreKept.{slot_gone_stands, new_decides}
 use Rattle.fb_conform.proofs.walk.walk_slot.Goals as goal
@@ -16,9 +16,9 @@ returns-in-Some-None g c =
     let k = c.args.slot in
     let f = field_seen c.in-Some-None.field-0-0.now in
     let slot : TableSlot A.schema B.schema t k (Some f) None = search rules in
-    slot_walked A B _ t _ _ c.tell.result k (Some f) None slot (SlotGone c.args.type_id k) refl refl (λ n other. other)
-    c.requires.before (told A B _ (SlotGone c.args.type_id k) _ _ c.tell.result (slot_gone_stands A B t k f slot)
-    c.tell.ensures.more c.tell.ensures.stopped)
+    slot_walked A B _ t _ _ c.report.result k (Some f) None slot (SlotGone c.args.type_id k) refl refl
+    (λ n other. other) c.requires.before (reported A B _ (SlotGone c.args.type_id k) _ _ c.report.result
+    (slot_gone_stands A B t k f slot) c.report.ensures.more c.report.ensures.stopped)
 
 pub returns-in-None-Some : goal.returns-in-None-Some
 returns-in-None-Some g c =
@@ -29,9 +29,9 @@ returns-in-None-Some g c =
     let f = field_seen c.in-None-Some.is'.now in
     let slot : TableSlot A.schema B.schema t k None (Some f) = search rules in
     let plain : IsTrue (not c.is_required-plain.result) ↔ (is_required f ≡ false) = search rules in
-    slot_walked A B _ t _ _ c.tell_unless.result k None (Some f) slot (NewRequired c.args.type_id k) refl refl
+    slot_walked A B _ t _ _ c.report_unless.result k None (Some f) slot (NewRequired c.args.type_id k) refl refl
     (λ n other. other) c.requires.before
-    (c.tell_unless.ensures A B (new_decides A B t k (not c.is_required-plain.result) f slot plain))
+    (c.report_unless.ensures A B (new_decides A B t k (not c.is_required-plain.result) f slot plain))
 
 pub returns-in-None-None : goal.returns-in-None-None
 returns-in-None-None g c =

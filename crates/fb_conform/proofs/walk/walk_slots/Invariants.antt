@@ -3,4 +3,4 @@ use Rattle.fb_conform.specs.Order.{IsOfSlotsBelow}
 use Rattle.fb_conform.proofs.walk.walk_slots.Given as goal
 
 abbrev pub invariant-loop-i : goal.invariant-loop-i
-invariant-loop-i g l = Lists l.old l.new (IsOfSlotsBelow l.type_id.0 l.i) (g.S.Sink.told l.sink)
+invariant-loop-i g l = Lists l.old l.new (IsOfSlotsBelow l.type_id.0 l.i) (g.S.Sink.reported l.sink)

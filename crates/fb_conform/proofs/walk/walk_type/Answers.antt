@@ -2,7 +2,7 @@ use Rattle.std.proofs.Common.{◌≡◌, None, option_map, sym, ap, ◌∙◌}
 use Rattle.fb_schema.specs.Schema.{DeclaredSchema}
 use Rattle.fb_conform.specs.declared.breaches.Breach.TheVariants.{TypeGone}
 use Rattle.fb_conform.specs.Twins.{twin}
-use Rattle.fb_conform.proofs.walk.BreachesAreToldInOrder.{told}
+use Rattle.fb_conform.proofs.walk.BreachesAreReportedInOrder.{reported}
 use Rattle.fb_conform.proofs.walk.EachPlaceIsWalked.{gone_walked}
 use Rattle.fb_conform.proofs.walk.OtherBreachesAreKept.{gone_stands}
 use Rattle.fb_conform.proofs.walk.walk_type.Goals as goal
@@ -18,6 +18,6 @@ returns-in-None g c =
     ∙ sym c.twin_of.ensures
     ∙ ap (option_map (λ x. x.0)) c.in-None.is
     in
-    gone_walked A B _ t _ _ c.tell.result gone c.requires.before
-    (told A B _ (TypeGone c.args.type_id) _ _ c.tell.result (gone_stands A B t c.requires.known gone)
-    c.tell.ensures.more c.tell.ensures.stopped)
+    gone_walked A B _ t _ _ c.report.result gone c.requires.before
+    (reported A B _ (TypeGone c.args.type_id) _ _ c.report.result (gone_stands A B t c.requires.known gone)
+    c.report.ensures.more c.report.ensures.stopped)

@@ -6,7 +6,7 @@ use Rattle.fb_schema.proofs.LookUps.{numbers_of}
 use Rattle.fb_schema.proofs.indexing.numbers_in.Goals as goal
 use Rattle.fb_schema.proofs.indexing.numbers_in.Goals.{In-Some}
 
--- the numbers are those of the values lent
+-- the numbers are those of the borrowed values
 numbers : (c : In-Some) → inner_numbers (body_seen c.args.body.now) ≡ map (λ v. v.1) c.in-Some.values.now
 numbers c =
     let values = c.in-Some.values.now in

@@ -9,7 +9,7 @@ use Rattle.fb_schema.proofs.DeclaredNames.{keys_differ}
 use Rattle.fb_schema.proofs.Positions.{position-map}
 use Rattle.fb_schema.proofs.schema.Schema.find.Goals as goal
 
--- the full names of the types that are lent
+-- the full names of the borrowed types
 names_lent : (types xs : List TypeInfo) → xs ≡ types
     → map (λ t. t.name) (map type_seen types) ≡ map (λ t. string_bytes t.name) xs
 names_lent types xs lent = map-map (λ t. t.name) type_seen types ∙ ap (map (λ t. string_bytes t.name)) (sym lent)

@@ -12,7 +12,7 @@ full_names : (types xs : List TypeInfo) → xs ≡ types
     → map (λ t. string_bytes t.name) xs ≡ map (λ t. t.name) (map type_seen types)
 full_names types xs lent = ap (map (λ t. string_bytes t.name)) lent ∙ sym (map-map (λ t. t.name) type_seen types)
 
--- what holds of the indexes of the types that are lent holds of those of the types
+-- what holds of the indexes of the borrowed types holds of those of the types
 lent_indexes : {I : Type 0} (R : I → DeclaredType → Type 0) (all : List I) (types xs : List TypeInfo) → xs ≡ types
     → AllZip R all (map type_seen xs) → AllZip R all (map type_seen types)
 lent_indexes R all types xs lent = subst (λ (l : List TypeInfo). AllZip R all (map type_seen l)) lent

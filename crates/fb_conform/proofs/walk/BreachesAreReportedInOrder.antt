@@ -1,4 +1,4 @@
--- Breaches that are told one after another, and what of them is passed by from place to place.
+-- Breaches that are reported one after another, and what of them is passed by from place to place.
 use Rattle.std.proofs.Common.{◌≡◌, ℕ, ◌+◌, ◌<◌, ◌≤◌, ◌⊎◌, inl, inr, List, [], ◌∷◌, ◌++◌, get_or, Result}
 use Rattle.std.proofs.Common.{Ok, Err, OnOk, IfErr, IsErr, IsErrAnd, sym, ap, ◌∙◌, arith}
 use Rattle.std.specs.Bool.{⊤}
@@ -48,13 +48,13 @@ module _ (A B : LaidSchema) where
         before.among (get_or xs k d) (All-contains_itself xs k d within));
   }
 
-  -- a breach that is told
-  pub told : {E : Type 0} (stops : List Breach → Breach → E → Type 0) (b : Breach) (xs ys : List Breach)
+  -- a breach that is reported
+  pub reported : {E : Type 0} (stops : List Breach → Breach → E → Type 0) (b : Breach) (xs ys : List Breach)
       (result : Result ⊤ E) → Stands A B b → OnOk result (ys ≡ xs ++ b ∷ []) → IfErr result (stops xs b)
       → Lists A B (λ r. IsBefore r b) xs → Walks A B stops (λ r. IsUpTo r b) ys result
-  told stops b xs ys (Ok done) stands pushed stopped before = rw pushed (one_more b xs stands before)
-  told stops b xs ys (Err error) stands pushed stopped before = record {
-    told = xs;
+  reported stops b xs ys (Ok done) stands pushed stopped before = rw pushed (one_more b xs stands before)
+  reported stops b xs ys (Err error) stands pushed stopped before = record {
+    reported = xs;
     breach = b;
     before = before;
     stands = stands;
