@@ -1,5 +1,7 @@
 -- Which number's page a text is: each begins with its number.
-use Rattle.std.specs.Prelude.{ℕ, ◌+◌, ◌*◌, ◌-◌, ◌&&◌, ◌||◌, Bool, nat_le, if◌then◌else◌, List, [], ◌∷◌}
+use Rattle.std.specs.Prelude.{ℕ, ◌+◌, ◌*◌, ◌-◌, ◌==◌, ◌&&◌, ◌||◌, Bool, true, nat_le, if◌then◌else◌, List, [], ◌∷◌}
+use Rattle.std.specs.Borrow.{Bor}
+use Rattle.fb_explain_pages.specs.Printed.{is_printed}
 
 abbrev pub is_digit : ℕ → Bool
 is_digit byte = nat_le 48 byte && nat_le byte 57
@@ -12,6 +14,12 @@ with_digits read (byte ∷ bytes) = if is_digit byte then with_digits (10 * read
 -- the number that a text begins with
 abbrev pub first_number : List ℕ → ℕ
 first_number text = with_digits 0 text
+
+-- the pages of the numbers from this one on, in their order
+abbrev pub are_pages : ℕ → List (Bor (List ℕ)) → Bool
+are_pages first [] = true
+are_pages first (text ∷ texts) =
+    (is_printed 120 text.now && first_number text.now == first) && are_pages (first + 1) texts
 
 abbrev pub is_from : ℕ → ℕ → ℕ → Bool
 is_from first last number = nat_le first number && nat_le number last

@@ -1,6 +1,6 @@
 //! Which type each used name means in each namespace.
 ghost use Rattle.std.specs.Prelude.{◌≡◌, ◌<◌, ◌≤◌, ◌+◌, ◌++◌, ◌==◌, ◌&&◌, All, IfSome, IfNone, IfOk, OnOk};
-ghost use Rattle.std.specs.Prelude.{None, Some, ℕ, List, [], length, get_or, if◌then◌else◌};
+ghost use Rattle.std.specs.Prelude.{None, Some, ℕ, List, [], length, get_or, reverse, if◌then◌else◌};
 ghost use Rattle.std.specs.Option.{option_or};
 ghost use Rattle.fb_scopes.specs.PathTree.{paths, IsTree};
 ghost use Rattle.fb_scopes.specs.NamedTypes.{noted_at, path_count, name_count, HasMaps, HasRoom};
@@ -35,9 +35,7 @@ impl<'d> Scopes<'d> {
         ensures tree { IfOk result (λ s. tree_of s ≡ tree.entry) }
         ensures names { IfOk result (λ s. names_of s ≡ used.entry) }
     {
-        let mut noted = NamedTypes::new(alloc, tree.len(), used.len(), full_names.len())?;
-        note_types(&tree, &used, &mut noted, full_names)?;
-        inherit_all(&tree, &mut noted)?;
+        let noted = types_noted(alloc, &tree, &used, full_names)?;
         Ok(Scopes { tree, used, noted })
     }
 
@@ -177,4 +175,26 @@ fn inherit_all(tree: &PathTree<'_>, noted: &mut NamedTypes) -> Result<(), AllocE
         noted.inherit(path, outer)?;
     }
     Ok(())
+}
+
+/// Which type each used name means at each path.
+fn types_noted(
+    alloc: Global,
+    tree: &PathTree<'_>,
+    used: &PathTree<'_>,
+    full_names: &[usize],
+) -> Result<NamedTypes, AllocError>
+    requires tree { IsTree tree.now }
+    requires used { IsTree used.now }
+    requires full_names { All (λ n. n < length (paths tree.now)) full_names.now }
+    ensures room { IfOk result (λ t. HasRoom t (length (paths tree.now)) (length (paths used.now))) }
+    ensures meant { IfOk result (λ t. (p n : ℕ) → p < length (paths tree.now)
+        → 0 < n → n < length (paths used.now) → noted_at t p n
+        ≡ meant_inside (paths_at tree.now full_names.now) (get_or (paths tree.now) p [])
+        (reverse (get_or (paths used.now) n []))) }
+{
+    let mut noted = NamedTypes::new(alloc, tree.len(), used.len(), full_names.len())?;
+    note_types(tree, used, &mut noted, full_names)?;
+    inherit_all(tree, &mut noted)?;
+    Ok(noted)
 }

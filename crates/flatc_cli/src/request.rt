@@ -1,7 +1,7 @@
 //! What a command line can ask for.
 
 /// One of the four jobs, with its paths and flags.
-#[derive(Debug, Drop, PartialEq)]
+#[derive(Debug, Drop)]
 pub enum Job {
     /// Makes a buffer of a JSON text.
     Binary {
@@ -33,7 +33,7 @@ pub enum Job {
 }
 
 /// What is done with each file of a batch.
-#[derive(Debug, Drop, PartialEq)]
+#[derive(Debug, Drop)]
 pub enum Task {
     /// Makes a buffer of a JSON text, in a file of the directory `dir`.
     Binary {
@@ -53,7 +53,7 @@ pub enum Task {
 }
 
 /// A task over files, each for itself, under one schema.
-#[derive(Debug, Drop, PartialEq)]
+#[derive(Debug, Drop)]
 pub struct Batch {
     pub schema: String,
     /// The paths of the files, in the order of the line.
@@ -62,7 +62,7 @@ pub struct Batch {
 }
 
 /// When a refusal is explained.
-#[derive(Clone, Copy, Debug, Drop, PartialEq)]
+#[derive(Clone, Copy, Debug, Drop)]
 pub enum Explaining {
     /// Where standard error is a terminal.
     AtTerminal,
@@ -73,7 +73,7 @@ pub enum Explaining {
 }
 
 /// What a command line asks for.
-#[derive(Debug, Drop, PartialEq)]
+#[derive(Debug, Drop)]
 pub enum Request {
     /// A job over one file, and when a refusal is explained.
     Do(Job, Explaining),

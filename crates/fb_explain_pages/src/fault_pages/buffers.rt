@@ -1,127 +1,76 @@
 //! The pages on buffers, written and read.
-ghost use Rattle.std.specs.Prelude.{◌≡◌, ◌↔◌, IfSome, IsSome, IsTrue, chars, ◌∷◌, ◌++◌, []};
-ghost use Rattle.fb_explain_pages.specs.Lines.{IsPage};
-ghost use Rattle.fb_explain_pages.specs.Titles.{first_number, is_of_buffers};
 
-use crate::fault_pages::page;
-
-pub(crate) fn buffer_page(number: u8) -> Option<&'static str>
-    ensures plain { IfSome result (λ page. IsPage (chars page.now ++ 10 ∷ [])) }
-    ensures titled { IfSome result (λ page. first_number page.now ≡ number) }
-    ensures listed { IsSome result ↔ IsTrue (is_of_buffers number) }
-{
-    match number {
-        40 => page(
-            40,
-            "40 TooBig
+/// Why no buffer is built: 40 and 41.
+pub(crate) const OF_BUILDING: &[&str] = &[
+    "40 TooBig
 The buffer would be longer than 2,147,483,647 bytes.
 For example: a JSON text of gigabytes.
 Split the document.",
-        ),
-        41 => page(
-            41,
-            "41 Memory
+    "41 Memory
 Memory ran out while the buffer was built.
 Give the program more memory.",
-        ),
-        50 => page(
-            50,
-            "50 Short
+];
+
+/// Why a buffer can't be read: 50 to 60.
+pub(crate) const OF_READING: &[&str] = &[
+    "50 Short
 The buffer is too short for its header: 4 bytes, or 8 with a file identifier.
 For example: an empty file.
 Check that the file was written whole.",
-        ),
-        51 => page(
-            51,
-            "51 TooLong
+    "51 TooLong
 The buffer is longer than 2,147,483,647 bytes.
 For example: a file of 3 GB.
 FlatBuffers allow no more.",
-        ),
-        52 => page(
-            52,
-            "52 WrongIdentifier
+    "52 WrongIdentifier
 The file identifier isn't the schema's.
 For example: a buffer of another schema.
 Take the schema that it was written with. `--raw-binary` skips this check.",
-        ),
-        53 => page(
-            53,
-            "53 Misaligned
+    "53 Misaligned
 A value isn't at a multiple of its alignment.
 For example: an offset at position 6.
 The buffer is damaged, or its writer doesn't align.",
-        ),
-        54 => page(
-            54,
-            "54 OutOfBounds
+    "54 OutOfBounds
 A value ends past the buffer.
 For example: a file that was cut off.
 Check that the file was written whole.",
-        ),
-        55 => page(
-            55,
-            "55 ZeroOffset
+    "55 ZeroOffset
 An offset to a table, string or vector is 0.
 For example: a string in a vector that was never set.
 The buffer is damaged, or its writer left the place empty.",
-        ),
-        56 => page(
-            56,
-            "56 BadVtable
+    "56 BadVtable
 A table's vtable isn't inside the buffer, or its size is odd or below 4.
 For example: any damage to a table's first four bytes.
 The buffer is damaged.",
-        ),
-        57 => page(
-            57,
-            "57 MissingRequired
+    "57 MissingRequired
 A required field of a table is absent.
 For example: a table that was written under an older schema.
 Take the schema that it was written with; a required field may not be added later.",
-        ),
-        58 => page(
-            58,
-            "58 NoTerminator
+    "58 NoTerminator
 A string isn't followed by a zero byte.
 For example: a string whose length was changed.
 The buffer is damaged.",
-        ),
-        59 => page(
-            59,
-            "59 BadUtf8
+    "59 BadUtf8
 A string isn't UTF-8.
 For example: a text in Latin-1.
 The writer must store UTF-8; bytes belong into a vector of `ubyte`.",
-        ),
-        60 => page(
-            60,
-            "60 UnionMismatch
+    "60 UnionMismatch
 A union has a type and no value.
 For example: a writer that set `equipped_type` alone.
 The writer must store both.",
-        ),
-        62 => page(
-            62,
-            "62 TooDeep
+];
+
+/// Why a buffer is too much to read: 62 to 64.
+pub(crate) const OF_LIMITS: &[&str] = &[
+    "62 TooDeep
 Tables are nested deeper than 64 levels.
 For example: a list in which each table has the next.
 The library takes a higher limit; the command doesn't.",
-        ),
-        63 => page(
-            63,
-            "63 TooManyCells
+    "63 TooManyCells
 A buffer has more than 100,000,000 tables, strings, vectors, elements and bytes of strings.
 What is reached twice counts twice.
 For example: a small buffer whose offsets lead to one part many times.
 The library takes a higher limit; the command doesn't.",
-        ),
-        64 => page(
-            64,
-            "64 Memory
+    "64 Memory
 Memory ran out while the buffer was read.
 Give the program more memory.",
-        ),
-        _ => None,
-    }
-}
+];

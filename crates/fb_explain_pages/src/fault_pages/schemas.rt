@@ -1,186 +1,111 @@
 //! The pages on schema texts.
-ghost use Rattle.std.specs.Prelude.{◌≡◌, ◌↔◌, IfSome, IsSome, IsTrue, chars, ◌∷◌, ◌++◌, []};
-ghost use Rattle.fb_explain_pages.specs.Lines.{IsPage};
-ghost use Rattle.fb_explain_pages.specs.Titles.{first_number, is_of_schemas};
 
-use crate::fault_pages::page;
-
-pub(crate) fn schema_page(number: u8) -> Option<&'static str>
-    ensures plain { IfSome result (λ page. IsPage (chars page.now ++ 10 ∷ [])) }
-    ensures titled { IfSome result (λ page. first_number page.now ≡ number) }
-    ensures listed { IsSome result ↔ IsTrue (is_of_schemas number) }
-{
-    match number {
-        1 => page(
-            1,
-            "1 NotUtf8
+/// Why a schema text can't be read: 1 to 7.
+pub(crate) const OF_TEXTS: &[&str] = &[
+    "1 NotUtf8
 The schema text isn't UTF-8.
 For example: a file saved as Latin-1, in which an umlaut is one byte.
 Save the file as UTF-8; a byte order mark at its start is allowed.",
-        ),
-        2 => page(
-            2,
-            "2 BadByte
+    "2 BadByte
 No token begins with this byte, or it may not be in a quoted text.
 For example: `a:int = -.5;`, or the backslash in `attribute \"a\\b\";`.
 Remove it. Quoted texts have no escapes and no control characters; numbers are whole.",
-        ),
-        3 => page(
-            3,
-            "3 Unterminated
+    "3 Unterminated
 A comment or a quoted text has no end.
 For example: `/* a table` at the end of the file.
 Close it with `*/` or with a quote on the same line.",
-        ),
-        4 => page(
-            4,
-            "4 NumberTooBig
+    "4 NumberTooBig
 An integer doesn't fit in 64 bits.
 For example: `a:ulong = 18446744073709551616;`.
 Write a number that the field's type has.",
-        ),
-        5 => page(
-            5,
-            "5 Unexpected
+    "5 Unexpected
 A token isn't expected where it is.
 For example: `table T { a:int b:int; }`, where a `;` is missing.
 Compare with the grammar of the FlatBuffers documentation. `include`, `rpc_service`, fixed-size
 arrays, fractions and defaults of strings and vectors aren't supported, and are refused here.",
-        ),
-        6 => page(
-            6,
-            "6 NestedVector
+    "6 NestedVector
 A vector's elements are vectors.
 For example: `a:[[int]];`.
 Put the inner vector into a table: `table Row { cells:[int]; }` and `a:[Row];`.",
-        ),
-        7 => page(
-            7,
-            "7 Memory
+    "7 Memory
 Memory ran out while the schema text was read.
 Give the program more memory.",
-        ),
-        10 => page(
-            10,
-            "10 DuplicateName
+];
+
+/// Why what it declares is refused: 10 to 23.
+pub(crate) const OF_DECLARATIONS: &[&str] = &[
+    "10 DuplicateName
 A name is declared twice in one place, or may not be taken.
 For example: `table T { hp:int; hp:short; }`, or a table called `int`.
 Rename one. A union field `x` takes the name `x_type` too, and no union member may be called `NONE`.",
-        ),
-        11 => page(
-            11,
-            "11 UnknownType
+    "11 UnknownType
 No type has this name, seen from its namespace.
 For example: `enemy:Mosnter;`.
 Correct the name, or put the namespace before it. `include` isn't supported, so all types are in one
 text.",
-        ),
-        12 => page(
-            12,
-            "12 BadDefault
+    "12 BadDefault
 A default isn't one that its field can have.
 For example: `hp:ubyte = 300;`, `color:Color = Grean;`.
 Only numbers, booleans and enums in tables have a default: one of the type's numbers or an enum's
 value.",
-        ),
-        13 => page(
-            13,
-            "13 BadIds
+    "13 BadIds
 The `id` attributes of a table aren't 0, 1, 2 and so on, one on each field.
 For example: `a:int (id: 0); b:int;`.
 Give each field of the table an `id`, without gap or repeat. A union's is one more than its type's,
 so it takes two.",
-        ),
-        14 => page(
-            14,
-            "14 IncompleteStruct
+    "14 IncompleteStruct
 A struct has a field of a struct that isn't declared before it.
 For example: `struct A { b:B; } struct B { x:int; }`.
 Declare the inner struct first. A struct can't have itself.",
-        ),
-        15 => page(
-            15,
-            "15 EmptyStruct
+    "15 EmptyStruct
 A struct has no field.
 For example: `struct Nothing { }`.
 Add a field, or use a table.",
-        ),
-        16 => page(
-            16,
-            "16 BadAttribute
+    "16 BadAttribute
 An attribute may not be here, is repeated, or has a wrong value.
 For example: `hp:int (required);`, since a number is never missing.
 See the FlatBuffers documentation on attributes. `required` is for fields that aren't numbers,
 `force_align` and `bit_flags` for structs and enums.",
-        ),
-        17 => page(
-            17,
-            "17 UnknownAttribute
+    "17 UnknownAttribute
 An attribute is neither built in nor declared.
 For example: `hp:int (priority: 1);`.
 Declare it by `attribute \"priority\";`, or remove it.",
-        ),
-        18 => page(
-            18,
-            "18 Unsupported
+    "18 Unsupported
 Something of FlatBuffers' schema language isn't supported.
 For example: `speed:float;`, `name:string (key);`, a vector of unions.
 Leave it out. `--explain` lists all such places of the text.",
-        ),
-        19 => page(
-            19,
-            "19 BadEnumValue
+    "19 BadEnumValue
 An enum's value is outside its type, or has the number of another.
 For example: `enum E:byte { A = 200 }`, `enum E:byte { A, B = 0 }`.
 Give it another number, or the enum another type. With `bit_flags` a number is the bit's.",
-        ),
-        20 => page(
-            20,
-            "20 BadMember
+    "20 BadMember
 A type can't be a union's member or a struct's field.
 For example: `union U { int }`, `struct S { name:string; }`.
 A union's members are tables, 255 at most; a struct's fields are numbers, enums and structs.",
-        ),
-        21 => page(
-            21,
-            "21 BadRoot
+    "21 BadRoot
 The root isn't a table, or the text names none.
 For example: a text without `root_type`.
 Add `root_type NAME;` with a table's name.",
-        ),
-        22 => page(
-            22,
-            "22 BadIdentifier
+    "22 BadIdentifier
 A file identifier doesn't have four printable ASCII characters.
 For example: `file_identifier \"ORC\";`.
 Write four characters.",
-        ),
-        23 => page(
-            23,
-            "23 Memory
+    "23 Memory
 Memory ran out while the declarations were checked.
 Give the program more memory.",
-        ),
-        30 => page(
-            30,
-            "30 StructTooBig
+];
+
+/// Why its types have no sizes: 30 to 32.
+pub(crate) const OF_SIZES: &[&str] = &[
+    "30 StructTooBig
 A struct takes more than 65,535 bytes.
 For example: structs in structs that double at each level.
 Make it a table, or take a vector.",
-        ),
-        31 => page(
-            31,
-            "31 TableTooWide
+    "31 TableTooWide
 A table's fields take more than 65,535 bytes together, or more than 32,765 slots.
 For example: a table with 40,000 fields.
 Put some fields into a table of their own.",
-        ),
-        32 => page(
-            32,
-            "32 Memory
+    "32 Memory
 Memory ran out while sizes were worked out.
 Give the program more memory.",
-        ),
-        _ => None,
-    }
-}
+];

@@ -1,9 +1,45 @@
 //! Lines of words, and what they ask for.
 use clap::Error;
 use clap::error::ErrorKind;
-use flatc_cli::{Batch, Explaining, Job, Request, Task, job_of, request_of};
+use flatc_cli::{job_of, request_of};
 use std::alloc::{AllocError, Global};
 use std::test::Fail;
+
+/// Lines, and what they ask for.
+const ASKED: &[(&str, &str)] = &[
+    (
+        "binary --unknown-json s j o",
+        "Do(Binary { schema: \"s\", json: \"j\", out: \"o\", unknown: true }, AtTerminal)",
+    ),
+    (
+        "json --defaults-json s -- -b",
+        "Do(Json { schema: \"s\", bin: \"-b\", raw: false, defaults: true }, AtTerminal)",
+    ),
+    (
+        "check --explain s",
+        "Do(Check { schema: \"s\", bin: None, raw: false }, Always)",
+    ),
+    (
+        "conform --explain --names --terse o n",
+        "Do(Conform { old: \"o\", new: \"n\", names: true }, Never)",
+    ),
+    (
+        "binary -o d - j k j",
+        "DoEach(Batch { schema: \"-\", files: [\"j\", \"k\", \"j\"], \
+        task: Binary { dir: \"d\", unknown: false } }, AtTerminal)",
+    ),
+    (
+        "json s --out-dir=d --explain b --raw-binary",
+        "DoEach(Batch { schema: \"s\", files: [\"b\"], \
+        task: Json { dir: \"d\", raw: true, defaults: false } }, Always)",
+    ),
+    (
+        "check s -- - -o",
+        "DoEach(Batch { schema: \"s\", files: [\"-\", \"-o\"], task: Check { raw: false } }, AtTerminal)",
+    ),
+    ("explain 73", "Explain(Some(\"73\"))"),
+    ("explain", "Explain(None)"),
+];
 
 const REFUSED: &[&str] = &[
     "json s",
@@ -31,10 +67,11 @@ fn words(alloc: Global, line: &str) -> Result<Vec<String>, AllocError> {
         .try_collect(alloc)
 }
 
-/// What a line asks for.
-fn asked(alloc: Global, line: &str) -> Result<Request, Fail> {
+/// What a line asks for, as text.
+fn asked(alloc: Global, line: &str) -> Result<String, Fail> {
     let words = words(alloc, line)?;
-    Ok(request_of(alloc, words.as_slice())?)
+    let request = request_of(alloc, words.as_slice())?;
+    Ok(format!(in alloc; "{request:?}")?)
 }
 
 /// Why a line asks for no job.
@@ -47,104 +84,20 @@ fn refusal(alloc: Global, line: &str) -> Result<Error, Fail> {
 }
 
 #[test]
-fn a_line_that_asks_for_a_buffer(rt: HostRuntime) -> Result<(), Fail> {
-    let alloc = rt.alloc();
-    let want = Job::Binary {
-        schema: "s".to_string(alloc)?,
-        json: "j".to_string(alloc)?,
-        out: "o".to_string(alloc)?,
-        unknown: true,
-    };
-    assert!(rt;
-        asked(alloc, "binary --unknown-json s j o")? == Request::Do(want, Explaining::AtTerminal)
-    );
-    Ok(())
-}
-
-#[test]
-fn a_line_that_asks_for_a_text(rt: HostRuntime) -> Result<(), Fail> {
-    let alloc = rt.alloc();
-    let want = Job::Json {
-        schema: "s".to_string(alloc)?,
-        bin: "-b".to_string(alloc)?,
-        raw: false,
-        defaults: true,
-    };
-    assert!(rt;
-        asked(alloc, "json --defaults-json s -- -b")? == Request::Do(want, Explaining::AtTerminal)
-    );
-    Ok(())
-}
-
-#[test]
-fn a_line_that_asks_for_a_check(rt: HostRuntime) -> Result<(), Fail> {
-    let alloc = rt.alloc();
-    let want = Job::Check {
-        schema: "s".to_string(alloc)?,
-        bin: None,
-        raw: false,
-    };
-    assert!(rt; asked(alloc, "check --explain s")? == Request::Do(want, Explaining::Always));
-    Ok(())
-}
-
-#[test]
-fn a_line_that_asks_for_a_comparison(rt: HostRuntime) -> Result<(), Fail> {
-    let alloc = rt.alloc();
-    let want = Job::Conform {
-        old: "o".to_string(alloc)?,
-        new: "n".to_string(alloc)?,
-        names: true,
-    };
-    let line = "conform --explain --names --terse o n";
-    assert!(rt; asked(alloc, line)? == Request::Do(want, Explaining::Never));
-    Ok(())
-}
-
-#[test]
-fn lines_over_many_files(rt: HostRuntime) -> Result<(), Fail> {
-    let alloc = rt.alloc();
-    let want = Batch {
-        schema: "-".to_string(alloc)?,
-        files: words(alloc, "j k j")?,
-        task: Task::Binary {
-            dir: "d".to_string(alloc)?,
-            unknown: false,
-        },
-    };
-    assert!(rt;
-        asked(alloc, "binary -o d - j k j")? == Request::DoEach(want, Explaining::AtTerminal)
-    );
-    let want = Batch {
-        schema: "s".to_string(alloc)?,
-        files: words(alloc, "b")?,
-        task: Task::Json {
-            dir: "d".to_string(alloc)?,
-            raw: true,
-            defaults: false,
-        },
-    };
-    let line = "json s --out-dir=d --explain b --raw-binary";
-    assert!(rt; asked(alloc, line)? == Request::DoEach(want, Explaining::Always));
-    let want = Batch {
-        schema: "s".to_string(alloc)?,
-        files: words(alloc, "- -o")?,
-        task: Task::Check { raw: false },
-    };
-    assert!(rt; asked(alloc, "check s -- - -o")? == Request::DoEach(want, Explaining::AtTerminal));
+fn lines_that_ask_for_something(rt: HostRuntime) -> Result<(), Fail> {
+    for (line, want) in ASKED {
+        let request = asked(rt.alloc(), line)?;
+        assert_eq!(&rt; request.as_str(), *want, "at {line}");
+    }
     Ok(())
 }
 
 #[test]
 fn a_line_that_is_one_job(rt: HostRuntime) -> Result<(), Fail> {
-    let alloc = rt.alloc();
-    let line = words(alloc, "check --raw-binary s b")?;
-    let want = Job::Check {
-        schema: "s".to_string(alloc)?,
-        bin: Some("b".to_string(alloc)?),
-        raw: true,
-    };
-    assert!(rt; job_of(alloc, line.as_slice())? == want);
+    let line = words(rt.alloc(), "check --raw-binary s b")?;
+    let job = job_of(rt.alloc(), line.as_slice())?;
+    let told = format!(in rt.alloc(); "{job:?}")?;
+    assert_eq!(&rt; told.as_str(), "Check { schema: \"s\", bin: Some(\"b\"), raw: true }");
     Ok(())
 }
 
@@ -164,15 +117,6 @@ fn lines_that_are_more_than_one_job(rt: HostRuntime) -> Result<(), Fail> {
             Err(error) => assert!(rt; error.exit_code() == 2, "at {line}"),
         }
     }
-    Ok(())
-}
-
-#[test]
-fn a_line_that_asks_for_a_number(rt: HostRuntime) -> Result<(), Fail> {
-    let alloc = rt.alloc();
-    let want = Request::Explain(Some("73".to_string(alloc)?));
-    assert!(rt; asked(alloc, "explain 73")? == want);
-    assert!(rt; asked(alloc, "explain")? == Request::Explain(None));
     Ok(())
 }
 
