@@ -9,9 +9,8 @@ use Rattle.fb_text.specs.Texts.{are_named, bits_of, bit_text, bits_text, has_nam
 
 -- a number above zero has bits
 pub some_bits : (n : ℤ) → pos 0 <ℤ n → (bits_of n == 0) ≡ false
-some_bits (pos zero) h = absurd (omega arith)
 some_bits (pos (suc m)) h = ne_eqb (suc m) 0 (λ e. omega arith)
-some_bits (negsuc m) h = absurd (omega arith)
+some_bits _ h = absurd (omega arith)
 
 -- the lowest bit, and twice those of the half
 digits : (n k : ℕ) → n % 2 ^ suc k ≡ (n / 2 % 2 ^ k) * 2 + n % 2

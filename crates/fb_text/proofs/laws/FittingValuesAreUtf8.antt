@@ -33,8 +33,7 @@ module _ (L : LaidSchema) where
     entries_spell [] no_entries h = tt
     entries_spell (f ∷ fs) (absent_entry es) h = entries_spell fs es h.1
     entries_spell (f ∷ fs) (present_entry d es) h = (spells f.shape d h.1, entries_spell fs es h.2)
-    entries_spell [] (absent_entry es) h = absurd h
-    entries_spell [] (present_entry d es) h = absurd h
+    entries_spell [] _ h = absurd h
     entries_spell (f ∷ fs) no_entries h = absurd h
 
   kind_spells : (kind : Option StoredKind) (d : Datum) → FitsKind L kind d → HasUtf8 d

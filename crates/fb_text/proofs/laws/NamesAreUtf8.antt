@@ -61,27 +61,19 @@ schema_utf8 S ts e t = subst (λ (types : List DeclaredType). BodyUtf8 (body_in 
 
 pub slots_utf8 : (b : DeclaredBody) → BodyUtf8 b → FieldsUtf8 (slots_in b)
 slots_utf8 (table_body fs) h = h
-slots_utf8 (struct_body fs align) h = tt
-slots_utf8 (enum_body base flags values) h = tt
-slots_utf8 (union_body members) h = tt
+slots_utf8 _ h = tt
 
 pub parts_utf8 : (b : DeclaredBody) → BodyUtf8 b → FieldsUtf8 (parts_in b)
-parts_utf8 (table_body fs) h = tt
 parts_utf8 (struct_body fs align) h = h
-parts_utf8 (enum_body base flags values) h = tt
-parts_utf8 (union_body members) h = tt
+parts_utf8 _ h = tt
 
 members_utf8 : (b : DeclaredBody) → BodyUtf8 b → NamesUtf8 (members_in b)
-members_utf8 (table_body fs) h = tt
-members_utf8 (struct_body fs align) h = tt
-members_utf8 (enum_body base flags values) h = tt
 members_utf8 (union_body members) h = h
+members_utf8 _ h = tt
 
 values_utf8 : (b : DeclaredBody) → BodyUtf8 b → NamesUtf8 (values_in b)
-values_utf8 (table_body fs) h = tt
-values_utf8 (struct_body fs align) h = tt
 values_utf8 (enum_body base flags values) h = h
-values_utf8 (union_body members) h = tt
+values_utf8 _ h = tt
 
 abbrev pub NameUtf8 : Option Name → Type 0
 NameUtf8 None = Unit {0}

@@ -50,9 +50,7 @@ field_before L p (x ∷ kinds) (o ∷ os) end (suc j) (suc k) a b is less at beh
 
 struct_with : (b : DeclaredBody) (k : ℕ) (f : DeclaredField) → slice_get (parts_in b) k ≡ Some f → IsTrue (is_struct b)
 struct_with (struct_body fs align) k f e = refl
-struct_with (table_body fs) k f e = cc
-struct_with (enum_body base flags values) k f e = cc
-struct_with (union_body members) k f e = cc
+struct_with _ k f e = cc
 
 abbrev field_kind : LaidSchema → DeclaredField → StoredKind
 field_kind L f = kind_in (stored_shape L.schema f.shape)

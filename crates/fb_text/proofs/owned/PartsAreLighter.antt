@@ -37,9 +37,8 @@ part_light (more_parts d ds) (suc i) = omega (arith, part_light ds i)
 
 pub entry_light : (es : SlotEntries) (k : ℕ) → size_in (nth_entry es k) ≤ entries_size es
 entry_light no_entries k = omega arith
-entry_light (absent_entry es) zero = omega arith
 entry_light (absent_entry es) (suc k) = entry_light es k
-entry_light (present_entry d es) zero = omega arith
+entry_light _ zero = omega arith
 entry_light (present_entry d es) (suc k) = omega (arith, entry_light es k)
 
 -- the value that a reference leads to

@@ -24,8 +24,7 @@ default_unprinted : (f : DeclaredField) (hidden : Bool) (shape : StoredShape) �
     → is_entry_printed false f (number_entry (default_of hidden f.default shape)) ≡ false
 default_unprinted f false (one_of (scalar_kind base)) plain =
     rw (plain refl, (Decides-int_eq f.default f.default).1 refl) refl
-default_unprinted f true shape plain = refl
-default_unprinted f false shape plain = refl
+default_unprinted f _ shape plain = refl
 
 neither : (one two : Bool) → (one || two) ≡ false → two ≡ false
 neither false two e = e

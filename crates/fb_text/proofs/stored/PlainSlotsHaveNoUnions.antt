@@ -52,10 +52,8 @@ module _ (L : LaidSchema) (b : Bytes) (at : Place) (f : Slot) where
   plain_slot p k fs (One Text) o plain lies =
       place_named f.deprecated (is_present b p k) (ref_place text_part) (p + slot_number b p k) o
       (λ d h. text_named L b _ at d h.1) lies
-  plain_slot p k fs (One (Table t)) o plain lies = cc
-  plain_slot p k fs (One (Union u)) o plain lies = cc
-  plain_slot p k fs (Many (Table t)) o plain lies = cc
   plain_slot p k fs (Many kind) o plain lies =
       let stored = stored_kind L.schema kind in
       place_named f.deprecated (is_present b p k) (ref_place (vector_part stored)) (p + slot_number b p k) o
       (λ d h. vector_named L b stored _ at d (plain_kind L.schema kind (λ t e. cc)) h.1) lies
+  plain_slot p k fs _ o plain lies = cc

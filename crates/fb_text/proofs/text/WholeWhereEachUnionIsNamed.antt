@@ -13,13 +13,11 @@ neither (Some p) b = refl
 
 mutual
   pub unnamed_whole : (at : Place) (d : Datum) → not (is_some (first_unnamed at d)) ≡ is_whole d
-  unnamed_whole at (a_number n) = refl
-  unnamed_whole at (a_text bytes) = refl
   unnamed_whole at (a_vector ds) = parts_named at ds
   unnamed_whole at (a_struct ds) = parts_named at ds
   unnamed_whole at (a_table type es) = entries_named type 0 es
   unnamed_whole at (a_member c d) = unnamed_whole at d
-  unnamed_whole at (an_unknown c) = refl
+  unnamed_whole at _ = refl
 
   parts_named : (at : Place) (ds : Parts) → not (is_some (first_in_parts at ds)) ≡ parts_whole ds
   parts_named at no_parts = refl

@@ -126,26 +126,18 @@ children_skip at o (suc n) i j sum none =
     ∙ (ap (λ (p : Option Place). option_or p (unnamed_from at o (i + 1))) (sym here) ∙ sym (children_step at o i))
 
 found_unknown : (found : Found) (code : ℕ) → IsTop found (Some (an_unknown code)) → found ≡ Unknown
-found_unknown Absent code top = cc
-found_unknown (Number n) code top = cc
-found_unknown (TextFound s) code top = cc
 found_unknown Vector code top = let same = top.1 in cc
 found_unknown StructFound code top = let same = top.1 in cc
 found_unknown (TableFound t) code top = let same = top.1 in cc
 found_unknown (Member c) code top = let same = top.1 in cc
 found_unknown Unknown code top = refl
+found_unknown _ code top = cc
 
 -- what is no such union itself has the first of its children's
 pub from_first : (at : Place) (found : Found) (o : Option Datum) → IsTop found o → (found ≡ Unknown → ⊥)
     → unnamed_from at o 0 ≡ first_in_entry at o
-from_first at found None top not = refl
-from_first at found (Some (a_number n)) top not = refl
-from_first at found (Some (a_text bytes)) top not = refl
-from_first at found (Some (a_vector ds)) top not = refl
-from_first at found (Some (a_struct ds)) top not = refl
-from_first at found (Some (a_table t es)) top not = refl
-from_first at found (Some (a_member c d)) top not = refl
 from_first at found (Some (an_unknown c)) top not = absurd (not (found_unknown found c top))
+from_first at found _ top not = refl
 
 -- one that is found is the first, and where none is found it's behind
 pub found_first : (one two found : Option Place) → found ≡ one → is_some found ≡ true → option_or one two ≡ found
@@ -201,12 +193,7 @@ items_named L b kind p at (more_parts d ds) plain lies =
 pub plain_kind : (S : DeclaredSchema) (kind : Kind) → ((t : TypeId) → kind ≡ Table t → ⊥)
     → is_table (stored_kind S kind) ≡ false
 plain_kind S (Table t) plain = absurd (plain t refl)
-plain_kind S (Scalar base) plain = refl
-plain_kind S (Enum e) plain = refl
-plain_kind S (Struct s) plain = refl
-plain_kind S (Union u) plain = refl
-plain_kind S (Code u) plain = refl
-plain_kind S Text plain = refl
+plain_kind S _ plain = refl
 
 -- What lies where a view is is a table.
 pub table_case : (view : View) (P : Datum → Type 0) (d : Datum) → Shows view d

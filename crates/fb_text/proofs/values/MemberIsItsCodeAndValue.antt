@@ -45,6 +45,5 @@ entry_added L defaults inner some f (Some d) more a b e printed code has named =
 
 -- a writer that is never told a union without a name
 pub never_unnamed : {A : Type 0} (r : Result A WriteFault) (P : Type 0) → IfUnnamed r ⊥ → IfUnnamed r P
-never_unnamed (Ok x) P never = tt
-never_unnamed (Err (WriteFailed n)) P never = tt
 never_unnamed (Err (NoMemberName at)) P never = absurd never
+never_unnamed _ P never = tt

@@ -56,17 +56,20 @@ mutual
       )
   parts_complete L b _ _ p _ fuel lies h = absurd lies
 
+-- a value is computed wherever it lies
+abbrev pub ComputedWhereItLies : LaidSchema → Bytes → ℕ → Datum → Type 0
+ComputedWhereItLies L b fuel d = (s : Sort) (q : ℕ) → Lies L b s q d → datum_at fuel L b s q ≡ Some d
+
 -- An element that lies there is what is computed, once that is known of what is behind it.
 element_complete : (L : LaidSchema) (b : Bytes) (kind : StoredKind) (p : ℕ) (X : Option Target) (d : Datum) (fuel : ℕ)
-    → ((s : Sort) (q : ℕ) → Lies L b s q d → datum_at fuel L b s q ≡ Some d)
-    → Element L b kind p X d (λ s q. Lies L b s q d) → height d ≤ fuel
+    → ComputedWhereItLies L b fuel d → Element L b kind p X d (λ s q. Lies L b s q d) → height d ≤ fuel
     → element_at L b kind p X (λ s q. datum_at fuel L b s q) (λ k q. inline_at fuel L b k q) ≡ Some d
 element_complete L b kind p None d fuel known lies h = inline_complete L b kind p d fuel lies h
 element_complete L b kind p (Some X) d fuel known lies h = unless_none _ _ lies.0 ∙ known (part_place X) _ lies.1
 
 -- An entry that lies there is what is computed, once that is known of what is behind it.
 entry_complete : (L : LaidSchema) (b : Bytes) (s : Sort) (p : ℕ) (d : Datum) (ss : SlotEntries) (fuel : ℕ)
-    → ((s : Sort) (q : ℕ) → Lies L b s q d → datum_at fuel L b s q ≡ Some d) → EntryAt L b s p d (λ s q. Lies L b s q d)
+    → ComputedWhereItLies L b fuel d → EntryAt L b s p d (λ s q. Lies L b s q d)
     → entry_at L b (λ s q. datum_at fuel L b s q) s p ss ≡ Some (present_entry d ss)
 entry_complete L b (ref_place X) p d ss fuel known lies = rw (lies.0, known (part_place X) _ lies.1)
 entry_complete L b (part_place X) p d ss fuel known lies = rw (known (part_place X) _ lies)
@@ -88,8 +91,7 @@ absent_complete L b f (Some x) ss fuel lies = code_complete L b x.sort x.at ss f
 
 -- A slot with an entry is computed to have it.
 present_complete : (L : LaidSchema) (b : Bytes) (f : Slot) (x : Option Place) (d : Datum) (ss : SlotEntries) (fuel : ℕ)
-    → ((s : Sort) (q : ℕ) → Lies L b s q d → datum_at fuel L b s q ≡ Some d)
-    → PresentEntry L b f x d (λ s q. Lies L b s q d)
+    → ComputedWhereItLies L b fuel d → PresentEntry L b f x d (λ s q. Lies L b s q d)
     → slot_at L b (λ s q. datum_at fuel L b s q) f x ss ≡ Some (present_entry d ss)
 present_complete L b f None d ss fuel known lies = rw (lies.1, lies.2)
 present_complete L b f (Some x) d ss fuel known lies = entry_complete L b x.sort x.at d ss fuel known lies

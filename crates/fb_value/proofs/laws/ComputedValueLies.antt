@@ -100,11 +100,8 @@ module _ (L : LaidSchema) (b : Bytes) (fuel : ℕ) (known : (s : Sort) (q : ℕ)
 
   -- What lies at a place is its entry.
   as_entry : (s : Sort) (p : ℕ) (d : Datum) → LiesAt L b s p d → EntryAt L b s p d (λ s q. Lies L b s q d)
-  as_entry (ref_place X) p d lies = lies
-  as_entry (part_place X) p d lies = lies
-  as_entry (inline_place kind) p d lies = lies
-  as_entry (code_place u k required here) p d lies = lies
   as_entry (unknown_place c) p d lies = absurd lies
+  as_entry _ p d lies = lies
 
   -- An entry that is read is the slot's, in front of the later ones.
   present_sound : (s : Sort) (p : ℕ) (f : Slot) (fs : List Slot) (xs : List (Option Place)) (rest ss : SlotEntries)

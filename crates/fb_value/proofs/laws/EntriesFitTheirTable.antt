@@ -2,9 +2,9 @@
 use Rattle.std.proofs.Common.{◌≡◌, ℕ, zero, suc, ◌+◌, ◌-◌, ◌<◌, Bool, true, false, not, ◌==◌, List, [], ◌∷◌, drop, map}
 use Rattle.std.proofs.Common.{slice_get, All, Option, None, Some, refl, sym, subst, ◌∙◌, arith}
 use Rattle.fb_schema.specs.declared.kinds.TypeId.{TypeId}
-use Rattle.fb_schema.specs.declared.kinds.Kind.TheVariants.{Scalar, Enum, Struct, Table, Union, Code, Text}
+use Rattle.fb_schema.specs.declared.kinds.Kind.TheVariants.{Union}
 use Rattle.fb_schema.specs.declared.kinds.Shape.{Shape}
-use Rattle.fb_schema.specs.declared.kinds.Shape.TheVariants.{One, Many}
+use Rattle.fb_schema.specs.declared.kinds.Shape.TheVariants.{One}
 use Rattle.fb_schema.specs.Schema.{DeclaredField, DeclaredBody, table_body}
 use Rattle.fb_schema.specs.Schema.{DeclaredType, DeclaredSchema, body_at, body_in, slots_in}
 use Rattle.fb_schema.specs.WellDeclared.{IsBody, MarksFit, IsUnionPair}
@@ -117,13 +117,7 @@ module _ (L : LaidSchema) (made : IsWellMade L) (b : Bytes) (small : All (λ x. 
   needs_of : (k : ℕ) (df : DeclaredField) (shape : Shape) → slice_get (slots_in (body_at L.schema t)) k ≡ Some df
       → df.shape ≡ shape → df.deprecated ≡ false → Needs b p k (slot_of L.schema df) (stored_shape L.schema shape)
   needs_of k df (One (Union u)) at is live = λ r. ((needed k df at r).0, code_there k df u at is live r)
-  needs_of k df (One (Scalar base)) at is live = λ r. (needed k df at r).0
-  needs_of k df (One (Enum e)) at is live = λ r. (needed k df at r).0
-  needs_of k df (One (Struct s)) at is live = λ r. (needed k df at r).0
-  needs_of k df (One (Table s)) at is live = λ r. (needed k df at r).0
-  needs_of k df (One (Code u)) at is live = λ r. (needed k df at r).0
-  needs_of k df (One Text) at is live = λ r. (needed k df at r).0
-  needs_of k df (Many kind) at is live = λ r. (needed k df at r).0
+  needs_of k df _ at is live = λ r. (needed k df at r).0
 
   -- a deprecated slot names no place
   not_in_use : (k : ℕ) (df : DeclaredField) → df.deprecated ≡ true

@@ -55,11 +55,7 @@ no_number : (gone : Bool) (n : ℤ) (kind : StoredKind) → ((base : _) → kind
     → default_of gone n (one_of kind) ≡ None
 no_number true n kind other = refl
 no_number false n (scalar_kind base) other = absurd (other base refl)
-no_number false n (struct_kind s) other = refl
-no_number false n (table_kind t) other = refl
-no_number false n (union_kind u) other = refl
-no_number false n (code_kind u) other = refl
-no_number false n text_kind other = refl
+no_number false n _ other = refl
 
 no_numbers : (gone : Bool) (n : ℤ) (kind : StoredKind) → default_of gone n (vector_of kind) ≡ None
 no_numbers true n kind = refl

@@ -27,6 +27,12 @@ unfoldable pub Sure : LaidSchema → Bytes → Bounds → ℕ → Place → ℕ 
 Sure L b most fuel x tables spent deep small = (first_fault fuel L b most x tables spent ≡ None)
     ↔ IsWithin most tables spent deep small
 
+-- a value is sure wherever it lies
+abbrev pub SureWhereItLies : LaidSchema → Bytes → Bounds → Datum → Type 0
+SureWhereItLies L b most d = (s : Sort) (q fuel tables spent : ℕ) → Lies L b s q d → Enough b q fuel
+    → tables ≤ most.depth → spent ≤ most.cells
+    → Sure L b most fuel (record { sort = s; at = q }) tables spent (depth d) (cells d)
+
 -- Where neither is there, nothing is.
 pub none_both : {A : Type 0} (o r : Option A) → o ≡ None → r ≡ None → or_else o r ≡ None
 none_both None r e f = f
@@ -82,10 +88,8 @@ ref_sure L b most (suc fuel) X p tables spent deep small keeps enough known =
 
 -- What lies at a place is sure, once what is behind it is.
 pub behind_sure : (L : LaidSchema) (b : Bytes) (most : Bounds) (fuel : ℕ) (s : Sort) (p tables spent : ℕ) (d : Datum)
-    → ((s : Sort) (q fuel tables spent : ℕ) → Lies L b s q d → Enough b q fuel → tables ≤ most.depth
-    → spent ≤ most.cells → Sure L b most fuel (record { sort = s; at = q }) tables spent (depth d) (cells d))
-    → Behind L b s p (λ s q. Lies L b s q d) → Enough b p fuel → tables ≤ most.depth → spent ≤ most.cells
-    → Sure L b most fuel (record { sort = s; at = p }) tables spent (depth d) (cells d)
+    → SureWhereItLies L b most d → Behind L b s p (λ s q. Lies L b s q d) → Enough b p fuel → tables ≤ most.depth
+    → spent ≤ most.cells → Sure L b most fuel (record { sort = s; at = p }) tables spent (depth d) (cells d)
 behind_sure L b most fuel (ref_place X) p tables spent d known lies enough h i =
     ref_sure L b most fuel X p tables spent (depth d) (cells d) lies.0 enough
     (λ m c e more. known (part_place X) (p + num b p 4) m (tables + 0) c lies.1 more (omega arith) (omega arith))
@@ -113,10 +117,8 @@ code_quiet L b most fuel _ p tables spent is enough = absurd is
 
 -- At the place that a slot names, no fault stands exactly where the entry is within the limits.
 entry_sure : (L : LaidSchema) (b : Bytes) (most : Bounds) (fuel : ℕ) (s : Sort) (p tables spent : ℕ) (d : Datum)
-    → ((s : Sort) (q fuel tables spent : ℕ) → Lies L b s q d → Enough b q fuel → tables ≤ most.depth
-    → spent ≤ most.cells → Sure L b most fuel (record { sort = s; at = q }) tables spent (depth d) (cells d))
-    → EntryAt L b s p d (λ s q. Lies L b s q d) → Enough b p fuel → tables ≤ most.depth → spent ≤ most.cells
-    → Sure L b most fuel (record { sort = s; at = p }) tables spent (depth d) (cells d)
+    → SureWhereItLies L b most d → EntryAt L b s p d (λ s q. Lies L b s q d) → Enough b p fuel → tables ≤ most.depth
+    → spent ≤ most.cells → Sure L b most fuel (record { sort = s; at = p }) tables spent (depth d) (cells d)
 unfolding Sure IsWithin
 entry_sure L b most fuel (ref_place X) p tables spent d known lies enough h i =
     behind_sure L b most fuel (ref_place X) p tables spent d known lies enough h i
@@ -181,8 +183,7 @@ absent_sure L b most fuel f (Some x) xs tables spent deep small lies enough h i 
 -- A slot with an entry is sure, in front of others.
 pub present_sure : (L : LaidSchema) (b : Bytes) (most : Bounds) (fuel : ℕ) (f : Slot) (x : Option Place)
     (xs : List (Option Place)) (tables spent : ℕ) (d : Datum) (deep small : ℕ)
-    → ((s : Sort) (q fuel tables spent : ℕ) → Lies L b s q d → Enough b q fuel → tables ≤ most.depth
-    → spent ≤ most.cells → Sure L b most fuel (record { sort = s; at = q }) tables spent (depth d) (cells d))
+    → SureWhereItLies L b most d
     → PresentEntry L b f x d (λ s q. Lies L b s q d) → EnoughFor b fuel (x ∷ xs) → tables ≤ most.depth
     → spent ≤ most.cells → ((c : ℕ) → c ≤ most.cells → AmongSure L b most fuel xs tables c deep small)
     → AmongSure L b most fuel (x ∷ xs) tables spent (max (depth d) deep) (cells d + small)

@@ -16,9 +16,10 @@ use Rattle.fb_value.specs.Faults.{all, limited_fault, first_fault, levels, fault
 use Rattle.fb_value.proofs.rules.ComputedFaultIsTheLeast.{Enough, enough_below, levels_enough}
 use Rattle.fb_value.proofs.reached.CellsAreThoseReached.{text_length, behind_cells, part_cells, element_size}
 use Rattle.fb_value.proofs.reached.CellsAreThoseReached.{inline_cells}
-use Rattle.fb_value.proofs.laws.NamedPlacesWithinTheLimits.{IsWithin, Sure, table_limits, cell_limits, place_fault}
-use Rattle.fb_value.proofs.laws.NamedPlacesWithinTheLimits.{behind_sure, quiet, AmongSure, EnoughFor, later_enough}
-use Rattle.fb_value.proofs.laws.NamedPlacesWithinTheLimits.{more_sure, absent_sure, present_sure, slots_sure_nil}
+use Rattle.fb_value.proofs.laws.NamedPlacesWithinTheLimits.{IsWithin, Sure, SureWhereItLies, table_limits, cell_limits}
+use Rattle.fb_value.proofs.laws.NamedPlacesWithinTheLimits.{place_fault, behind_sure, quiet, AmongSure, EnoughFor}
+use Rattle.fb_value.proofs.laws.NamedPlacesWithinTheLimits.{later_enough, more_sure, absent_sure, present_sure}
+use Rattle.fb_value.proofs.laws.NamedPlacesWithinTheLimits.{slots_sure_nil}
 
 mutual
   -- What stands in its place holds no table.
@@ -134,16 +135,13 @@ vector_names : (L : LaidSchema) (b : Bytes) (kind : StoredKind) (p n : ℕ) → 
 unfolding named_by
 vector_names L b text_kind p n e = rw e
 vector_names L b (table_kind t) p n e = rw e
-vector_names L b (scalar_kind base) p n e = refl
 vector_names L b _ p n e = refl
 
 -- An element is sure, in front of others.
 element_sure : (L : LaidSchema) (b : Bytes) (most : Bounds) (fuel : ℕ) (kind : StoredKind) (o : Option Target)
     (p n tables spent : ℕ) (d : Datum) (deep small : ℕ) → target_of kind ≡ o
-    → ((s : Sort) (q fuel tables spent : ℕ) → Lies L b s q d → Enough b q fuel → tables ≤ most.depth
-    → spent ≤ most.cells → Sure L b most fuel (record { sort = s; at = q }) tables spent (depth d) (cells d))
-    → Element L b kind p o d (λ s q. Lies L b s q d) → EnoughFor b fuel (named_by o p (suc n)) → tables ≤ most.depth
-    → spent ≤ most.cells
+    → SureWhereItLies L b most d → Element L b kind p o d (λ s q. Lies L b s q d)
+    → EnoughFor b fuel (named_by o p (suc n)) → tables ≤ most.depth → spent ≤ most.cells
     → (EnoughFor b fuel (named_by o (p + size_of L kind) n) → (c : ℕ) → c ≤ most.cells
     → AmongSure L b most fuel (named_by o (p + size_of L kind) n) tables c deep small)
     → AmongSure L b most fuel (named_by o p (suc n)) tables spent (max (depth d) deep) (cells d + small)

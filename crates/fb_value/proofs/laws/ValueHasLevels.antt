@@ -1,17 +1,15 @@
 -- How many levels a value has.
 use Rattle.std.specs.Prelude.{ℕ, suc, max}
-use Rattle.fb_value.specs.Datum.{Datum, a_number, a_text, a_vector, a_struct, a_table, a_member, an_unknown, Parts}
+use Rattle.fb_value.specs.Datum.{Datum, a_vector, a_struct, a_table, a_member, Parts}
 use Rattle.fb_value.specs.Datum.{no_parts, more_parts, SlotEntries, no_entries, absent_entry, present_entry}
 
 abbrev mutual
   pub height : Datum → ℕ
-  height (a_number n) = 1
-  height (a_text bytes) = 1
   height (a_vector ds) = suc (parts_height ds)
   height (a_struct ds) = suc (parts_height ds)
   height (a_table type ss) = suc (entries_height ss)
   height (a_member c d) = suc (height d)
-  height (an_unknown c) = 1
+  height _ = 1
 
   pub parts_height : Parts → ℕ
   parts_height no_parts = 0

@@ -5,7 +5,7 @@ use Rattle.std.proofs.lemmas.Bool.{leb-true, and_parts}
 use Rattle.fb_value.specs.Datum.{Datum, no_parts, SlotEntries, no_entries}
 use Rattle.fb_value.specs.Num.{Bytes, num}
 use Rattle.fb_layout.specs.Laid.{LaidSchema, Slot, StoredKind, scalar_kind, struct_kind, table_kind, union_kind}
-use Rattle.fb_layout.specs.Laid.{code_kind, text_kind, StoredShape, one_of, vector_of, slots_of, parts_of, struct_at}
+use Rattle.fb_layout.specs.Laid.{text_kind, StoredShape, one_of, vector_of, slots_of, parts_of, struct_at}
 use Rattle.fb_layout.specs.Laid.{size_of, member_by_code}
 use Rattle.fb_value.specs.Places.{Target, table_part, member_part, text_part, vector_part, Sort, ref_place, part_place}
 use Rattle.fb_value.specs.Places.{inline_place, code_place, unknown_place, Place, named, named_slot, named_union}
@@ -82,12 +82,9 @@ slot_good : (L : LaidSchema) (b : Bytes) (most p k : ℕ) (fs : List Slot) (s : 
     → named_slot L b p k fs s ≡ Some y → IsGood most y.sort
 slot_good L b most p k fs (one_of (union_kind u)) y good e =
     union_good b most p k (code_at b p (k - 1)) (member_by_code L u (code_at b p (k - 1))) y e
-slot_good L b most p k fs (one_of (scalar_kind base)) y good e = there_good most _ _ y tt e
 slot_good L b most p k fs (one_of (struct_kind s)) y good e = there_good most _ _ y good e
-slot_good L b most p k fs (one_of (table_kind t)) y good e = there_good most _ _ y tt e
-slot_good L b most p k fs (one_of (code_kind u)) y good e = there_good most _ _ y tt e
-slot_good L b most p k fs (one_of text_kind) y good e = there_good most _ _ y tt e
 slot_good L b most p k fs (vector_of kind) y good e = there_good most _ _ y good e
+slot_good L b most p k fs _ y good e = there_good most _ _ y tt e
 
 -- What a slot names, where it is not deprecated, is good.
 either_good : (most : ℕ) (deprecated : Bool) (o : Option Place) (y : Place)
@@ -112,9 +109,7 @@ Ample b most p fuel = (most + 2 * length b) + 2 < 2 * p + fuel
 -- a member takes a level more than its table
 need : Target → ℕ
 need (member_part c t) = 1
-need (table_part t) = 0
-need text_part = 0
-need (vector_part kind) = 0
+need _ = 0
 
 -- One level more is enough for any part.
 need_small : (X : Target) → need X ≤ 1
@@ -294,10 +289,9 @@ module _ (L : LaidSchema) (b : Bytes) (most : ℕ) (made : IsResolved L most) wh
   -- A part that keeps its rules begins inside the bytes.
   pub part_within : (X : Target) (p : ℕ) → Keeps L b (part_place X) p → p + 4 ≤ length b
   unfolding fault_by
-  part_within (table_part t) p e = leb-true _ _ (rule_held _ _ _ (rule_held _ _ _ e).1).0
-  part_within (member_part c t) p e = leb-true _ _ (rule_held _ _ _ (rule_held _ _ _ e).1).0
   part_within text_part p e = leb-true _ _ (and_parts _ _ (rule_held _ _ _ (rule_held _ _ _ e).1).0).0
   part_within (vector_part kind) p e = leb-true _ _ (and_parts _ _ (rule_held _ _ _ (rule_held _ _ _ e).1).0).0
+  part_within _ p e = leb-true _ _ (rule_held _ _ _ (rule_held _ _ _ e).1).0
 
   -- Each part is there, within levels enough.
   part_found : (fuel : ℕ) → Known fuel

@@ -10,7 +10,7 @@ use Rattle.fb_value.specs.declared.faults.ReadFault.{ReadFault}
 use Rattle.fb_value.specs.Datum.{Datum, SlotEntries, a_struct, a_vector, a_table, a_member}
 use Rattle.fb_value.specs.Num.{Bytes, num}
 use Rattle.fb_value.specs.Places.{Target, table_part, member_part, text_part, vector_part, Sort, ref_place, part_place}
-use Rattle.fb_value.specs.Places.{inline_place, code_place, unknown_place, Place, named_slots, target_of}
+use Rattle.fb_value.specs.Places.{inline_place, Place, named_slots, target_of}
 use Rattle.fb_value.specs.Rules.{Keeps, fault_at, fault_by}
 use Rattle.fb_value.specs.Reads.{unless, ◌>>=◌, parts_at, inline_at, through, element_at, items_at, entry_at, slots_at}
 use Rattle.fb_value.specs.Reads.{datum_at, value_levels, value_at, inline_value, inline_step, value_step}
@@ -82,7 +82,6 @@ module _ (L : LaidSchema) (b : Bytes) (made : IsWellMade L) where
   inline_same zero n kind p h i = absurd (omega arith)
   inline_same (suc m) zero kind p h i = absurd (omega arith)
   inline_same (suc m) (suc n) (struct_kind s) p h i = any_struct (suc m) (suc n) s p _ refl h i
-  inline_same (suc m) (suc n) (scalar_kind base) p h i = refl
   inline_same (suc m) (suc n) _ p h i = refl
 
   -- within more levels than there are types it is what is read without levels
@@ -120,16 +119,12 @@ module _ (L : LaidSchema) (b : Bytes) (made : IsWellMade L) where
   ample : (X : Target) (p m : ℕ) → (length L.schema.types + 2 * length b) + 3 < 2 * p + m → Ample X p m
   unfolding Ample
   ample (member_part c t) p m h = h
-  ample (table_part t) p m h = omega arith
-  ample text_part p m h = omega arith
-  ample (vector_part kind) p m h = omega arith
+  ample _ p m h = omega arith
 
   ample_some : (X : Target) (p m : ℕ) → Ample X p m → (length L.schema.types + 2 * length b) + 2 < 2 * p + m
   unfolding Ample
   ample_some (member_part c t) p m h = omega arith
-  ample_some (table_part t) p m h = h
-  ample_some text_part p m h = h
-  ample_some (vector_part kind) p m h = h
+  ample_some _ p m h = h
 
   -- past the bytes nothing lies
   past_none : (X : Target) (p n : ℕ) → length b < p → (o : Option ReadFault) → fault_at L b (part_place X) p ≡ o
@@ -140,9 +135,7 @@ module _ (L : LaidSchema) (b : Bytes) (made : IsWellMade L) where
       past_none (table_part t) p n past (fault_at L b (part_place (table_part t)) p) refl in rw none refl
   past_none X p (suc n) past None e = let within = part_within L b (length L.schema.types) (resolved L made) X p e in
       absurd (omega arith)
-  past_none (table_part t) p (suc n) past (Some f) e = rw e refl
-  past_none text_part p (suc n) past (Some f) e = rw e refl
-  past_none (vector_part kind) p (suc n) past (Some f) e = rw e refl
+  past_none _ p (suc n) past (Some f) e = rw e refl
 
   -- two ways to read are the same behind position p
   record Alike (p : ℕ) (read other : Sort → ℕ → Option Datum) (inner others : StoredKind → ℕ → Option Datum) : Type
@@ -165,8 +158,7 @@ module _ (L : LaidSchema) (b : Bytes) (made : IsWellMade L) where
       rw (ref_same p read other inner others alike X q up) refl
   entry_same p read other inner others alike (part_place X) q ss up good = absurd good
   entry_same p read other inner others alike (inline_place kind) q ss up good = rw (alike.inlines kind q up) refl
-  entry_same p read other inner others alike (code_place u k needed here) q ss up good = refl
-  entry_same p read other inner others alike (unknown_place c) q ss up good = refl
+  entry_same p read other inner others alike _ q ss up good = refl
 
   slots_same : (p : ℕ) (read other : Sort → ℕ → Option Datum) (inner others : StoredKind → ℕ → Option Datum)
       → Alike p read other inner others → (fs : List Slot) (xs : List (Option Place))
@@ -291,7 +283,6 @@ module _ (L : LaidSchema) (b : Bytes) (made : IsWellMade L) where
   value_is (inline_place kind) p = let m = one_more p in
       rw m.1 (unless_same (fault_at L b (inline_place kind) p) _ _
       (λ keeps. inline_is_value (suc m.0) kind p (omega (arith, m.1))))
-  value_is (part_place text_part) p = let m = one_more p in rw m.1 refl
   value_is (part_place (vector_part kind)) p = let m = one_more p in
       rw m.1 (unless_same (fault_at L b (part_place (vector_part kind)) p) _ _ (λ keeps.
       ap (λ o. o >>= λ ds. Some (a_vector ds)) (items_same p _ _ _ _ (without_levels m.0 p (vector_part kind) keeps m.1)
@@ -304,9 +295,7 @@ module _ (L : LaidSchema) (b : Bytes) (made : IsWellMade L) where
   value_is (part_place (member_part c t)) p = let m = one_more p in
       rw m.1 (ap (λ o. o >>= λ d. Some (a_member c d))
       (part_same m.0 (suc m.0) (table_part t) p (omega (arith, m.1)) (omega (arith, m.1))))
-  value_is (ref_place X) p = let m = one_more p in rw m.1 refl
-  value_is (code_place u k needed here) p = let m = one_more p in rw m.1 refl
-  value_is (unknown_place c) p = let m = one_more p in rw m.1 refl
+  value_is _ p = let m = one_more p in rw m.1 refl
 
 -- The value at a place, by one step.
 pub value_of_place_shown : ValueOfPlace

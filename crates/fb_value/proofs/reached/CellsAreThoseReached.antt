@@ -48,10 +48,13 @@ mutual
       omega (arith, inline_cells L b k (p + o) d lies.0, parts_free L b ks os p ds lies.1)
   parts_free L b _ _ p _ lies = absurd lies
 
+-- the cells of a value are those of the places that are reached from wherever it lies
+abbrev pub CellsWhereItLies : LaidSchema → Bytes → Datum → Type 0
+CellsWhereItLies L b d = (s : Sort) (q : ℕ) → Lies L b s q d → cells d ≡ all L b (record { sort = s; at = q })
+
 -- The cells of what lies at a place, once they are known of what is behind it.
 pub behind_cells : (L : LaidSchema) (b : Bytes) (s : Sort) (p : ℕ) (d : Datum)
-    → ((s : Sort) (q : ℕ) → Lies L b s q d → cells d ≡ all L b (record { sort = s; at = q }))
-    → Behind L b s p (λ s q. Lies L b s q d) → cells d ≡ all L b (record { sort = s; at = p })
+    → CellsWhereItLies L b d → Behind L b s p (λ s q. Lies L b s q d) → cells d ≡ all L b (record { sort = s; at = p })
 behind_cells L b (ref_place X) p d known lies =
     omega (arith, known (part_place X) (p + num b p 4) lies.1, all_kept L b (ref_place X) p lies.0)
 behind_cells L b (part_place X) p d known lies = known (part_place X) p lies
@@ -65,8 +68,8 @@ unknown_keeps L b c p = refl
 
 -- The cells of an entry are those of the place that its slot names.
 pub entry_cells : (L : LaidSchema) (b : Bytes) (s : Sort) (p : ℕ) (d : Datum)
-    → ((s : Sort) (q : ℕ) → Lies L b s q d → cells d ≡ all L b (record { sort = s; at = q }))
-    → EntryAt L b s p d (λ s q. Lies L b s q d) → cells d ≡ all L b (record { sort = s; at = p })
+    → CellsWhereItLies L b d → EntryAt L b s p d (λ s q. Lies L b s q d)
+    → cells d ≡ all L b (record { sort = s; at = p })
 entry_cells L b (ref_place X) p d known lies = behind_cells L b (ref_place X) p d known lies
 entry_cells L b (part_place X) p d known lies = behind_cells L b (part_place X) p d known lies
 entry_cells L b (inline_place kind) p d known lies = behind_cells L b (inline_place kind) p d known lies
@@ -88,8 +91,8 @@ absent_cells L b f (Some x) xs lies = omega (arith, code_cells L b x.sort x.at l
 
 -- A slot with an entry adds the cells of the entry.
 pub present_cells : (L : LaidSchema) (b : Bytes) (f : Slot) (x : Option Place) (xs : List (Option Place)) (d : Datum)
-    → ((s : Sort) (q : ℕ) → Lies L b s q d → cells d ≡ all L b (record { sort = s; at = q }))
-    → PresentEntry L b f x d (λ s q. Lies L b s q d) → sum_over (all L b) (x ∷ xs) ≡ cells d + sum_over (all L b) xs
+    → CellsWhereItLies L b d → PresentEntry L b f x d (λ s q. Lies L b s q d)
+    → sum_over (all L b) (x ∷ xs) ≡ cells d + sum_over (all L b) xs
 present_cells L b f None xs d known lies = rw lies.2 (omega arith)
 present_cells L b f (Some x) xs d known lies = omega (arith, entry_cells L b x.sort x.at d known lies)
 
@@ -106,7 +109,7 @@ element_size L _ X e = cc
 
 -- The first of some elements adds its cells.
 element_cells : (L : LaidSchema) (b : Bytes) (kind : StoredKind) (o : Option Target) (p n : ℕ) (d : Datum)
-    → target_of kind ≡ o → ((s : Sort) (q : ℕ) → Lies L b s q d → cells d ≡ all L b (record { sort = s; at = q }))
+    → target_of kind ≡ o → CellsWhereItLies L b d
     → Element L b kind p o d (λ s q. Lies L b s q d)
     → references L b o p (suc n) ≡ cells d + references L b o (p + size_of L kind) n
 unfolding references named_elements
@@ -126,7 +129,6 @@ vector_references : (L : LaidSchema) (b : Bytes) (kind : StoredKind) (p n : ℕ)
 unfolding references
 vector_references L b text_kind p n e = rw e
 vector_references L b (table_kind t) p n e = rw e
-vector_references L b (scalar_kind base) p n e = refl
 vector_references L b _ p n e = refl
 
 -- A text that keeps its rules is as long as its count says.

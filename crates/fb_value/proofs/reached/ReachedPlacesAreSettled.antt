@@ -32,11 +32,9 @@ module _ (L : LaidSchema) (b : Bytes) (P : ℕ → ℕ → Type 0) where
   entry_settled : (s : Sort) (p : ℕ) (d : Datum) → EntryAt L b s p d (λ s q. Lies L b s q d) → EachTableAt L b P s p d
       → Settled (record { sort = s; at = p })
   unfolding Settled IsBare
-  entry_settled (ref_place X) p d lies each = inl (d, lies, each)
-  entry_settled (part_place X) p d lies each = inl (d, lies, each)
-  entry_settled (inline_place kind) p d lies each = inl (d, lies, each)
   entry_settled (code_place u k required here) p d lies each = absurd lies
   entry_settled (unknown_place c) p d lies each = inr tt
+  entry_settled _ p d lies each = inl (d, lies, each)
 
   slots_child : (fs : List Slot) (xs : List (Option Place)) (es : SlotEntries) → LiesSlots L b fs xs es
       → EachEntry L b P xs es → (k : ℕ) (y : Place) → slice_get xs k ≡ Some (Some y) → Settled y

@@ -3,7 +3,7 @@ use Rattle.std.proofs.Common.{◌≡◌, ℕ, zero, suc, ◌+◌, ◌-◌, ◌<�
 use Rattle.std.proofs.Common.{◌∷◌, length, Option, None, Some, slice_get, refl, subst, arith}
 use Rattle.std.proofs.lemmas.Bool.{leb-true, ltb-true, and_parts}
 use Rattle.fb_value.specs.Num.{Bytes, num}
-use Rattle.fb_layout.specs.Laid.{LaidSchema, Slot, StoredKind, scalar_kind, table_kind, union_kind, text_kind}
+use Rattle.fb_layout.specs.Laid.{LaidSchema, Slot, StoredKind, table_kind, union_kind, text_kind}
 use Rattle.fb_layout.specs.Laid.{StoredShape, one_of, slots_of, member_by_code}
 use Rattle.fb_value.specs.Places.{Target, table_part, member_part, text_part, vector_part, Sort, ref_place, part_place}
 use Rattle.fb_value.specs.Places.{Place, named, named_slots, named_slot}
@@ -52,7 +52,6 @@ slot_higher : (L : LaidSchema) (b : Bytes) (p k : ℕ) (fs : List Slot) (s : Sto
     → named_slot L b p k fs s ≡ Some y → p < y.at
 slot_higher L b p k fs (one_of (union_kind u)) y e =
     union_higher b p k (code_at b p (k - 1)) (member_by_code L u (code_at b p (k - 1))) y e
-slot_higher L b p k fs (one_of (scalar_kind base)) y e = higher b p k _ y e
 slot_higher L b p k fs _ y e = higher b p k _ y e
 
 -- The same where the slot may be deprecated.

@@ -330,17 +330,13 @@ module _ (L : LaidSchema) (al al2 : Aligned) (b c : Bytes) (k : ℕ)
         let at : k + (p + num b p 4) ≡ (k + p) + num c (k + p) 4 = omega (arith, number_moved b c k bytes p 4) in
         subst (λ (q : ℕ). EachTable L c Q (part_place X) q d) at (known (part_place X) (p + num b p 4) lies.1 each)
     each_behind (part_place X) p d known lies each = known (part_place X) p lies each
-    each_behind (inline_place kind) p d known lies each = tt
-    each_behind (code_place u j required here) p d known lies each = tt
-    each_behind (unknown_place e) p d known lies each = tt
+    each_behind _ p d known lies each = tt
 
     each_entry : (s : Sort) (p : ℕ) (d : Datum) → EachKnown d → EntryBy al L b s p d (λ s q. LiesBy al L b s q d)
         → EachTableAt L b P s p d → EachTableAt L c Q s (k + p) d
     each_entry (ref_place X) p d known lies each = each_behind (ref_place X) p d known lies each
     each_entry (part_place X) p d known lies each = each_behind (part_place X) p d known lies each
-    each_entry (inline_place kind) p d known lies each = tt
-    each_entry (code_place u j required here) p d known lies each = tt
-    each_entry (unknown_place e) p d known lies each = tt
+    each_entry _ p d known lies each = tt
 
     each_named : (f : Slot) (x : Option Place) (d : Datum) → EachKnown d
         → PresentEntryBy al L b f x d (λ s q. LiesBy al L b s q d) → EachNamed b x (λ s q. EachTable L b P s q d)

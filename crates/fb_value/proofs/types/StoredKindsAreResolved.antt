@@ -2,18 +2,17 @@
 use Rattle.std.proofs.Common.{◌≡◌, ℕ, suc, ◌+◌, ◌<◌, List, [], ◌∷◌, length, map, IsTrue, Option, None, Some, slice_get}
 use Rattle.std.proofs.Common.{refl, subst}
 use Rattle.fb_schema.specs.declared.kinds.Kind.{Kind}
-use Rattle.fb_schema.specs.declared.kinds.Kind.TheVariants.{Scalar, Enum, Struct, Table, Union, Code, Text}
+use Rattle.fb_schema.specs.declared.kinds.Kind.TheVariants.{Scalar, Enum, Struct, Table, Text}
 use Rattle.fb_schema.specs.declared.kinds.Shape.{Shape}
 use Rattle.fb_schema.specs.declared.kinds.Shape.TheVariants.{One, Many}
-use Rattle.fb_schema.specs.Schema.{DeclaredField, DeclaredBody, table_body, struct_body, enum_body, union_body}
+use Rattle.fb_schema.specs.Schema.{DeclaredField, DeclaredBody, table_body, struct_body}
 use Rattle.fb_schema.specs.Schema.{DeclaredType, DeclaredSchema, body_at, slots_in, parts_in, is_struct}
 use Rattle.fb_schema.specs.WellDeclared.{IsBody, IsPart, IsShape, KindNames, MayBeElement}
 use Rattle.fb_layout.specs.Laid.{LaidSchema, Slot, StoredKind, scalar_kind, struct_kind, table_kind, text_kind}
 use Rattle.fb_layout.specs.Laid.{StoredShape, one_of, vector_of, stored_kind, stored_shape, slot_of, slots_of, kind_in}
 use Rattle.fb_layout.specs.Laid.{parts_of, struct_at, size_of}
 use Rattle.fb_layout.specs.WellMade.{StandInOrder, IsWellMade}
-use Rattle.fb_value.specs.Places.{Target, vector_part, Sort, ref_place, part_place, inline_place, code_place}
-use Rattle.fb_value.specs.Places.{unknown_place}
+use Rattle.fb_value.specs.Places.{Target, vector_part, Sort, ref_place, part_place, inline_place}
 
 -- a struct's parts are numbers and structs below it, and each has its offset
 abbrev pub LowerParts : ℕ → List StoredKind → List ℕ → Type 0
@@ -61,8 +60,7 @@ abbrev pub IsGood : ℕ → Sort → Type 0
 IsGood most (ref_place X) = IsTarget most X
 IsGood most (part_place X) = ⊥
 IsGood most (inline_place kind) = IsInline most kind
-IsGood most (code_place u k required here) = Unit {0}
-IsGood most (unknown_place c) = Unit {0}
+IsGood most _ = Unit {0}
 
 -- the kinds of declared fields
 kinds_in : DeclaredSchema → List DeclaredField → List StoredKind
@@ -102,13 +100,8 @@ element_stored S _ names may = absurd may
 pub shape_stored : (S : DeclaredSchema) (shape : Shape) → IsShape S shape
     → IsStored (length S.types) (stored_shape S shape)
 shape_stored S (Many kind) is = element_stored S kind is.0 is.1
-shape_stored S (One (Scalar base)) is = tt
-shape_stored S (One (Enum e)) is = tt
 shape_stored S (One (Struct s)) is = is.0
-shape_stored S (One (Table t)) is = tt
-shape_stored S (One (Union u)) is = tt
-shape_stored S (One (Code u)) is = tt
-shape_stored S (One Text) is = tt
+shape_stored S _ is = tt
 
 -- The declared fields of a table, as its slots.
 pub fields_stored : (S : DeclaredSchema) (fs : List DeclaredField)
@@ -122,23 +115,19 @@ module _ (L : LaidSchema) (made : IsWellMade L) where
   body_lower : (s : ℕ) (body : DeclaredBody) → body_at L.schema s ≡ body → IsBody L.schema s body
       → LowerParts s (map (λ f. kind_in (stored_shape L.schema f.shape)) (parts_in body)) (struct_at L s).offsets
   unfolding kinds_in
-  body_lower s (table_body fs) e is = tt
-  body_lower s (enum_body base flags values) e is = tt
-  body_lower s (union_body members) e is = tt
   body_lower s (struct_body fs align) e is =
       let struct : IsTrue (is_struct (body_at L.schema s)) = rw e refl in
       let laid = made.sized.structs s struct in
       parts_lower L s 0 laid.end fs (struct_at L s).offsets (λ k f h. (is.parts k f h).0)
       (subst (λ (x : DeclaredBody). StandInOrder L 0 (kinds_in L.schema (parts_in x)) (struct_at L s).offsets laid.end)
       e laid.fields)
+  body_lower s _ e is = tt
 
   -- The slots of a declared type are stored ones, whatever its body.
   body_stored : (t : ℕ) (body : DeclaredBody) → IsBody L.schema t body
       → AreStored (length L.schema.types) (map (slot_of L.schema) (slots_in body))
   body_stored t (table_body fs) is = fields_stored L.schema fs (λ k f h. (is.shapes k f h).0)
-  body_stored t (struct_body fs align) is = tt
-  body_stored t (enum_body base flags values) is = tt
-  body_stored t (union_body members) is = tt
+  body_stored t _ is = tt
 
   -- The parts of each number are lower, also past the types.
   type_lower : (s : ℕ) (o : Option DeclaredType) → slice_get L.schema.types s ≡ o

@@ -7,11 +7,19 @@ use Rattle.fb_value.proofs.counts.+count.Goals as goal
 pub count-returns-in-Items : goal.count-returns-in-Items
 count-returns-in-Items t c =
     let many = count-parts_view c.in-Items.items.items in
-    rw (c.in-Items.is, view-Items) (record { cells = grind (arith, common_steps); depth = grind (arith, common_steps); whole = grind (arith, common_steps) })
+    rw (c.in-Items.is, view-Items) (record {
+      cells = grind (arith, common_steps);
+      depth = grind (arith, common_steps);
+      whole = grind (arith, common_steps);
+    })
 
 pub count-returns-in-Fields : goal.count-returns-in-Fields
 count-returns-in-Fields t c =
-    rw (c.in-Fields.is, view-Fields) (record { cells = grind (arith, common_steps); depth = grind (arith, common_steps); whole = grind (arith, common_steps) })
+    rw (c.in-Fields.is, view-Fields) (record {
+      cells = grind (arith, common_steps);
+      depth = grind (arith, common_steps);
+      whole = grind (arith, common_steps);
+    })
 
 pub count_entries-returns : goal.count_entries-returns
 count_entries-returns t c =
