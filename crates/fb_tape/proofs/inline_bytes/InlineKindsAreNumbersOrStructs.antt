@@ -20,12 +20,11 @@ use Rattle.fb_tape.specs.StoredFields.{scalar_in}
 
 scalar_is : (L : LaidSchema) (kind : StoredKind) (base : Base) → IsInline L kind
     → scalar_in (one_of kind) ≡ Some base → scalar_kind base ≡ kind
-scalar_is L (scalar_kind b) base h e = cc
-scalar_is L (struct_kind s) base h e = cc
 scalar_is L (table_kind t) base h e = absurd h
 scalar_is L (union_kind u) base h e = absurd h
 scalar_is L (code_kind u) base h e = absurd h
 scalar_is L text_kind base h e = absurd h
+scalar_is L _ base h e = cc
 
 -- a number is the same in 128 bits
 fits_wide : (base : Base) (n : ℤ) → InRange base n → FitsSigned w128 n

@@ -74,11 +74,7 @@ part_inline : (L : LaidSchema) (s : ℕ) (shape : Shape) → IsPart L.schema s s
 part_inline L s (One (Scalar b)) h = tt
 part_inline L s (One (Enum e)) h = tt
 part_inline L s (One (Struct t)) h = h.1.1
-part_inline L s (One (Table t)) h = absurd h
-part_inline L s (One (Union t)) h = absurd h
-part_inline L s (One (Code t)) h = absurd h
-part_inline L s (One Text) h = absurd h
-part_inline L s (Many k) h = absurd h
+part_inline L s _ h = absurd h
 
 inline_at : (L : LaidSchema) (s : ℕ) (fs : List DeclaredField) (i : ℕ) (kind : StoredKind)
     → ((k : ℕ) (f : DeclaredField) → slice_get fs k ≡ Some f → IsPart L.schema s f.shape)

@@ -25,19 +25,14 @@ reference_size L (vector_of kind) is = refl
 reference_size L (one_of text_kind) is = refl
 reference_size L (one_of (table_kind t)) is = refl
 reference_size L (one_of (union_kind u)) is = refl
-reference_size L (one_of (code_kind u)) is = cc
-reference_size L (one_of (scalar_kind b)) is = cc
-reference_size L (one_of (struct_kind s)) is = cc
+reference_size L _ is = cc
 
 inline_size_is : (L : LaidSchema) (shape : StoredShape) → is_reference shape ≡ false
     → size_of L (inline_kind shape) ≡ inline_size L shape
-inline_size_is L (vector_of kind) is = cc
-inline_size_is L (one_of text_kind) is = cc
-inline_size_is L (one_of (table_kind t)) is = cc
-inline_size_is L (one_of (union_kind u)) is = cc
 inline_size_is L (one_of (code_kind u)) is = refl
 inline_size_is L (one_of (scalar_kind b)) is = refl
 inline_size_is L (one_of (struct_kind s)) is = refl
+inline_size_is L _ is = cc
 
 -- it takes what its slot takes
 pub noted_size : (L : LaidSchema) (f : Slot) (d : Datum) (note : NotedField) (bytes : Bytes)

@@ -19,12 +19,10 @@ use Rattle.fb_tape.proofs.tape.RoomsAreSummedUp.{with_room, room_known}
 -- Each reference takes four bytes.
 references_room : (L : LaidSchema) (kind : StoredKind) (n : ℕ) → is_reference (one_of kind) ≡ true
     → (4 + n * 4) + 3 ≤ vector_room L kind n
-references_room L (scalar_kind base) n is = cc
-references_room L (struct_kind s) n is = cc
 references_room L (table_kind t) n is = omega arith
 references_room L (union_kind u) n is = omega arith
-references_room L (code_kind u) n is = cc
 references_room L text_kind n is = omega arith
+references_room L _ n is = cc
 
 references_wait : (before after : Taped) (kind : StoredKind) (count : ℕ) (others : List NamedPart)
     (ds : List Datum) → is_reference (one_of kind) ≡ true
