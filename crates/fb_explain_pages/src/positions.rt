@@ -9,7 +9,7 @@ const BYTE_ORDER_MARK: &[u8] = b"\xef\xbb\xbf";
 ///
 /// A line ends with a line feed. A column counts characters, of which a byte order mark at the text's
 /// start is none.
-#[derive(Clone, Copy, Debug, PartialEq, Eq, Drop)]
+#[derive(Clone, Copy, Drop)]
 pub struct Position {
     pub line: usize,
     pub column: usize,

@@ -97,7 +97,10 @@ fn a_line_that_is_one_job(rt: HostRuntime) -> Result<(), Fail> {
     let line = words(rt.alloc(), "check --raw-binary s b")?;
     let job = job_of(rt.alloc(), line.as_slice())?;
     let told = format!(in rt.alloc(); "{job:?}")?;
-    assert_eq!(&rt; told.as_str(), "Check { schema: \"s\", bin: Some(\"b\"), raw: true }");
+    assert_eq!(&rt;
+        told.as_str(),
+        "Check { schema: \"s\", bin: Some(\"b\"), raw: true }"
+    );
     Ok(())
 }
 
