@@ -394,8 +394,8 @@ pub visit_vector-returns-in-Some-clause-hears : goal.visit_vector-returns-in-Som
 visit_vector-returns-in-Some-clause-hears g t c =
     let L = c.args.buffer.now.layout.now in
     let kind = stored_kind L.schema c.args.kind in
-    vector_hears g.V.Visitor.takes_memory g.V.Visitor.told g.met.V.Visitor.silent c.args.buffer.now kind (led_to c.in-Some.reference)
-    c.args.at c.args.tables
+    vector_hears g.V.Visitor.takes_memory g.V.Visitor.told g.met.V.Visitor.silent c.args.buffer.now kind
+    (led_to c.in-Some.reference) c.args.at c.args.tables
     c.args.walk.now.spent c.in_ok-count.count _ _ c.visit_elements.result (sym (c.in-Some.ensures L))
     (c.in_ok-count.ensures.rules L kind c.size_of-size.ensures c.align_of.ensures) c.in_ok-count.ensures.count
     (omega arith) (rw c.from.ensures at c.visit_elements.ensures.hears)
