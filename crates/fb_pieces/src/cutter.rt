@@ -126,7 +126,7 @@ impl Cutter {
                 };
                 if place.wrapping_sub(start) >= self.noted {
                     right |= behind & bracket.wrapping_sub(1);
-                    self.pass_commas(at, commas(block) & right)?;
+                    self.pass_right(at, block, right)?;
                     right = 0;
                     self.depth = depth;
                     if let Some(back) = self.leave(text, start, place)? {
@@ -147,9 +147,15 @@ impl Cutter {
         self.depth = depth;
         right |= behind;
         if right != 0 {
-            self.pass_commas(at, commas(block) & right)?;
+            self.pass_right(at, block, right)?;
         }
         Ok(Next::Block)
+    }
+
+    /// Goes over the commas of a block that are among these bytes.
+    #[inline(never)]
+    fn pass_right(&mut self, at: usize, block: u8x64, right: u64) -> Result<(), AllocError> {
+        self.pass_commas(at, commas(block) & right)
     }
 
     /// Notes what a bracket at this place closes, which isn't short. It gives the place behind the bracket of an array
@@ -231,6 +237,7 @@ impl Cutter {
     }
 
     /// Goes over commas of a block that are right within the innermost of what is known to be long.
+    #[inline(always)]
     fn pass_commas(&mut self, at: usize, commas: u64) -> Result<(), AllocError> {
         let Some(open) = self.open.last_mut() else {
             return Ok(());
@@ -242,6 +249,7 @@ impl Cutter {
     }
 
     /// Goes over commas of the innermost long array, at some of which its runs have to end.
+    #[inline(never)]
     fn cut_runs(&mut self, at: usize, commas: u64) -> Result<(), AllocError> {
         let Some(open) = self.open.last_mut() else {
             return Ok(());
