@@ -1,12 +1,13 @@
 //! What reads a JSON text piece by piece.
-ghost use Rattle.std.specs.Prelude.{◌≡◌, ◌-◌, ◌≤◌, ◌<◌, IfOk, OnOk, IsUtf8, Some, length, true};
-ghost use Rattle.serde_json.specs.Data.{array};
+ghost use Rattle.std.specs.Prelude.{◌≡◌, ◌-◌, ◌≤◌, ◌<◌, ℕ, IfOk, IfSome, OnOk, IsUtf8, Some, length, true};
+ghost use Rattle.serde_json.specs.Data.{array, string};
 ghost use Rattle.serde_json.specs.Read.{read};
 ghost use Rattle.serde_json.specs.View.{items_view, view as tree_view};
 ghost use Rattle.fb_pieces.specs.InBrackets.{in_arrays, in_brackets};
-ghost use Rattle.fb_encode.specs.TextsRead.{IsRead};
+ghost use Rattle.fb_encode.specs.TextsRead.{IsRead, IsReadAs};
 
-use fb_pieces::{Cuts, text_is_read_without_brackets};
+use fb_pieces::{Cuts, leading_blanks, string_of, text_is_read_without_brackets};
+use json::Scratch;
 use serde_json::Value as Json;
 use std::alloc::{AllocError, Global};
 
@@ -45,6 +46,8 @@ pub(crate) struct Reader {
     bracketed: Vec<u8>,
     /// The most bytes of an excerpt that is read at once.
     most: usize,
+    /// Where strings with escapes are written. It is kept, since making one costs as much as reading a piece.
+    scratch: Box<Scratch>,
     /// Where the whole text may be cut.
     pub(crate) cuts: Cuts,
 }
@@ -56,6 +59,7 @@ impl Reader {
             alloc,
             bracketed: Vec::new(alloc),
             most,
+            scratch: Box::new(alloc, Scratch::new(alloc))?,
             cuts: Cuts::of(alloc, json, most)?,
         })
     }
@@ -98,6 +102,20 @@ impl Reader {
             Err(error) if error.is_memory() => Err(Unread::Memory),
             Err(_) => Err(Unread::Piece),
         }
+    }
+
+    /// The string that a text is read as, without brackets. `None` where it is none, or isn't UTF-8.
+    pub(crate) fn string<'t>(&'t mut self, text: &'t [u8]) -> Result<Option<&'t str>, AllocError>
+        ensures { IfOk result (λ found. IfSome found (λ s. (brackets : ℕ)
+            → IsReadAs brackets text.entry.now (string s.now))) }
+    {
+        if text.get(leading_blanks(text)) != Some(&b'"') {
+            return Ok(None);
+        }
+        let Ok(text) = simdutf8::basic::from_utf8(text) else {
+            return Ok(None);
+        };
+        string_of(text, &mut *self.scratch)
     }
 
     /// The tree of an excerpt, in the brackets in which it is read.

@@ -13,11 +13,10 @@ ghost use Rattle.fb_encode.specs.MembersRead.{AreNamesRead, AreValuesRead, name_
 ghost use Rattle.fb_encode.specs.SlotTexts.{AreTextsOf, AreTextsRead, IsPieceOf, text_over, texts_with};
 ghost use Rattle.fb_encode.specs.TextsRead.{IsRead, IsReadAs};
 
-use crate::reader::{Excerpt, MOST_BRACKETS, Reader, Unread, innermost};
+use crate::reader::{Excerpt, Reader, Unread};
 use fb_json::{JsonFault, Place, Source};
-use fb_pieces::{Member, Piece, text_is_read_without_brackets};
+use fb_pieces::{Member, Piece};
 use fb_schema::{FieldInfo, TypeId};
-use serde_json::Value as Json;
 use std::alloc::{AllocError, Global};
 
 /// The texts of a table's members by its slots, and the fault of a name that no slot in use has.
@@ -100,12 +99,10 @@ fn field_read<'s>(
         IfOk result (λ field. option_map field_seen (option_copied field)
         ≡ field_named body (name_read name.entry.brackets name.entry.text.now)) }
 {
-    text_is_read_without_brackets();
-    let read = reader.read(name)?;
-    let Json::String(name) = innermost(&read, MOST_BRACKETS - name.brackets)? else {
+    let Some(name) = reader.string(name.text)? else {
         return Err(Unread::Piece);
     };
-    Ok(source.layout.schema().field_by_name(owner, name.as_str()))
+    Ok(source.layout.schema().field_by_name(owner, name))
 }
 
 /// Puts a text at the slot of a field in use, and returns the one that no slot has then.

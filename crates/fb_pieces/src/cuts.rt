@@ -39,13 +39,14 @@ impl Cuts {
             if at >= text.len() {
                 break;
             }
-            let marks = walk.marks(block_at(text, at));
-            if marks.is_empty() {
-                at = at.saturating_add(BLOCK);
+            let block = block_at(text, at);
+            let outside = walk.outside_strings(block);
+            if outside == 0 {
+                at = at.wrapping_add(BLOCK);
                 continue;
             }
-            match cutter.pass(text, at, marks)? {
-                Next::Block => at = at.saturating_add(BLOCK),
+            match cutter.pass(text, at, block, outside)? {
+                Next::Block => at = at.wrapping_add(BLOCK),
                 Next::Back(behind) => {
                     at = behind;
                     walk = Walk::START;

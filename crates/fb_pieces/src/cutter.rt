@@ -1,7 +1,8 @@
 //! What notes the cuts of a text, block by block.
 use crate::cuts::{Cuts, RunEnd};
-use crate::walk::{BLOCK, Marks, lowest};
+use crate::walk::{BLOCK, brackets, commas, lowest, opening};
 use std::alloc::{AllocError, Global};
+use std::simd::prelude::*;
 
 /// The brackets that may be open at once in a JSON text.
 const MOST_OPEN: usize = 127;
@@ -36,6 +37,8 @@ struct Open {
 #[derive(Drop)]
 pub(crate) struct Cutter {
     most: usize,
+    /// How many bytes are enough to be noted.
+    noted: usize,
     /// How many brackets are open, and where they are.
     depth: usize,
     starts: [usize; MOST_OPEN],
@@ -49,6 +52,7 @@ impl Cutter {
     pub(crate) fn new(alloc: Global, most: usize) -> Cutter {
         Cutter {
             most,
+            noted: most / 4,
             depth: 0,
             starts: [0; MOST_OPEN],
             open: Vec::new(alloc),
@@ -62,80 +66,122 @@ impl Cutter {
         cuts
     }
 
-    /// Goes over the block at this place.
+    /// Goes over the block at this place, of which these bytes are outside strings.
     #[inline(always)]
     pub(crate) fn pass(
         &mut self,
         text: &[u8],
         at: usize,
-        marks: Marks,
+        block: u8x64,
+        outside: u64,
     ) -> Result<Next, AllocError> {
-        if self.depth > self.open.len() && self.is_long(at) {
+        let own = self.open.len();
+        if self.depth > own && self.is_long(own, at) {
             if let Some(back) = self.open_long(text, at)? {
                 return Ok(Next::Back(back));
             }
         }
-        let mut behind = u64::MAX;
-        let mut rest = marks.opening | marks.closing;
-        for _ in 0..rest.count_ones() {
-            let bracket = rest & rest.wrapping_neg();
-            let before = bracket.wrapping_sub(1);
-            let place = at.wrapping_add(bracket.trailing_zeros() as usize);
-            let commas = marks.commas & behind & before;
-            if commas != 0 && self.depth == self.open.len() {
-                self.pass_commas(at, commas)?;
-            }
-            let next = if marks.opening & bracket != 0 {
-                self.enter(place)
-            } else {
-                self.leave(text, place)?
-            };
-            if !matches!(next, Next::Block) {
-                return Ok(next);
-            }
-            behind = !(bracket | before);
-            rest ^= bracket;
+        let brackets = brackets(block) & outside;
+        if brackets != 0 {
+            return self.pass_brackets(text, at, block, outside, brackets);
         }
-        let commas = marks.commas & behind;
-        if commas != 0 && self.depth == self.open.len() {
-            self.pass_commas(at, commas)?;
+        if self.depth == own {
+            self.pass_commas(at, commas(block) & outside)?;
         }
         Ok(Next::Block)
     }
 
+    /// Goes over a block that has brackets.
     #[inline(always)]
-    fn enter(&mut self, place: usize) -> Next {
-        let Some(start) = self.starts.get_mut(self.depth) else {
-            return Next::Nothing;
-        };
-        *start = place;
-        self.depth = self.depth.wrapping_add(1);
-        Next::Block
-    }
-
-    #[inline(always)]
-    fn leave(&mut self, text: &[u8], place: usize) -> Result<Next, AllocError> {
-        let Some(depth) = self.depth.checked_sub(1) else {
-            return Ok(Next::Nothing);
-        };
-        let start = self.starts.get(depth).copied().unwrap_or(0);
-        let length = place.wrapping_sub(start);
-        if length >= self.most {
-            if let Some(back) = self.open_long(text, place)? {
-                return Ok(Next::Back(back));
+    fn pass_brackets(
+        &mut self,
+        text: &[u8],
+        at: usize,
+        block: u8x64,
+        outside: u64,
+        brackets: u64,
+    ) -> Result<Next, AllocError> {
+        let opening = opening(block);
+        let mut rest = brackets;
+        let mut depth = self.depth;
+        let mut own = self.open.len();
+        // What of the block is right within the innermost of what is known to be long: up to the last bracket, and
+        // behind it.
+        let mut right = 0;
+        let mut behind = if depth == own { outside } else { 0 };
+        for _ in 0..BLOCK {
+            let bracket = rest & rest.wrapping_neg();
+            let place = at.wrapping_add(rest.trailing_zeros() as usize);
+            if opening & bracket != 0 {
+                let Some(start) = self.starts.get_mut(depth) else {
+                    return Ok(Next::Nothing);
+                };
+                *start = place;
+                depth = depth.wrapping_add(1);
+                right |= behind & bracket.wrapping_sub(1);
+                behind = 0;
+            } else {
+                let Some(start) = self.starts.get(depth.wrapping_sub(1)).copied() else {
+                    return Ok(Next::Nothing);
+                };
+                if place.wrapping_sub(start) >= self.noted {
+                    right |= behind & bracket.wrapping_sub(1);
+                    self.pass_right(at, block, right)?;
+                    right = 0;
+                    self.depth = depth;
+                    if let Some(back) = self.leave(text, start, place)? {
+                        return Ok(Next::Back(back));
+                    }
+                    own = self.open.len();
+                }
+                depth = depth.wrapping_sub(1);
+                if depth == own {
+                    behind = outside & bracket.wrapping_neg();
+                }
             }
-            self.close(place)?;
-        } else if length >= self.most / 4 {
-            self.cuts.push(start, place, &[])?;
+            rest ^= bracket;
+            if rest == 0 {
+                break;
+            }
         }
         self.depth = depth;
+        right |= behind;
+        if right != 0 {
+            self.pass_right(at, block, right)?;
+        }
         Ok(Next::Block)
     }
 
-    /// Whether the outermost of what isn't known to be long is long at this place.
+    /// Goes over the commas of a block that are among these bytes.
+    #[inline(never)]
+    fn pass_right(&mut self, at: usize, block: u8x64, right: u64) -> Result<(), AllocError> {
+        self.pass_commas(at, commas(block) & right)
+    }
+
+    /// Notes what a bracket at this place closes, which isn't short. It gives the place behind the bracket of an array
+    /// that has turned out to be long.
+    #[inline(never)]
+    fn leave(
+        &mut self,
+        text: &[u8],
+        start: usize,
+        place: usize,
+    ) -> Result<Option<usize>, AllocError> {
+        if place.wrapping_sub(start) < self.most {
+            self.cuts.push(start, place, &[])?;
+            return Ok(None);
+        }
+        if let Some(back) = self.open_long(text, place)? {
+            return Ok(Some(back));
+        }
+        self.close(place)?;
+        Ok(None)
+    }
+
+    /// Whether what is open at this level is long at this place.
     #[inline(always)]
-    fn is_long(&self, place: usize) -> bool {
-        match self.starts.get(self.open.len()) {
+    fn is_long(&self, level: usize, place: usize) -> bool {
+        match self.starts.get(level) {
             Some(start) => place.wrapping_sub(*start) >= self.most,
             None => false,
         }
@@ -143,6 +189,7 @@ impl Cutter {
 
     /// Notes what is open and has turned out to be long at this place, from the outermost on, up to an array: it gives
     /// the place behind that one's bracket.
+    #[inline(never)]
     fn open_long(&mut self, text: &[u8], place: usize) -> Result<Option<usize>, AllocError> {
         for level in self.open.len()..self.depth {
             let start = self.starts.get(level).copied().unwrap_or(0);
@@ -190,17 +237,19 @@ impl Cutter {
     }
 
     /// Goes over commas of a block that are right within the innermost of what is known to be long.
+    #[inline(always)]
     fn pass_commas(&mut self, at: usize, commas: u64) -> Result<(), AllocError> {
         let Some(open) = self.open.last_mut() else {
             return Ok(());
         };
-        if !open.is_array || open.pass_all(at, commas, self.most) {
+        if commas == 0 || !open.is_array || open.pass_all(at, commas, self.most) {
             return Ok(());
         }
         self.cut_runs(at, commas)
     }
 
     /// Goes over commas of the innermost long array, at some of which its runs have to end.
+    #[inline(never)]
     fn cut_runs(&mut self, at: usize, commas: u64) -> Result<(), AllocError> {
         let Some(open) = self.open.last_mut() else {
             return Ok(());

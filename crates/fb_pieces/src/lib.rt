@@ -6,6 +6,7 @@ mod cut;
 mod cuts;
 mod cutter;
 mod laws;
+mod strings;
 #[cfg(test)]
 mod tests;
 mod walk;
@@ -20,3 +21,4 @@ pub use laws::{
     members_make_the_object, read_run_ends_outside, read_text_ends_outside, runs_make_the_array,
     runs_make_the_object, text_is_read_without_brackets, tokens_split,
 };
+pub use strings::string_of;

@@ -16,26 +16,6 @@ pub(crate) struct Walk {
     pub(crate) open: usize,
 }
 
-/// What of a block is outside strings, as bits.
-#[derive(Clone, Copy)]
-pub(crate) struct Marks {
-    pub(crate) opening: u64,
-    pub(crate) closing: u64,
-    pub(crate) commas: u64,
-}
-
-impl Marks {
-    const NONE: Marks = Marks {
-        opening: 0,
-        closing: 0,
-        commas: 0,
-    };
-
-    pub(crate) fn is_empty(self) -> bool {
-        self.opening | self.closing | self.commas == 0
-    }
-}
-
 /// What a block has outside the brackets that are opened from the walk's start on, as bits.
 #[derive(Clone, Copy)]
 pub(crate) struct Outside {
@@ -62,11 +42,32 @@ pub(crate) fn lowest(count: usize) -> u64 {
     !u64::MAX.checked_shl(count.min(BLOCK) as u32).unwrap_or(0)
 }
 
+#[inline(always)]
 fn equal_to(block: u8x64, byte: u8) -> u64 {
     block.simd_eq(u8x64::splat(byte)).to_bitmask()
 }
 
+/// The commas of a block.
+#[inline(always)]
+pub(crate) fn commas(block: u8x64) -> u64 {
+    equal_to(block, b',')
+}
+
+/// The brackets and braces of a block. Other bytes that are among these, as `y`, aren't outside the strings of a JSON
+/// text.
+#[inline(always)]
+pub(crate) fn brackets(block: u8x64) -> u64 {
+    equal_to(block | u8x64::splat(0x26), 0x7f)
+}
+
+/// Those of a block that open.
+#[inline(always)]
+pub(crate) fn opening(block: u8x64) -> u64 {
+    equal_to(block | u8x64::splat(0x20), b'{')
+}
+
 /// A bit is set where the number of bits up to it, itself counted, is odd.
+#[inline(always)]
 fn prefix_xor(bits: u64) -> u64 {
     let a = bits ^ (bits << 1);
     let b = a ^ (a << 2);
@@ -100,6 +101,10 @@ impl Walk {
     #[inline(always)]
     fn strings(&mut self, block: u8x64) -> u64 {
         let mut quotes = equal_to(block, b'"');
+        if quotes == 0 && !self.in_string {
+            // No backslash of a JSON text is outside its strings.
+            return 0;
+        }
         let backslashes = equal_to(block, b'\\');
         if backslashes != 0 || self.is_escaped {
             quotes &= !self.escaped(backslashes);
@@ -113,19 +118,10 @@ impl Walk {
         inside
     }
 
-    /// Goes over a block: what of it is outside strings, if anything is.
+    /// Goes over a block: the bytes that are outside strings.
     #[inline(always)]
-    pub(crate) fn marks(&mut self, block: u8x64) -> Marks {
-        let outside = !self.strings(block);
-        if outside == 0 {
-            return Marks::NONE;
-        }
-        let curly = block | u8x64::splat(0x20);
-        Marks {
-            opening: equal_to(curly, b'{') & outside,
-            closing: equal_to(curly, b'}') & outside,
-            commas: equal_to(block, b',') & outside,
-        }
+    pub(crate) fn outside_strings(&mut self, block: u8x64) -> u64 {
+        !self.strings(block)
     }
 
     /// Goes over a block, up to the byte that closes a bracket which was open before the walk.
@@ -198,6 +194,14 @@ pub(crate) fn block_at(text: &[u8], at: usize) -> u8x64
     if text.len() - at >= BLOCK {
         u8x64::from_slice(&text[at..])
     } else {
-        u8x64::load_or(&text[at..], u8x64::splat(b' '))
+        last_block(text, at)
     }
+}
+
+/// The bytes that are left from `at` on, filled up with spaces.
+#[inline(never)]
+fn last_block(text: &[u8], at: usize) -> u8x64
+    requires { at ≤ length text.now }
+{
+    u8x64::load_or(&text[at..], u8x64::splat(b' '))
 }

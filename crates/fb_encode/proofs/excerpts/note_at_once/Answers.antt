@@ -1,33 +1,11 @@
-use Rattle.std.proofs.Common.{◌∙◌, ℕ, Some, Result, ap, sym, subst}
-use Rattle.serde_json.specs.View.{view as tree_view}
-use Rattle.fb_layout.specs.Laid.{stored_shape}
-use Rattle.fb_json.specs.declared.faults.JsonFault.{JsonFault}
-use Rattle.fb_json.specs.Meant.{meant}
-use Rattle.fb_encode.proofs.excerpts.NotedOrRefused.{if_ok_then, noted_or}
-use Rattle.fb_encode.proofs.reader.TextInBrackets.{read_without}
-use Rattle.fb_encode.specs.TextsRead.{IsNotedOr, IsReadAs}
+use Rattle.serde_json.specs.Data.{string}
+use Rattle.fb_encode.proofs.excerpts.NotedOrRefused.{if_ok_then}
 use Rattle.fb_encode.proofs.excerpts.note_at_once.Goals as goal
 
-pub returns-clause-noted : goal.returns-clause-noted
-returns-clause-noted c =
-    let L = c.args.source.layout.now in
-    let excerpt = c.args.excerpt in
-    let shape = stored_shape L.schema c.args.shape in
-    let t = tree_view c.in_ok-tree.tree.now in
-    let given = meant L c.args.source.unknown t c.args.shape c.args.place c.args.levels c.args.left in
-    let a = c.args.walk.now.noting.tape in
-    let b = c.note_part.new.noting.tape in
-    let law = c.text_is_read_without_brackets.ensures in
-    let as_tree : IsReadAs excerpt.brackets excerpt.text.now t = record {
-      utf8 = c.in_ok-read.ensures.utf8;
-      read = read_without law excerpt.brackets excerpt.text.now t c.requires.brackets
-          (c.in_ok-read.ensures.tree ∙ ap Some c.in_ok-tree.ensures);
-    } in
-    let found : IsNotedOr L shape given a b c.note_part.result =
-    noted_or L shape given a b c.note_part.result c.note_part.ensures.noted c.note_part.ensures.refused in
-    if_ok_then c.unless_memory.result _ _ (λ r same. (
-      t,
-      as_tree,
-      subst (λ (x : Result ℕ JsonFault). IsNotedOr L shape
-          given a b x) (sym same) found,
-    )) c.unless_memory.ensures
+pub returns-in-Some-clause-noted : goal.returns-in-Some-clause-noted
+returns-in-Some-clause-noted c =
+    if_ok_then c.note_string.result _ _ (λ r found. (
+      string c.in-Some.text.now,
+      (rw c.in-Some.is at c.in_ok-text.ensures) c.args.excerpt.brackets,
+      found,
+    )) c.note_string.ensures.noted

@@ -1,0 +1,2 @@
+-- What the proofs of src/strings.rt use.
+pub mod StringIsOneToken
