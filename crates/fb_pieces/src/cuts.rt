@@ -1,8 +1,9 @@
 //! Where a long JSON text may be cut.
 use crate::cutter::{Cutter, Next};
-use crate::walk::{BLOCK, Walk, block_at};
+use crate::walk::{BLOCK, Walk, last_block};
 use std::alloc::{AllocError, Global};
 use std::collections::BTreeMap;
+use std::simd::prelude::*;
 
 /// Where a run of an array's elements ends, and how many it seems to have.
 #[derive(Clone, Copy)]
@@ -29,7 +30,7 @@ pub struct Cuts {
 
 impl Cuts {
     /// The cuts of a text, by one walk over it. Long is what has more than `most` bytes. A run is as many elements as
-    /// have at most `most` bytes together, or one that has more.
+    /// have at most `most` bytes together, or one that has more; twice as many where none has brackets.
     pub fn of(alloc: Global, text: &[u8], most: usize) -> Result<Cuts, AllocError> {
         let mut cutter = Cutter::new(alloc, most);
         let mut walk = Walk::START;
@@ -39,7 +40,11 @@ impl Cuts {
             if at >= text.len() {
                 break;
             }
-            let block = block_at(text, at);
+            let block = if text.len() - at >= BLOCK {
+                u8x64::from_slice(&text[at..])
+            } else {
+                last_block(text, at)
+            };
             let outside = walk.outside_strings(block);
             if outside == 0 {
                 at = at.wrapping_add(BLOCK);

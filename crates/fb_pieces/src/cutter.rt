@@ -7,6 +7,9 @@ use std::simd::prelude::*;
 /// The brackets that may be open at once in a JSON text.
 const MOST_OPEN: usize = 127;
 
+/// How many times as long a run may be whose elements have no brackets.
+const WITHOUT_BRACKETS: usize = 2;
+
 /// How a walk goes on behind a block.
 #[derive(Clone, Copy)]
 pub(crate) enum Next {
@@ -22,6 +25,8 @@ pub(crate) enum Next {
 #[derive(Clone, Copy)]
 struct Open {
     is_array: bool,
+    /// The most bytes of a run: more where no element has brackets, since the tree of such elements is small.
+    most: usize,
     start: usize,
     /// Where its last run begins.
     from: usize,
@@ -86,7 +91,12 @@ impl Cutter {
             return self.pass_brackets(text, at, block, outside, brackets);
         }
         if self.depth == own {
-            self.pass_commas(at, commas(block) & outside)?;
+            let commas = commas(block) & outside;
+            if let Some(open) = self.open.last_mut() {
+                if commas != 0 && !open.pass_all(at, commas) {
+                    self.cut_runs(at, commas)?;
+                }
+            }
         }
         Ok(Next::Block)
     }
@@ -109,6 +119,7 @@ impl Cutter {
         // behind it.
         let mut right = 0;
         let mut behind = if depth == own { outside } else { 0 };
+        let mut nests = 0;
         for _ in 0..BLOCK {
             let bracket = rest & rest.wrapping_neg();
             let place = at.wrapping_add(rest.trailing_zeros() as usize);
@@ -119,6 +130,7 @@ impl Cutter {
                 *start = place;
                 depth = depth.wrapping_add(1);
                 right |= behind & bracket.wrapping_sub(1);
+                nests |= behind;
                 behind = 0;
             } else {
                 let Some(start) = self.starts.get(depth.wrapping_sub(1)).copied() else {
@@ -126,8 +138,9 @@ impl Cutter {
                 };
                 if place.wrapping_sub(start) >= self.noted {
                     right |= behind & bracket.wrapping_sub(1);
-                    self.pass_right(at, block, right)?;
+                    self.pass_right(at, block, right, nests != 0)?;
                     right = 0;
+                    nests = 0;
                     self.depth = depth;
                     if let Some(back) = self.leave(text, start, place)? {
                         return Ok(Next::Back(back));
@@ -146,16 +159,31 @@ impl Cutter {
         }
         self.depth = depth;
         right |= behind;
-        if right != 0 {
-            self.pass_right(at, block, right)?;
+        if right | nests != 0 {
+            self.pass_right(at, block, right, nests != 0)?;
         }
         Ok(Next::Block)
     }
 
-    /// Goes over the commas of a block that are among these bytes.
+    /// Goes over the commas of a block that are among these bytes. `nests` says that an element has brackets.
     #[inline(never)]
-    fn pass_right(&mut self, at: usize, block: u8x64, right: u64) -> Result<(), AllocError> {
-        self.pass_commas(at, commas(block) & right)
+    fn pass_right(
+        &mut self,
+        at: usize,
+        block: u8x64,
+        right: u64,
+        nests: bool,
+    ) -> Result<(), AllocError> {
+        let commas = commas(block) & right;
+        if let Some(open) = self.open.last_mut() {
+            if nests {
+                open.most = self.most;
+            }
+            if commas != 0 && !open.pass_all(at, commas) {
+                return self.cut_runs(at, commas);
+            }
+        }
+        Ok(())
     }
 
     /// Notes what a bracket at this place closes, which isn't short. It gives the place behind the bracket of an array
@@ -200,6 +228,7 @@ impl Cutter {
             let is_array = text.get(start) == Some(&b'[');
             self.open.push(Open {
                 is_array,
+                most: self.most.saturating_mul(WITHOUT_BRACKETS),
                 start,
                 from,
                 comma: None,
@@ -221,7 +250,7 @@ impl Cutter {
         };
         let mut count = open.count;
         if let Some(comma) = open.comma {
-            if closing.saturating_sub(open.from) > self.most {
+            if closing.saturating_sub(open.from) > open.most {
                 self.waiting.push(RunEnd { at: comma, count })?;
                 count = 0;
             }
@@ -236,18 +265,6 @@ impl Cutter {
         Ok(())
     }
 
-    /// Goes over commas of a block that are right within the innermost of what is known to be long.
-    #[inline(always)]
-    fn pass_commas(&mut self, at: usize, commas: u64) -> Result<(), AllocError> {
-        let Some(open) = self.open.last_mut() else {
-            return Ok(());
-        };
-        if commas == 0 || !open.is_array || open.pass_all(at, commas, self.most) {
-            return Ok(());
-        }
-        self.cut_runs(at, commas)
-    }
-
     /// Goes over commas of the innermost long array, at some of which its runs have to end.
     #[inline(never)]
     fn cut_runs(&mut self, at: usize, commas: u64) -> Result<(), AllocError> {
@@ -256,7 +273,7 @@ impl Cutter {
         };
         let mut rest = commas;
         for _ in 0..2 * BLOCK {
-            rest = open.pass_near(at, rest, self.most);
+            rest = open.pass_near(at, rest);
             if rest == 0 {
                 break;
             }
@@ -271,25 +288,23 @@ impl Cutter {
 impl Open {
     /// Passes all commas of a block, if the run may end at each.
     #[inline(always)]
-    fn pass_all(&mut self, at: usize, commas: u64, most: usize) -> bool {
+    fn pass_all(&mut self, at: usize, commas: u64) -> bool {
+        if !self.is_array {
+            return true;
+        }
         let last = at.wrapping_add(BLOCK - 1 - commas.leading_zeros().min(63) as usize);
-        if last.wrapping_sub(self.from) > most {
+        if last.wrapping_sub(self.from) > self.most {
             return false;
         }
         self.comma = Some(last);
-        let count = if commas & commas.wrapping_sub(1) == 0 {
-            1
-        } else {
-            commas.count_ones() as usize
-        };
-        self.count = self.count.wrapping_add(count);
+        self.count = self.count.wrapping_add(commas.count_ones() as usize);
         true
     }
 
     /// Passes the commas at which the run may end, and gives the others.
     #[inline(always)]
-    fn pass_near(&mut self, at: usize, commas: u64, most: usize) -> u64 {
-        let last = self.from.saturating_add(most);
+    fn pass_near(&mut self, at: usize, commas: u64) -> u64 {
+        let last = self.from.saturating_add(self.most);
         let Some(room) = last.checked_sub(at) else {
             return commas;
         };

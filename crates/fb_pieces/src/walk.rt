@@ -89,6 +89,11 @@ impl Walk {
     #[inline(always)]
     fn escaped(&mut self, backslashes: u64) -> u64 {
         let before = self.is_escaped as u64;
+        let follows = (backslashes << 1) | before;
+        if backslashes & follows == 0 {
+            self.is_escaped = backslashes >> 63 == 1;
+            return follows;
+        }
         let live = backslashes & !before;
         let follows = (live << 1) | before;
         let odd_starts = live & !EVEN & !follows;
@@ -105,9 +110,9 @@ impl Walk {
             // No backslash of a JSON text is outside its strings.
             return 0;
         }
-        let backslashes = equal_to(block, b'\\');
-        if backslashes != 0 || self.is_escaped {
-            quotes &= !self.escaped(backslashes);
+        // Whether a backslash is there is sooner seen than where.
+        if self.is_escaped || block.simd_eq(u8x64::splat(b'\\')).any() {
+            quotes &= !self.escaped(equal_to(block, b'\\'));
         }
         let before = 0u64.wrapping_sub(self.in_string as u64);
         if quotes == 0 {
@@ -200,7 +205,7 @@ pub(crate) fn block_at(text: &[u8], at: usize) -> u8x64
 
 /// The bytes that are left from `at` on, filled up with spaces.
 #[inline(never)]
-fn last_block(text: &[u8], at: usize) -> u8x64
+pub(crate) fn last_block(text: &[u8], at: usize) -> u8x64
     requires { at ≤ length text.now }
 {
     u8x64::load_or(&text[at..], u8x64::splat(b' '))
