@@ -8,7 +8,7 @@ use Rattle.fb_value.specs.Datum.{Datum, a_text, a_vector, a_table, a_member, Par
 use Rattle.fb_value.specs.Datum.{no_entries, absent_entry, present_entry}
 use Rattle.fb_value.specs.Num.{Bytes, num}
 use Rattle.fb_value.specs.Places.{Target, table_part, member_part, text_part, vector_part, Sort, ref_place, part_place}
-use Rattle.fb_value.specs.Places.{inline_place, code_place, unknown_place, Place, slot_number, named_slots, target_of}
+use Rattle.fb_value.specs.Places.{Place, slot_number, named_slots, target_of}
 use Rattle.fb_value.specs.Rules.{Aligned, fault_by, KeepsBy}
 use Rattle.fb_value.specs.Lies.{BehindBy, EntryBy, PresentEntryBy, ElementBy, LiesBy, LiesItemsBy, LiesSlotsBy}
 use Rattle.fb_value.proofs.rules.RulesHoldOneByOne.{rule_held}
@@ -44,18 +44,14 @@ module _ (L : LaidSchema) (al : Aligned) (b c : Bytes) (k : ℕ) (bytes : (i : �
       let at : (k + p) + num c (k + p) 4 ≡ k + (p + num b p 4) = omega (arith, number_moved b c k bytes p 4) in
       ap (λ q. reached L c X q d) at ∙ known X (p + num b p 4) lies.1
   behind_further (part_place X) p d known lies = known X p lies
-  behind_further (inline_place kind) p d known lies = refl
-  behind_further (code_place u j required here) p d known lies = refl
-  behind_further (unknown_place e) p d known lies = refl
+  behind_further _ p d known lies = refl
 
   entry_further : (s : Sort) (p : ℕ) (d : Datum) → Known d → EntryBy al L b s p d (λ s q. LiesBy al L b s q d)
       → reached_behind c s (k + p) (λ X q. reached L c X q d)
       ≡ map (part_further k) (reached_behind b s p (λ X q. reached L b X q d))
   entry_further (ref_place X) p d known lies = behind_further (ref_place X) p d known lies
   entry_further (part_place X) p d known lies = behind_further (part_place X) p d known lies
-  entry_further (inline_place kind) p d known lies = refl
-  entry_further (code_place u j required here) p d known lies = refl
-  entry_further (unknown_place e) p d known lies = refl
+  entry_further _ p d known lies = refl
 
   named_further : (f : Slot) (x : Option Place) (d : Datum) → Known d
       → PresentEntryBy al L b f x d (λ s q. LiesBy al L b s q d)

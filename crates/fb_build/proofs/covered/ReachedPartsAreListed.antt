@@ -3,7 +3,7 @@ use Rattle.std.proofs.Common.{◌≡◌, ℕ, zero, suc, ◌+◌, ◌⊎◌, inl
 use Rattle.std.proofs.Common.{slice_get, refl, ◌∙◌, subst, arith, length-append}
 use Rattle.std.specs.List.{Contains}
 use Rattle.std.proofs.lemmas.List.{get_or_append_left, get_or-append-add}
-use Rattle.fb_layout.specs.Laid.{LaidSchema, Slot, StoredKind, scalar_kind, table_kind, text_kind, slots_of, size_of}
+use Rattle.fb_layout.specs.Laid.{LaidSchema, Slot, StoredKind, table_kind, text_kind, slots_of, size_of}
 use Rattle.fb_value.specs.Datum.{Datum, a_text, a_vector, a_table, a_member, Parts, no_parts, more_parts, SlotEntries}
 use Rattle.fb_value.specs.Datum.{no_entries, absent_entry, present_entry, count}
 use Rattle.fb_value.specs.Num.{Bytes, num}
@@ -30,16 +30,14 @@ behind xs ys x h =
 
 -- a code, or the value of one that no member has: it names nothing
 NamesNothing : Sort → Type 0
-NamesNothing (code_place u k required here) = Unit {0}
-NamesNothing (unknown_place c) = Unit {0}
 NamesNothing (ref_place X) = ⊥
 NamesNothing (part_place X) = ⊥
 NamesNothing (inline_place kind) = ⊥
+NamesNothing _ = Unit {0}
 
 code_names_nothing : (L : LaidSchema) (b : Bytes) (s : Sort) (p : ℕ) → IsCode L b s p → NamesNothing s
 unfolding NamesNothing
 code_names_nothing L b (code_place u k required here) p is = tt
-code_names_nothing L b (ref_place X) p is = absurd is
 code_names_nothing L b _ p is = absurd is
 
 module _ (L : LaidSchema) (b : Bytes) (all : List PartAt) where
@@ -65,11 +63,9 @@ module _ (L : LaidSchema) (b : Bytes) (all : List PartAt) where
   entry_settled : (s : Sort) (p : ℕ) (d : Datum) → EntryAt L b s p d (λ s q. Lies L b s q d)
       → AreListed (parts_at s p d) → Settled (record { sort = s; at = p })
   unfolding Settled NamesNothing
-  entry_settled (ref_place X) p d lies each = inl (d, lies, each)
-  entry_settled (part_place X) p d lies each = inl (d, lies, each)
-  entry_settled (inline_place kind) p d lies each = inl (d, lies, each)
   entry_settled (code_place u k required here) p d lies each = absurd lies
   entry_settled (unknown_place c) p d lies each = inr tt
+  entry_settled _ p d lies each = inl (d, lies, each)
 
   slots_child : (fs : List Slot) (xs : List (Option Place)) (es : SlotEntries) → LiesSlots L b fs xs es
       → AreListed (reached_entries L b xs es) → (k : ℕ) (y : Place) → slice_get xs k ≡ Some (Some y) → Settled y
@@ -115,7 +111,6 @@ module _ (L : LaidSchema) (b : Bytes) (all : List PartAt) where
       items_child text_kind text_part (p + 4) ds refl refl lies each k y (rw n e)
   vector_child (table_kind t) p ds n lies each k y e =
       items_child (table_kind t) (table_part t) (p + 4) ds refl refl lies each k y (rw n e)
-  vector_child (scalar_kind base) p ds n lies each k y e = cc
   vector_child _ p ds n lies each k y e = cc
 
   part_child : (X : Target) (p : ℕ) (d : Datum) → Lies L b (part_place X) p d → AreListed (reached L b X p d)
@@ -146,15 +141,13 @@ module _ (L : LaidSchema) (b : Bytes) (all : List PartAt) where
   at_child (ref_place X) p d lies each k y e = ref_child X p d lies.1 each k y e
   at_child (part_place X) p d lies each k y e = part_child X p d lies each k y e
   at_child (inline_place kind) p d lies each k y e = cc
-  at_child (code_place u n required here) p d lies each k y e = absurd lies
-  at_child (unknown_place c) p d lies each k y e = absurd lies
+  at_child _ p d lies each k y e = absurd lies
 
   nothing_child : (s : Sort) (p : ℕ) → NamesNothing s → (k : ℕ) (y : Place)
       → slice_get (named L b s p) k ≡ Some (Some y) → Settled y
   unfolding NamesNothing
   nothing_child (code_place u n required here) p is k y e = cc
   nothing_child (unknown_place c) p is k y e = cc
-  nothing_child (ref_place X) p is k y e = absurd is
   nothing_child _ p is k y e = absurd is
 
   child : (x : Place) → Settled x → (k : ℕ) (y : Place) → Names L b x k y → Settled y

@@ -7,7 +7,7 @@ use Rattle.fb_value.specs.Datum.{Datum, a_text, a_vector, a_table, a_member, Par
 use Rattle.fb_value.specs.Datum.{no_entries, absent_entry, present_entry}
 use Rattle.fb_value.specs.Num.{Bytes, num}
 use Rattle.fb_value.specs.Places.{Target, table_part, member_part, text_part, vector_part, Sort, ref_place, part_place}
-use Rattle.fb_value.specs.Places.{inline_place, code_place, unknown_place, Place, vtable, named_slots, target_of}
+use Rattle.fb_value.specs.Places.{Place, vtable, named_slots, target_of}
 use Rattle.fb_value.specs.Rules.{Aligned}
 use Rattle.fb_value.specs.Lies.{BehindBy, EntryBy, PresentEntryBy, ElementBy, LiesBy, LiesItemsBy, LiesSlotsBy}
 use Rattle.fb_value.specs.Tails.{from_end}
@@ -41,18 +41,14 @@ module _ (L : LaidSchema) (al : Aligned) (b : Bytes) where
   unfolding Known AreInside
   behind_inside (ref_place X) p d known lies = known X (p + num b p 4) lies.1
   behind_inside (part_place X) p d known lies = known X p lies
-  behind_inside (inline_place kind) p d known lies = tt
-  behind_inside (code_place u j required here) p d known lies = tt
-  behind_inside (unknown_place e) p d known lies = tt
+  behind_inside _ p d known lies = tt
 
   entry_inside : (s : Sort) (p : ℕ) (d : Datum) → Known d → EntryBy al L b s p d (λ s q. LiesBy al L b s q d)
       → AreInside b (reached_behind b s p (λ X q. reached L b X q d))
   unfolding AreInside
   entry_inside (ref_place X) p d known lies = behind_inside (ref_place X) p d known lies
   entry_inside (part_place X) p d known lies = behind_inside (part_place X) p d known lies
-  entry_inside (inline_place kind) p d known lies = tt
-  entry_inside (code_place u j required here) p d known lies = tt
-  entry_inside (unknown_place e) p d known lies = tt
+  entry_inside _ p d known lies = tt
 
   named_inside : (f : Slot) (x : Option Place) (d : Datum) → Known d
       → PresentEntryBy al L b f x d (λ s q. LiesBy al L b s q d)
@@ -104,10 +100,9 @@ module _ (L : LaidSchema) (b c : Bytes) (k : ℕ) (bytes : (i : ℕ) → slice_i
 
   size_further : (X : Target) (p : ℕ) → IsInside b X p → part_size L c X (k + p) ≡ part_size L b X p
   unfolding IsInside
-  size_further (table_part t) p inside = table_size p inside
-  size_further (member_part e t) p inside = table_size p inside
   size_further text_part p inside = ap (λ n. (4 + n) + 1) (number_moved b c k bytes p 4)
   size_further (vector_part kind) p inside = ap (λ n. 4 + n * size_of L kind) (number_moved b c k bytes p 4)
+  size_further _ p inside = table_size p inside
 
   pieces_further : (xs : List PartAt) → AreInside b xs
       → map (part_piece L c) (map (part_further k) xs) ≡ map (piece_further k) (map (part_piece L b) xs)
@@ -120,10 +115,9 @@ module _ (L : LaidSchema) (b c : Bytes) (k : ℕ) (bytes : (i : ℕ) → slice_i
       → tables_vtables c (map (part_further k) (record { target = X; at = p } ∷ xs))
       ≡ map (λ q. k + q) (tables_vtables b (record { target = X; at = p } ∷ xs))
   unfolding IsInside
-  vtables_step (table_part t) p xs inside e = rw (vtable_moved b c k bytes p inside, e) refl
-  vtables_step (member_part d t) p xs inside e = rw (vtable_moved b c k bytes p inside, e) refl
   vtables_step text_part p xs inside e = e
   vtables_step (vector_part kind) p xs inside e = e
+  vtables_step _ p xs inside e = rw (vtable_moved b c k bytes p inside, e) refl
 
   vtables_further : (xs : List PartAt) → AreInside b xs
       → tables_vtables c (map (part_further k) xs) ≡ map (λ q. k + q) (tables_vtables b xs)

@@ -8,7 +8,7 @@ use Rattle.fb_value.specs.Datum.{Datum, a_text, a_vector, a_struct, a_table, a_m
 use Rattle.fb_value.specs.Datum.{SlotEntries, no_entries, absent_entry, present_entry}
 use Rattle.fb_value.specs.Num.{Bytes, num}
 use Rattle.fb_value.specs.Places.{Target, table_part, member_part, text_part, vector_part, Sort, ref_place, part_place}
-use Rattle.fb_value.specs.Places.{inline_place, code_place, unknown_place, Place, named_slots, target_of}
+use Rattle.fb_value.specs.Places.{inline_place, Place, named_slots, target_of}
 use Rattle.fb_value.specs.Rules.{Aligned}
 use Rattle.fb_value.specs.Lies.{BehindBy, EntryBy, PresentEntryBy, ElementBy, LiesBy, LiesItemsBy, LiesSlotsBy}
 use Rattle.fb_value.specs.Tails.{from_end}
@@ -59,16 +59,14 @@ module _ (L : LaidSchema) (al : Aligned) (b c : Bytes) (k : ℕ) (bytes : (i : �
       subst (λ (q : ℕ). EachInline L c (IsTightInline L c) X q d) at (known X (p + num b p 4) lies.1 h)
   behind_moved (inline_place kind) p d known lies h = inline_moved kind p d h
   behind_moved (part_place X) p d known lies h = known X p lies h
-  behind_moved (code_place u j required here) p d known lies h = tt
-  behind_moved (unknown_place e) p d known lies h = tt
+  behind_moved _ p d known lies h = tt
 
   entry_moved : (s : Sort) (p : ℕ) (d : Datum) → Known d → EntryBy al L b s p d (λ s q. LiesBy al L b s q d)
       → EachInlineAt L b (IsTightInline L b) s p d → EachInlineAt L c (IsTightInline L c) s (k + p) d
   entry_moved (ref_place X) p d known lies h = behind_moved (ref_place X) p d known lies h
   entry_moved (inline_place kind) p d known lies h = inline_moved kind p d h
   entry_moved (part_place X) p d known lies h = behind_moved (part_place X) p d known lies h
-  entry_moved (code_place u j required here) p d known lies h = tt
-  entry_moved (unknown_place e) p d known lies h = tt
+  entry_moved _ p d known lies h = tt
 
   named_moved : (f : Slot) (x : Option Place) (d : Datum) → Known d
       → PresentEntryBy al L b f x d (λ s q. LiesBy al L b s q d)

@@ -4,8 +4,8 @@ use Rattle.std.proofs.Common.{ap, sym, ◌∙◌, subst, arith, length-append}
 use Rattle.std.specs.Prelude.{pos}
 use Rattle.std.proofs.lemmas.List.{get_or-append-add}
 use Rattle.fb_schema.specs.Alignments.{base_size}
-use Rattle.fb_layout.specs.Laid.{LaidSchema, Slot, scalar_kind, struct_kind, table_kind, union_kind, code_kind}
-use Rattle.fb_layout.specs.Laid.{text_kind, StoredShape, one_of, vector_of, slots_of}
+use Rattle.fb_layout.specs.Laid.{LaidSchema, Slot, scalar_kind, code_kind}
+use Rattle.fb_layout.specs.Laid.{StoredShape, one_of, slots_of}
 use Rattle.fb_value.specs.Num.{Bytes, num, scalar_of}
 use Rattle.fb_value.specs.Places.{vtable, slot_number, code_at}
 use Rattle.fb_value.specs.EachTable.{EachTableAt}
@@ -27,11 +27,7 @@ module _ (L : LaidSchema) (b c : Bytes) (k : ℕ) (bytes : (i : ℕ) → slice_i
     shape_moved at (one_of (scalar_kind base)) =
         ap (scalar_of base) (number_from b c k bytes ((k + p) + at) (p + at) (base_size base) (omega arith))
     shape_moved at (one_of (code_kind u)) = ap pos (number_from b c k bytes ((k + p) + at) (p + at) 1 (omega arith))
-    shape_moved at (one_of (struct_kind s)) = refl
-    shape_moved at (one_of (table_kind t)) = refl
-    shape_moved at (one_of (union_kind u)) = refl
-    shape_moved at (one_of text_kind) = refl
-    shape_moved at (vector_of kind) = refl
+    shape_moved at _ = refl
 
     defaults_moved : (xs : List StoredSlot) → NoneIsDefault b p xs → NoneIsDefault c (k + p) xs
     defaults_moved [] h = tt
@@ -40,12 +36,7 @@ module _ (L : LaidSchema) (b c : Bytes) (k : ℕ) (bytes : (i : ℕ) → slice_i
     bit_moved : (at : ℕ) (shape : StoredShape) → HoldsBit b (p + at) shape → HoldsBit c ((k + p) + at) shape
     bit_moved at (one_of (scalar_kind base)) h =
         subst (IsBit base) (sym (number_from b c k bytes ((k + p) + at) (p + at) 1 (omega arith))) h
-    bit_moved at (one_of (code_kind u)) h = tt
-    bit_moved at (one_of (struct_kind s)) h = tt
-    bit_moved at (one_of (table_kind t)) h = tt
-    bit_moved at (one_of (union_kind u)) h = tt
-    bit_moved at (one_of text_kind) h = tt
-    bit_moved at (vector_of kind) h = tt
+    bit_moved at _ h = tt
 
     bits_moved : (xs : List StoredSlot) → AllHoldBits b p xs → AllHoldBits c (k + p) xs
     bits_moved [] h = tt

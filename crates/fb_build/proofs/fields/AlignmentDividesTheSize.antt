@@ -3,7 +3,7 @@ use Rattle.std.proofs.Common.{◌≡◌, ℕ, zero, suc, ◌<◌, ◌≤◌, tru
 use Rattle.std.proofs.Common.{slice_get, refl, arith}
 use Rattle.std.proofs.lemmas.Nat.{pow_pos}
 use Rattle.fb_schema.specs.declared.kinds.Kind.{Kind}
-use Rattle.fb_schema.specs.declared.kinds.Kind.TheVariants.{Scalar, Enum, Struct, Table, Union, Code, Text}
+use Rattle.fb_schema.specs.declared.kinds.Kind.TheVariants.{Scalar, Enum, Struct, Table, Text}
 use Rattle.fb_schema.specs.declared.kinds.Shape.{Shape}
 use Rattle.fb_schema.specs.declared.kinds.Shape.TheVariants.{One, Many}
 use Rattle.fb_schema.specs.Schema.{DeclaredField, DeclaredBody, table_body, struct_body, enum_body, union_body}
@@ -11,7 +11,7 @@ use Rattle.fb_schema.specs.Schema.{DeclaredType, body_in, body_at, slots_in, is_
 use Rattle.fb_schema.specs.Alignments.{base_size}
 use Rattle.fb_schema.specs.WellDeclared.{KindNames, MayBeElement, IsShape, IsBody}
 use Rattle.fb_layout.specs.Sizes.{IsAlignment}
-use Rattle.fb_layout.specs.Laid.{LaidSchema, Slot, StoredKind, scalar_kind, struct_kind, table_kind, union_kind}
+use Rattle.fb_layout.specs.Laid.{LaidSchema, Slot, StoredKind, scalar_kind, struct_kind, table_kind}
 use Rattle.fb_layout.specs.Laid.{code_kind, text_kind, StoredShape, one_of, vector_of, slot_of, kind_in, stored_shape}
 use Rattle.fb_layout.specs.Laid.{struct_at, align_of}
 use Rattle.fb_layout.specs.Widths.{inline_size, inline_align, greatest}
@@ -46,20 +46,14 @@ element_known L made (Scalar b) names may = tt
 element_known L made (Enum e) names may = tt
 element_known L made (Struct s) names may = struct_there L made s.0 names.1
 element_known L made (Table t) names may = tt
-element_known L made (Union u) names may = absurd may
-element_known L made (Code u) names may = absurd may
 element_known L made Text names may = tt
+element_known L made _ names may = absurd may
 
 shape_known : (L : LaidSchema) → IsWellMade L → (shape : Shape) → IsShape L.schema shape
     → IsSimple L (stored_shape L.schema shape)
-shape_known L made (One (Scalar b)) h = tt
-shape_known L made (One (Enum e)) h = tt
 shape_known L made (One (Struct s)) h = struct_there L made s.0 h.1
-shape_known L made (One (Table t)) h = tt
-shape_known L made (One (Union u)) h = tt
-shape_known L made (One (Code u)) h = tt
-shape_known L made (One Text) h = tt
 shape_known L made (Many kind) h = element_known L made kind h.0 h.1
+shape_known L made _ h = tt
 
 fields_known : (L : LaidSchema) → IsWellMade L → (fs : List DeclaredField)
     → ((k : ℕ) (f : DeclaredField) → slice_get fs k ≡ Some f → IsShape L.schema f.shape) → (k : ℕ) (f : Slot)
@@ -94,21 +88,14 @@ one_power = record { exponent = 0; few = omega arith; is = refl }
 pub simple_aligned : (L : LaidSchema) (shape : StoredShape) → IsSimple L shape → IsAlignment (inline_align L shape)
 simple_aligned L (one_of (scalar_kind b)) h = base_aligned b
 simple_aligned L (one_of (struct_kind s)) h = h.align
-simple_aligned L (one_of (table_kind t)) h = four_power
-simple_aligned L (one_of (union_kind u)) h = four_power
 simple_aligned L (one_of (code_kind u)) h = one_power
-simple_aligned L (one_of text_kind) h = four_power
-simple_aligned L (vector_of kind) h = four_power
+simple_aligned L _ h = four_power
 
 pub simple_multiple : (L : LaidSchema) (shape : StoredShape) → IsSimple L shape
     → divides (inline_align L shape) (inline_size L shape) ≡ true
 simple_multiple L (one_of (scalar_kind b)) h = self_divides (base_size b)
 simple_multiple L (one_of (struct_kind s)) h = h.multiple
-simple_multiple L (one_of (table_kind t)) h = refl
-simple_multiple L (one_of (union_kind u)) h = refl
-simple_multiple L (one_of (code_kind u)) h = refl
-simple_multiple L (one_of text_kind) h = refl
-simple_multiple L (vector_of kind) h = refl
+simple_multiple L _ h = refl
 
 pub aligned_some : (n : ℕ) → IsAlignment n → 0 < n
 aligned_some n is = rw is.is (pow_pos is.exponent)
@@ -116,11 +103,7 @@ aligned_some n is = rw is.is (pow_pos is.exponent)
 pub simple_some : (L : LaidSchema) (shape : StoredShape) → IsSimple L shape → 0 < inline_size L shape
 simple_some L (one_of (scalar_kind b)) h = aligned_some _ (base_aligned b)
 simple_some L (one_of (struct_kind s)) h = h.some
-simple_some L (one_of (table_kind t)) h = omega arith
-simple_some L (one_of (union_kind u)) h = omega arith
-simple_some L (one_of (code_kind u)) h = omega arith
-simple_some L (one_of text_kind) h = omega arith
-simple_some L (vector_of kind) h = omega arith
+simple_some L _ h = omega arith
 
 -- A slot isn't aligned above the greatest, where what it holds isn't.
 pub inline_low : (L : LaidSchema) (shape : StoredShape) → align_of L (kind_in shape) ≤ greatest L
@@ -133,5 +116,4 @@ element_simple L (scalar_kind b) h = tt
 element_simple L text_kind h = tt
 element_simple L (table_kind t) h = tt
 element_simple L (struct_kind t) h = h
-element_simple L (union_kind t) h = absurd h
-element_simple L (code_kind t) h = absurd h
+element_simple L _ h = absurd h

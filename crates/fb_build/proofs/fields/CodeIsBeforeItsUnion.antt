@@ -6,9 +6,9 @@ use Rattle.std.proofs.lemmas.Bool.{and_parts}
 use Rattle.std.proofs.lemmas.Int.{ints}
 use Rattle.fb_schema.specs.declared.kinds.Base.TheVariants.{U8}
 use Rattle.fb_schema.specs.declared.kinds.TypeId.{TypeId}
-use Rattle.fb_schema.specs.declared.kinds.Kind.TheVariants.{Scalar, Enum, Struct, Table, Union, Code, Text}
+use Rattle.fb_schema.specs.declared.kinds.Kind.TheVariants.{Union, Code}
 use Rattle.fb_schema.specs.declared.kinds.Shape.{Shape}
-use Rattle.fb_schema.specs.declared.kinds.Shape.TheVariants.{One, Many}
+use Rattle.fb_schema.specs.declared.kinds.Shape.TheVariants.{One}
 use Rattle.fb_schema.specs.Schema.{DeclaredField, DeclaredBody, table_body, struct_body, enum_body, union_body}
 use Rattle.fb_schema.specs.Schema.{DeclaredType, DeclaredSchema, body_in, body_at, slots_in}
 use Rattle.fb_schema.specs.Found.{member_coded}
@@ -17,7 +17,7 @@ use Rattle.fb_layout.specs.Laid.{LaidSchema, Slot, slot_of, slots_of, stored_sha
 use Rattle.fb_layout.specs.Laid.{scalar_kind, struct_kind, table_kind, union_kind, code_kind, text_kind, one_of}
 use Rattle.fb_layout.specs.Laid.{vector_of, member_by_code}
 use Rattle.fb_layout.specs.Widths.{greatest}
-use Rattle.fb_value.specs.Datum.{Datum, a_number, a_text, a_vector, a_struct, a_table, a_member, an_unknown}
+use Rattle.fb_value.specs.Datum.{Datum, a_member, an_unknown}
 use Rattle.fb_value.specs.Counts.{is_whole, entries_whole}
 use Rattle.fb_value.specs.Entries.{EntryFits}
 use Rattle.fb_value.specs.Fits.{Fits}
@@ -50,25 +50,13 @@ table_paired S declared t = by_type (slice_get S.types t) refl
 
 code_shape : (S : DeclaredSchema) (sh : Shape) (u : ℕ) → stored_shape S sh ≡ one_of (code_kind u)
     → (w : TypeId) × (sh ≡ One (Code w)) × (w.0 ≡ u)
-code_shape S (One (Scalar b)) u e = cc
-code_shape S (One (Enum b)) u e = cc
-code_shape S (One (Struct b)) u e = cc
-code_shape S (One (Table b)) u e = cc
-code_shape S (One (Union b)) u e = cc
 code_shape S (One (Code w)) u e = let same : w.0 ≡ u = cc in (w, refl, same)
-code_shape S (One Text) u e = cc
-code_shape S (Many k) u e = cc
+code_shape S _ u e = cc
 
 union_shape : (S : DeclaredSchema) (sh : Shape) (u : ℕ) → stored_shape S sh ≡ one_of (union_kind u)
     → (w : TypeId) × (sh ≡ One (Union w)) × (w.0 ≡ u)
-union_shape S (One (Scalar b)) u e = cc
-union_shape S (One (Enum b)) u e = cc
-union_shape S (One (Struct b)) u e = cc
-union_shape S (One (Table b)) u e = cc
-union_shape S (One (Code b)) u e = cc
 union_shape S (One (Union w)) u e = let same : w.0 ≡ u = cc in (w, refl, same)
-union_shape S (One Text) u e = cc
-union_shape S (Many k) u e = cc
+union_shape S _ u e = cc
 
 pub unmapped : {A B : Type 0} (h : A → B) (xs : List A) (k : ℕ) (y : B) → slice_get (map h xs) k ≡ Some y
     → (x : A) × (slice_get xs k ≡ Some x) × (h x ≡ y)
@@ -147,13 +135,8 @@ stored_long (f ∷ fs) (x ∷ xs) e = ap suc (stored_long fs xs (omega (arith, e
 
 value_stored : (L : LaidSchema) (u : ℕ) (d : Datum) → is_whole d ≡ true → Fits L (one_of (union_kind u)) d
     → SlotFits L (one_of (union_kind u)) d
-value_stored L u (a_number n) whole h = h
-value_stored L u (a_text b) whole h = h
-value_stored L u (a_vector ds) whole h = h
-value_stored L u (a_struct ds) whole h = h
-value_stored L u (a_table t es) whole h = h
-value_stored L u (a_member c d) whole h = h
 value_stored L u (an_unknown c) whole h = cc
+value_stored L u _ whole h = h
 
 module _ (L : LaidSchema) (declared : IsDeclared L.schema) (fs : List Slot) (xs : List (Option Datum))
     (long : length fs ≡ length xs) (paired : ArePaired fs)
@@ -161,13 +144,6 @@ module _ (L : LaidSchema) (declared : IsDeclared L.schema) (fs : List Slot) (xs 
     → EntryFits L f x) (whole : (k : ℕ) (x : Option Datum) → slice_get xs k ≡ Some x → EntryWhole x) where
   code_fits : (f g : Slot) (u : ℕ) (y : Option Datum) → f.shape ≡ one_of (code_kind u) → g.shape ≡ one_of (union_kind u)
       → f.deprecated ≡ g.deprecated → EntryFits L g y → StoredFits L f (coded (code_in y))
-  code_fits f g u None is value marks h = tt
-  code_fits f g u (Some (a_number n)) is value marks h = tt
-  code_fits f g u (Some (a_text b)) is value marks h = tt
-  code_fits f g u (Some (a_vector ds)) is value marks h = tt
-  code_fits f g u (Some (a_struct ds)) is value marks h = tt
-  code_fits f g u (Some (a_table t es)) is value marks h = tt
-  code_fits f g u (Some (an_unknown n)) is value marks h = tt
   code_fits f g u (Some (a_member n d)) is value marks h =
       let own = rw value at h.1 in
       let small = code_small L declared u n own.0 own.1 in
@@ -175,6 +151,7 @@ module _ (L : LaidSchema) (declared : IsDeclared L.schema) (fs : List Slot) (xs 
       let high : pos n ≤ℤ pos 255 = omega (arith, ints, small) in
       let range : InRange U8 (pos n) = (low, high) in
       (marks ∙ h.0, rw is (range, code_some L u n own.0 own.1))
+  code_fits f g u _ is value marks h = tt
 
   each_fits : (k : ℕ) (f : Slot) (y : Option Datum) → slice_get fs k ≡ Some f → slice_get (stored_in fs xs) k ≡ Some y
       → StoredFits L f y

@@ -6,7 +6,7 @@ use Rattle.std.proofs.Math.Nat.{add-mul-mod_self_left}
 use Rattle.std.proofs.lemmas.Bool.Decides.{Decides-int_eq}
 use Rattle.std.specs.Ordering.{int_eq}
 use Rattle.byteorder.specs.Endian.{little_bytes}
-use Rattle.fb_layout.specs.Laid.{LaidSchema, Slot, scalar_kind, struct_kind, table_kind, union_kind, code_kind}
+use Rattle.fb_layout.specs.Laid.{LaidSchema, Slot, table_kind, union_kind}
 use Rattle.fb_layout.specs.Laid.{text_kind, StoredShape, one_of, vector_of}
 use Rattle.fb_layout.specs.Widths.{inline_align}
 use Rattle.fb_value.specs.Wanted.{struct_wanted}
@@ -127,11 +127,6 @@ pub record IsReference (L : LaidSchema) (shape : StoredShape) (d : Datum) : Type
 -- a member is a table under its code
 pub member_known : (L : LaidSchema) (u : ℕ) (d : Datum) → SlotFits L (one_of (union_kind u)) d
     → (X : Target) × (member_target d ≡ Some X)
-member_known L u (a_number n) h = absurd h
-member_known L u (a_text bytes) h = absurd h
-member_known L u (a_vector ds) h = absurd h
-member_known L u (a_struct ds) h = absurd h
-member_known L u (a_table t es) h = absurd h
 member_known L u (a_member c (a_number n)) h = absurd h.2
 member_known L u (a_member c (a_text bytes)) h = absurd h.2
 member_known L u (a_member c (a_vector ds)) h = absurd h.2
@@ -139,22 +134,20 @@ member_known L u (a_member c (a_struct ds)) h = absurd h.2
 member_known L u (a_member c (a_table t es)) h = (Rattle.fb_value.specs.Places.member_part c t, refl)
 member_known L u (a_member c (a_member k d)) h = absurd h.2
 member_known L u (a_member c (an_unknown k)) h = absurd h.2
-member_known L u (an_unknown c) h = absurd h
+member_known L u _ h = absurd h
 
 pub reference_known : (L : LaidSchema) (shape : StoredShape) (d : Datum) → struct_wanted shape ≡ None
     → scalar_in shape ≡ None → SlotFits L shape d → IsReference L shape d
-reference_known L (one_of (scalar_kind b)) d h e fits = cc
-reference_known L (one_of (struct_kind s)) d h e fits = cc
 reference_known L (one_of (table_kind t)) d h e fits =
     record { target = Rattle.fb_value.specs.Places.table_part t; named = refl; sort = refl; align = refl }
 reference_known L (one_of (union_kind u)) d h e fits =
     let known = member_known L u d fits in
     record { target = known.0; named = known.1; sort = rw known.1 refl; align = refl }
-reference_known L (one_of (code_kind u)) d h e fits = cc
 reference_known L (one_of text_kind) d h e fits =
     record { target = Rattle.fb_value.specs.Places.text_part; named = refl; sort = refl; align = refl }
 reference_known L (vector_of kind) d h e fits =
     record { target = Rattle.fb_value.specs.Places.vector_part kind; named = refl; sort = refl; align = refl }
+reference_known L _ d h e fits = cc
 
 pub now_laid : (L : LaidSchema) (low : ℕ) (m : ℕ) (s : Bytes) (a : ℕ) (f : Slot) (x : Option Datum) (e : ℕ)
     → inline_align L f.shape ≡ a → is_stored f x ≡ true → StoredEnd L low m s true f x e

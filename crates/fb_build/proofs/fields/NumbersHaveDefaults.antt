@@ -2,15 +2,14 @@
 use Rattle.std.proofs.Common.{◌≡◌, ℕ, Bool, true, false, ◌||◌, slice_get, Option, None, Some, refl, ap, ◌∙◌, subst}
 use Rattle.std.specs.Prelude.{ℤ}
 use Rattle.fb_schema.specs.declared.kinds.Base.{Base}
-use Rattle.fb_schema.specs.declared.kinds.Kind.TheVariants.{Scalar, Enum, Struct, Table, Union, Code, Text}
+use Rattle.fb_schema.specs.declared.kinds.Kind.TheVariants.{Scalar, Enum}
 use Rattle.fb_schema.specs.declared.kinds.Shape.{Shape}
-use Rattle.fb_schema.specs.declared.kinds.Shape.TheVariants.{One, Many}
+use Rattle.fb_schema.specs.declared.kinds.Shape.TheVariants.{One}
 use Rattle.fb_schema.specs.Schema.{DeclaredField, DeclaredBody, table_body, struct_body, enum_body, union_body}
 use Rattle.fb_schema.specs.Schema.{DeclaredType, DeclaredSchema, body_in, body_at, slots_in}
 use Rattle.fb_schema.specs.WellDeclared.{MarksFit, IsBody, IsDeclared}
 use Rattle.fb_layout.specs.Laid.{LaidSchema, Slot, slot_of, slots_of, stored_shape, default_of, StoredShape}
-use Rattle.fb_layout.specs.Laid.{scalar_kind, struct_kind, table_kind, union_kind, code_kind, text_kind, one_of}
-use Rattle.fb_layout.specs.Laid.{vector_of}
+use Rattle.fb_layout.specs.Laid.{scalar_kind, one_of}
 use Rattle.fb_build.specs.Fields.{HasDefault}
 use Rattle.fb_build.proofs.fields.CodeIsBeforeItsUnion.{unmapped}
 
@@ -34,23 +33,13 @@ scalar_free : (S : DeclaredSchema) (f : DeclaredField) (base : Base) (sh : Shape
     → stored_shape S sh ≡ one_of (scalar_kind base) → f.required ≡ false
 scalar_free S f base (One (Scalar b)) h e = h.2
 scalar_free S f base (One (Enum b)) h e = h.2
-scalar_free S f base (One (Struct b)) h e = cc
-scalar_free S f base (One (Table b)) h e = cc
-scalar_free S f base (One (Union b)) h e = cc
-scalar_free S f base (One (Code b)) h e = cc
-scalar_free S f base (One Text) h e = cc
-scalar_free S f base (Many k) h e = cc
+scalar_free S f base _ h e = cc
 
 only_scalar : (b : Bool) (d n : ℤ) (shape : StoredShape) → default_of b d shape ≡ Some n
     → (base : Base) × (shape ≡ one_of (scalar_kind base))
 only_scalar true d n shape e = cc
 only_scalar false d n (one_of (scalar_kind base)) e = (base, refl)
-only_scalar false d n (one_of (struct_kind s)) e = cc
-only_scalar false d n (one_of (table_kind t)) e = cc
-only_scalar false d n (one_of (union_kind u)) e = cc
-only_scalar false d n (one_of (code_kind u)) e = cc
-only_scalar false d n (one_of text_kind) e = cc
-only_scalar false d n (vector_of kind) e = cc
+only_scalar false d n _ e = cc
 
 pub slots_default : (L : LaidSchema) → IsDeclared L.schema → (t k : ℕ) (f : Slot) (n : ℤ)
     → slice_get (slots_of L t) k ≡ Some f → f.if_absent ≡ Some n → HasDefault f

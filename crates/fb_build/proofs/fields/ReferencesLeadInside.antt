@@ -1,7 +1,7 @@
 -- What references name is inside of what is laid.
 use Rattle.std.proofs.Common.{◌≡◌, ℕ, ◌≤◌, true, length, Option, None}
 use Rattle.std.proofs.Common.{Some, refl, subst}
-use Rattle.fb_layout.specs.Laid.{LaidSchema, scalar_kind, struct_kind, table_kind, union_kind, code_kind}
+use Rattle.fb_layout.specs.Laid.{LaidSchema, table_kind, union_kind}
 use Rattle.fb_layout.specs.Laid.{text_kind, StoredShape, one_of, vector_of}
 use Rattle.fb_value.specs.Datum.{Datum}
 use Rattle.fb_value.specs.Num.{Bytes}
@@ -19,13 +19,11 @@ leads_any s (Some X) e target h = h
 -- What is stored as a reference names a part.
 pub reference_there : (L : LaidSchema) (shape : StoredShape) (d : Datum) → is_reference shape ≡ true
     → SlotFits L shape d → IsReference L shape d
-reference_there L (one_of (scalar_kind b)) d is fits = cc
-reference_there L (one_of (struct_kind s)) d is fits = cc
 reference_there L (one_of (table_kind t)) d is fits = reference_known L (one_of (table_kind t)) d refl refl fits
 reference_there L (one_of (union_kind u)) d is fits = reference_known L (one_of (union_kind u)) d refl refl fits
-reference_there L (one_of (code_kind u)) d is fits = cc
 reference_there L (one_of text_kind) d is fits = reference_known L (one_of text_kind) d refl refl fits
 reference_there L (vector_of kind) d is fits = reference_known L (vector_of kind) d refl refl fits
+reference_there L _ d is fits = cc
 
 -- and that part's end-count is within what is laid
 pub target_inside : (L : LaidSchema) (m : ℕ) (s : Bytes) (shape : StoredShape) (d : Datum) (e : ℕ)

@@ -3,7 +3,7 @@ use Rattle.std.proofs.Common.{◌≡◌, ◌≢◌, ℕ, suc, ◌-◌, ◌≤◌
 use Rattle.std.proofs.Common.{Some, pos, refl, ap, sym, ◌∙◌, subst, arith}
 use Rattle.std.proofs.lemmas.Bool.{false≢true}
 use Rattle.fb_layout.specs.Laid.{LaidSchema, Slot, union_kind, code_kind, one_of}
-use Rattle.fb_value.specs.Datum.{Datum, a_number, a_text, a_vector, a_struct, a_table, a_member, an_unknown}
+use Rattle.fb_value.specs.Datum.{Datum, a_member, an_unknown}
 use Rattle.fb_value.specs.Entries.{EntryFits}
 use Rattle.fb_value.specs.Fits.{MayBeAbsent}
 use Rattle.fb_value.specs.Num.{Bytes}
@@ -26,16 +26,12 @@ module _ (L : LaidSchema) (low m : ℕ) (s : Bytes) (c : ℕ) (within : c ≤ le
   unfolding q
   behind_code j f g u None e e2 shape value may fits h h2 there none =
       absurd (false≢true (rw (empty L low m s c within (suc j) g None e2 h2 refl) at there))
-  behind_code j f g u (Some (a_number n)) e e2 shape value may fits h h2 there none = absurd (rw value at fits.1)
-  behind_code j f g u (Some (a_text b)) e e2 shape value may fits h h2 there none = absurd (rw value at fits.1)
-  behind_code j f g u (Some (a_vector ds)) e e2 shape value may fits h h2 there none = absurd (rw value at fits.1)
-  behind_code j f g u (Some (a_struct ds)) e e2 shape value may fits h h2 there none = absurd (rw value at fits.1)
-  behind_code j f g u (Some (a_table t es)) e e2 shape value may fits h h2 there none = absurd (rw value at fits.1)
   behind_code j f g u (Some (an_unknown n)) e e2 shape value may fits h h2 there none = absurd (rw value at h2.fits.1)
   behind_code j f g u (Some (a_member n d)) e e2 shape value may fits h h2 there none =
       let code = code_there L low m s c within j f u n e shape may.1 h in
       let reads : code_at s q j ≡ n = rw code.present code.reads in
       (rw shape at h.fits.1).1 (ap pos (sym reads ∙ none))
+  behind_code j f g u _ e e2 shape value may fits h h2 there none = absurd (rw value at fits.1)
 
   module _ (fs : List Slot) (xs : List (Option Datum)) (ends : List ℕ) (long : length fs ≡ length xs)
       (paired : ArePaired fs) (fits : (k : ℕ) (f : Slot) (x : Option Datum) → slice_get fs k ≡ Some f

@@ -1,8 +1,8 @@
 -- The elements of a vector of numbers or structs are noted one after the other.
 use Rattle.std.proofs.Common.{◌≡◌, ◌+◌, ◌≤◌, ◌<◌, ◌++◌, ℕ, zero, suc, false, List, [], ◌∷◌, length, map, take, get_or}
 use Rattle.std.proofs.Common.{refl, sym, ap, subst, arith}
-use Rattle.fb_layout.specs.Laid.{LaidSchema, StoredKind, scalar_kind, struct_kind, table_kind, union_kind, code_kind}
-use Rattle.fb_layout.specs.Laid.{text_kind, one_of}
+use Rattle.fb_layout.specs.Laid.{LaidSchema, StoredKind, scalar_kind, struct_kind, union_kind, code_kind}
+use Rattle.fb_layout.specs.Laid.{one_of}
 use Rattle.fb_value.specs.Fits.{Fits, EachFits}
 use Rattle.fb_value.specs.View.{view, parts_view}
 use Rattle.fb_value.specs.declared.values.Value.{Value}
@@ -13,10 +13,9 @@ pub element_inline : (L : LaidSchema) (kind : StoredKind) → IsElement L kind �
     → IsInline L kind
 element_inline L (scalar_kind b) h is = tt
 element_inline L (struct_kind s) h is = h.is
-element_inline L text_kind h is = cc
-element_inline L (table_kind t) h is = cc
 element_inline L (union_kind u) h is = absurd h
 element_inline L (code_kind u) h is = absurd h
+element_inline L _ h is = cc
 
 pub each_fits : (L : LaidSchema) (kind : StoredKind) (items : List Value) → EachFits L kind (parts_view items) → (i : ℕ)
     → i < length items → (v : Value) → v ≡ get_or items i v → Fits L (one_of kind) (view v)

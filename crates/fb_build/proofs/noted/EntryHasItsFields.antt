@@ -3,9 +3,9 @@ use Rattle.std.specs.Prelude.{ℤ}
 use Rattle.std.proofs.Common.{◌≡◌, ◌-◌, ◌++◌, ◌∙◌, ℕ, true, false, List, [], ◌∷◌, None, Some, pos, refl, ap}
 use Rattle.std.proofs.lemmas.List.{append_assoc}
 use Rattle.fb_schema.specs.declared.kinds.Base.TheVariants.{U8}
-use Rattle.fb_schema.specs.declared.kinds.Kind.TheVariants.{Scalar, Enum, Struct, Table, Union, Code, Text}
+use Rattle.fb_schema.specs.declared.kinds.Kind.TheVariants.{Code}
 use Rattle.fb_schema.specs.declared.kinds.Shape.{Shape}
-use Rattle.fb_schema.specs.declared.kinds.Shape.TheVariants.{One, Many}
+use Rattle.fb_schema.specs.declared.kinds.Shape.TheVariants.{One}
 use Rattle.fb_layout.specs.Laid.{LaidSchema, Slot, StoredKind, StoredShape, stored_shape, one_of, vector_of}
 use Rattle.fb_layout.specs.Laid.{scalar_kind, struct_kind, table_kind, union_kind, code_kind, text_kind}
 use Rattle.fb_layout.specs.Widths.{inline_align}
@@ -19,25 +19,14 @@ use Rattle.fb_build.proofs.tables.CodeSlotHasNoEntry.{no_code_entry}
 -- a slot with an entry is no union's code
 pub no_code : (L : LaidSchema) (shape : Shape) (d : Datum) → Fits L (stored_shape L.schema shape) d
     → is_coded shape ≡ false
-no_code L (One (Scalar b)) d fits = refl
-no_code L (One (Enum e)) d fits = refl
-no_code L (One (Struct s)) d fits = refl
-no_code L (One (Table t)) d fits = refl
-no_code L (One (Union u)) d fits = refl
 no_code L (One (Code u)) d fits = absurd (no_code_entry L u.0 d fits)
-no_code L (One Text) d fits = refl
-no_code L (Many kind) d fits = refl
+no_code L _ d fits = refl
 
 -- the default isn't stored
 pub no_fields : (L : LaidSchema) (k : ℕ) (f : Slot) (d : Datum) → is_stored f (Some d) ≡ false
     → AreFieldsOf L k f (Some d) []
 no_fields L k f (a_number n) none = rw none refl
-no_fields L k f (a_text b) none = cc
-no_fields L k f (a_vector ds) none = cc
-no_fields L k f (a_struct ds) none = cc
-no_fields L k f (a_table t es) none = cc
-no_fields L k f (a_member c d) none = cc
-no_fields L k f (an_unknown c) none = cc
+no_fields L k f _ none = cc
 
 -- a field in its place
 inline_field : (L : LaidSchema) (k : ℕ) (f : Slot) (kind : StoredKind) (d : Datum) (x : OpenField)
@@ -57,22 +46,16 @@ inline_field L k f kind d x shape inline own stored h = rw stored (record {
 })
 
 own_kind : (L : LaidSchema) (kind : StoredKind) (d : Datum) → Fits L (one_of kind) d → inline_kind (one_of kind) ≡ kind
-own_kind L (scalar_kind b) d fits = refl
-own_kind L (struct_kind s) d fits = refl
-own_kind L (table_kind t) d fits = refl
-own_kind L (union_kind u) d fits = refl
 own_kind L (code_kind u) d fits = absurd (no_code_entry L u d fits)
-own_kind L text_kind d fits = refl
+own_kind L _ d fits = refl
 
 member_refers : (L : LaidSchema) (shape : StoredShape) (c : ℕ) (d : Datum) → Fits L shape (a_member c d)
     → is_reference shape ≡ true
-member_refers L (one_of (scalar_kind b)) c d fits = absurd fits
-member_refers L (one_of (struct_kind s)) c d fits = absurd fits
 member_refers L (one_of (table_kind t)) c d fits = refl
 member_refers L (one_of (union_kind u)) c d fits = refl
-member_refers L (one_of (code_kind u)) c d fits = absurd fits
 member_refers L (one_of text_kind) c d fits = refl
 member_refers L (vector_of kind) c d fits = refl
+member_refers L _ c d fits = absurd fits
 
 pub inline_fields : (L : LaidSchema) (k : ℕ) (f : Slot) (kind : StoredKind) (d : Datum) (x : OpenField)
     → f.shape ≡ one_of kind → is_reference f.shape ≡ false → Fits L f.shape d → is_stored f (Some d) ≡ true
@@ -100,13 +83,11 @@ inline_fields L k f kind (an_unknown c) x shape inline fits stored h =
 
 -- a field that is a reference
 four : (L : LaidSchema) (shape : StoredShape) → is_reference shape ≡ true → 4 ≡ inline_align L shape
-four L (one_of (scalar_kind b)) refers = cc
-four L (one_of (struct_kind s)) refers = cc
 four L (one_of (table_kind t)) refers = refl
 four L (one_of (union_kind u)) refers = refl
-four L (one_of (code_kind u)) refers = cc
 four L (one_of text_kind) refers = refl
 four L (vector_of kind) refers = refl
+four L _ refers = cc
 
 reference_open : (L : LaidSchema) (k : ℕ) (f : Slot) (d : Datum) → is_reference f.shape ≡ true
     → is_stored f (Some d) ≡ true
@@ -127,11 +108,8 @@ no_number : (L : LaidSchema) (shape : StoredShape) (n : ℤ) → Fits L shape (a
     → is_reference shape ≡ false
 no_number L (one_of (scalar_kind b)) n fits = refl
 no_number L (one_of (struct_kind s)) n fits = refl
-no_number L (one_of (table_kind t)) n fits = absurd fits
-no_number L (one_of (union_kind u)) n fits = absurd fits
 no_number L (one_of (code_kind u)) n fits = refl
-no_number L (one_of text_kind) n fits = absurd fits
-no_number L (vector_of kind) n fits = absurd fits
+no_number L _ n fits = absurd fits
 
 pub reference_fields : (L : LaidSchema) (k : ℕ) (f : Slot) (d : Datum) → is_reference f.shape ≡ true → Fits L f.shape d
     → code_in (Some d) ≡ None → AreFieldsOf L k f (Some d) (reference_field k ∷ [])
@@ -145,13 +123,8 @@ reference_fields L k f (an_unknown c) refers fits other = reference_open L k f (
 
 -- a datum with a union's code is a member
 pub member_of : (d : Datum) (c : ℕ) → code_in (Some d) ≡ Some c → (e : Datum) × (d ≡ a_member c e)
-member_of (a_number n) c is = cc
-member_of (a_text b) c is = cc
-member_of (a_vector ds) c is = cc
-member_of (a_struct ds) c is = cc
-member_of (a_table t es) c is = cc
 member_of (a_member b d) c is = let same : b ≡ c = cc in (d, ap (λ n. a_member n d) same)
-member_of (an_unknown b) c is = cc
+member_of _ c is = cc
 
 -- a union's value with its code
 pub member_fields : (L : LaidSchema) (k : ℕ) (f : Slot) (c : ℕ) (d : Datum) (before coded after : List OpenField)

@@ -6,7 +6,7 @@ use Rattle.std.proofs.lemmas.Bool.{and_parts}
 use Rattle.std.proofs.lemmas.List.Elements.{filter_map-append}
 use Rattle.std.specs.List.{cons_option}
 use Rattle.fb_layout.specs.Laid.{LaidSchema, StoredKind, scalar_kind, struct_kind, table_kind, union_kind, code_kind}
-use Rattle.fb_layout.specs.Laid.{text_kind, StoredShape, one_of, vector_of}
+use Rattle.fb_layout.specs.Laid.{text_kind, StoredShape, one_of}
 use Rattle.fb_value.specs.Counts.{is_whole, parts_whole}
 use Rattle.fb_value.specs.Datum.{Datum, Parts, SlotEntries, a_table}
 use Rattle.fb_value.specs.Fits.{Fits, EachFits}
@@ -25,28 +25,21 @@ pub nothing_apart : (L : LaidSchema) (kind : StoredKind) (ds : Parts) → IsElem
     → is_reference (one_of kind) ≡ false → EachFits L kind ds → parts_room L kind ds ≡ 0
 nothing_apart L (scalar_kind b) ds element inline fits = all_inline L (scalar_kind b) ds (number_inline L b) fits
 nothing_apart L (struct_kind s) ds element inline fits = all_inline L (struct_kind s) ds (struct_inline L s) fits
-nothing_apart L text_kind ds element inline fits = cc
-nothing_apart L (table_kind t) ds element inline fits = cc
 nothing_apart L (union_kind u) ds element inline fits = absurd element
 nothing_apart L (code_kind u) ds element inline fits = absurd element
+nothing_apart L _ ds element inline fits = cc
 
 pub table_named : (L : LaidSchema) (shape : StoredShape) (t : ℕ) (es : SlotEntries) → Fits L shape (a_table t es)
     → as_list (apart_of shape (a_table t es)) ≡ record { target = table_part t; value = a_table t es } ∷ []
 table_named L (one_of (table_kind u)) t es fits = rw fits.0 refl
-table_named L (vector_of kind) t es fits = absurd fits
-table_named L (one_of (scalar_kind u)) t es fits = absurd fits
-table_named L (one_of (struct_kind u)) t es fits = absurd fits
-table_named L (one_of (union_kind u)) t es fits = absurd fits
-table_named L (one_of (code_kind u)) t es fits = absurd fits
-table_named L (one_of text_kind) t es fits = absurd fits
+table_named L _ t es fits = absurd fits
 
 pub element_simple : (L : LaidSchema) (kind : StoredKind) → IsElement L kind → IsSimple L (one_of kind)
 element_simple L (scalar_kind b) h = tt
 element_simple L (struct_kind s) h = h
 element_simple L text_kind h = tt
 element_simple L (table_kind t) h = tt
-element_simple L (union_kind u) h = absurd h
-element_simple L (code_kind u) h = absurd h
+element_simple L _ h = absurd h
 
 pub each_whole : (items : List Value) → parts_whole (parts_view items) ≡ true → (i : ℕ) → i < length items → (v : Value)
     → v ≡ get_or items i v → is_whole (view v) ≡ true
@@ -70,9 +63,8 @@ slot_fits : (L : LaidSchema) (kind : StoredKind) (d : Datum) → IsElement L kin
 slot_fits L (scalar_kind b) d element fits = fits
 slot_fits L (struct_kind s) d element fits = fits
 slot_fits L (table_kind t) d element fits = fits
-slot_fits L (union_kind u) d element fits = absurd element
-slot_fits L (code_kind u) d element fits = absurd element
 slot_fits L text_kind d element fits = fits
+slot_fits L _ d element fits = absurd element
 
 pub elements_known : (L : LaidSchema) (kind : StoredKind) (ds : List Datum) → IsElement L kind
     → EachElementFits L kind ds → ItemsKnown L kind ds

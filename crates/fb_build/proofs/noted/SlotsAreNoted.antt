@@ -190,13 +190,8 @@ last_of (x ∷ x2 ∷ xs) (suc j) is =
 
 stored_same : (L : LaidSchema) (shape : StoredShape) (d : Datum) → Fits L shape d
     → stored_here shape None (Some d) ≡ Some d
-stored_same L (one_of (scalar_kind b)) d fits = refl
-stored_same L (one_of (struct_kind t)) d fits = refl
-stored_same L (one_of (table_kind t)) d fits = refl
-stored_same L (one_of (union_kind u)) d fits = refl
 stored_same L (one_of (code_kind u)) d fits = absurd (no_code_entry L u d fits)
-stored_same L (one_of text_kind) d fits = refl
-stored_same L (vector_of kind) d fits = refl
+stored_same L _ d fits = refl
 
 absent_same : (shape : StoredShape) → stored_here shape None None ≡ None
 absent_same (one_of (scalar_kind b)) = refl
@@ -210,12 +205,7 @@ absent_same (vector_of kind) = refl
 union_of : (L : LaidSchema) (shape : StoredShape) (c : ℕ) (d : Datum) → Fits L shape (a_member c d)
     → (u : ℕ) × (shape ≡ one_of (union_kind u))
 union_of L (one_of (union_kind u)) c d fits = (u, refl)
-union_of L (one_of (scalar_kind b)) c d fits = absurd fits
-union_of L (one_of (struct_kind t)) c d fits = absurd fits
-union_of L (one_of (table_kind t)) c d fits = absurd fits
-union_of L (one_of (code_kind u)) c d fits = absurd fits
-union_of L (one_of text_kind) c d fits = absurd fits
-union_of L (vector_of kind) c d fits = absurd fits
+union_of L _ c d fits = absurd fits
 
 -- a code is stored, whichever it is
 code_kept : (L : LaidSchema) (g : Slot) (u c : ℕ) (y : Option Datum) → g.shape ≡ one_of (code_kind u)

@@ -8,7 +8,7 @@ use Rattle.fb_layout.specs.Laid.{text_kind, StoredShape, one_of, vector_of, memb
 use Rattle.fb_value.specs.Datum.{Datum, a_number, a_text, a_vector, a_struct, a_table, a_member, an_unknown}
 use Rattle.fb_value.specs.Fits.{Fits}
 use Rattle.fb_value.specs.Num.{Bytes, num}
-use Rattle.fb_value.specs.Places.{Sort, ref_place, part_place, inline_place, code_place, unknown_place, Place}
+use Rattle.fb_value.specs.Places.{Sort, ref_place, part_place, inline_place, code_place, Place}
 use Rattle.fb_value.specs.Rules.{Aligned, KeepsBy, fault_by, is_union}
 use Rattle.fb_value.specs.Lies.{BehindBy, EntryBy, AbsentEntryBy, PresentEntryBy, LiesBy}
 use Rattle.fb_value.specs.EachTable.{EachTable, EachNamed, IsOldTable}
@@ -23,8 +23,7 @@ pub entry_from : (al : Aligned) (L : LaidSchema) (b : Bytes) (sort : Sort) (p : 
 entry_from al L b (ref_place X) p d lies h = h
 entry_from al L b (part_place X) p d lies h = h
 entry_from al L b (inline_place kind) p d lies h = h
-entry_from al L b (code_place u k required here) p d lies h = absurd h
-entry_from al L b (unknown_place c) p d lies h = absurd h
+entry_from al L b _ p d lies h = absurd h
 
 -- what a slot has, whose tables have nothing in slots that aren't in use, and they, its structs and its numbers have
 -- no slack
@@ -79,10 +78,9 @@ unfolding IsOwn
 no_union (one_of (scalar_kind b)) h = refl
 no_union (one_of (struct_kind t)) h = refl
 no_union (one_of (table_kind t)) h = refl
-no_union (one_of (union_kind u)) h = absurd h
-no_union (one_of (code_kind u)) h = absurd h
 no_union (one_of text_kind) h = refl
 no_union (vector_of kind) h = refl
+no_union _ h = absurd h
 
 pub or_true : (r : Bool) → (r || true) ≡ true
 or_true true = refl

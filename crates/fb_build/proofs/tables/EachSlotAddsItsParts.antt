@@ -3,8 +3,7 @@ use Rattle.std.proofs.Common.{◌≡◌, ℕ, true, []}
 use Rattle.std.proofs.Common.{Option, None, Some, refl}
 use Rattle.fb_layout.specs.Laid.{LaidSchema, Slot, StoredShape, scalar_kind, struct_kind, table_kind}
 use Rattle.fb_layout.specs.Laid.{union_kind, code_kind, text_kind, one_of, vector_of}
-use Rattle.fb_value.specs.Datum.{Datum, a_number, a_text, a_vector, a_struct, a_table, a_member}
-use Rattle.fb_value.specs.Datum.{an_unknown}
+use Rattle.fb_value.specs.Datum.{Datum, a_number}
 use Rattle.fb_value.specs.Num.{Bytes}
 use Rattle.fb_value.specs.Places.{Target}
 use Rattle.fb_build.specs.Fields.{SlotFits, is_stored, stored_here, coded, target_for}
@@ -16,23 +15,15 @@ use Rattle.fb_build.specs.Made.{parts_at}
 -- A number names nothing, where it fits.
 number_names_nothing : (L : LaidSchema) (shape : StoredShape) (n : _) → SlotFits L shape (a_number n) → (X : Target)
     → target_for shape (a_number n) ≡ Some X → ⊥
-number_names_nothing L (one_of (scalar_kind b)) n fits X is = cc
-number_names_nothing L (one_of (struct_kind b)) n fits X is = cc
 number_names_nothing L (one_of (table_kind b)) n fits X is = fits
-number_names_nothing L (one_of (union_kind b)) n fits X is = cc
-number_names_nothing L (one_of (code_kind b)) n fits X is = cc
 number_names_nothing L (one_of text_kind) n fits X is = fits
 number_names_nothing L (vector_of b) n fits X is = fits
+number_names_nothing L _ n fits X is = cc
 
 pub target_is_stored : (L : LaidSchema) (f : Slot) (d : Datum) (X : Target) → SlotFits L f.shape d
     → target_for f.shape d ≡ Some X → is_stored f (Some d) ≡ true
 target_is_stored L f (a_number n) X fits is = absurd (number_names_nothing L f.shape n fits X is)
-target_is_stored L f (a_text b) X fits is = refl
-target_is_stored L f (a_vector b) X fits is = refl
-target_is_stored L f (a_struct b) X fits is = refl
-target_is_stored L f (a_table t b) X fits is = refl
-target_is_stored L f (a_member t b) X fits is = refl
-target_is_stored L f (an_unknown b) X fits is = refl
+target_is_stored L f _ X fits is = refl
 
 -- ---- what a value names as a slot, and by itself
 

@@ -3,7 +3,7 @@ use Rattle.std.proofs.Common.{◌≡◌, ℕ, zero, suc, ◌+◌, ◌-◌, ◌*�
 use Rattle.std.proofs.Common.{slice_get, slice_index, Option, None, Some, true, refl, ap, sym}
 use Rattle.std.proofs.Common.{arith, length-append}
 use Rattle.std.proofs.lemmas.List.{map-append}
-use Rattle.fb_layout.specs.Laid.{LaidSchema, StoredKind, scalar_kind, struct_kind, table_kind, union_kind, code_kind}
+use Rattle.fb_layout.specs.Laid.{LaidSchema, StoredKind, scalar_kind, struct_kind, table_kind}
 use Rattle.fb_layout.specs.Laid.{text_kind, one_of, size_of}
 use Rattle.fb_value.specs.Datum.{Datum}
 use Rattle.fb_value.specs.Num.{Bytes}
@@ -70,8 +70,7 @@ element_reached L s text_kind d q t el under leads =
 element_reached L s (table_kind u) d q t el under leads =
     let back : length s - (length s - q) ≡ q = omega (arith, under) in let way = rw back at leads.way in
     ap (λ p. reached L s (table_part u) p d) way
-element_reached L s (union_kind u) d q t el under leads = absurd el
-element_reached L s (code_kind u) d q t el under leads = absurd el
+element_reached L s _ d q t el under leads = absurd el
 
 -- the references of elements that begin at a position
 abbrev pub LeadAt : LaidSchema → Bytes → ℕ → StoredKind → List Datum → List ℕ → Type 0
@@ -109,5 +108,4 @@ none_reached L s text_kind p [] el none = refl
 none_reached L s text_kind p (d ∷ ds) el none = absurd (omega (arith, none refl))
 none_reached L s (table_kind u) p [] el none = refl
 none_reached L s (table_kind u) p (d ∷ ds) el none = absurd (omega (arith, none refl))
-none_reached L s (union_kind u) p ds el none = absurd el
-none_reached L s (code_kind u) p ds el none = absurd el
+none_reached L s _ p ds el none = absurd el

@@ -5,7 +5,7 @@ use Rattle.std.proofs.Common.{sym, ◌∙◌, subst, arith}
 use Rattle.fb_schema.specs.declared.types.FieldInfo.{FieldInfo}
 use Rattle.fb_schema.specs.Seen.{field_seen}
 use Rattle.fb_layout.specs.Laid.{LaidSchema, Slot, slot_of, slots_of, scalar_kind, struct_kind, table_kind}
-use Rattle.fb_layout.specs.Laid.{union_kind, code_kind, text_kind, one_of}
+use Rattle.fb_layout.specs.Laid.{text_kind, one_of}
 use Rattle.fb_value.specs.Datum.{Datum}
 use Rattle.fb_value.specs.Entries.{EntryFits, entry_room}
 use Rattle.fb_value.specs.Fits.{Fits, EntriesFit, EachFits}
@@ -124,8 +124,7 @@ slot_fits L (scalar_kind b) d el h = h
 slot_fits L text_kind d el h = h
 slot_fits L (table_kind t) d el h = h
 slot_fits L (struct_kind t) d el h = h
-slot_fits L (union_kind t) d el h = absurd el
-slot_fits L (code_kind t) d el h = absurd el
+slot_fits L _ d el h = absurd el
 
 pub items_known : (L : LaidSchema) (kind : StoredKind) (items : List Value) → IsElement L kind
     → EachFits L kind (parts_view items) → ItemsKnown L kind (map view items)

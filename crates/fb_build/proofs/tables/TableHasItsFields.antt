@@ -38,10 +38,9 @@ module _ (L : LaidSchema) (low m : ℕ) (s : Bytes) (c : ℕ) (within : c ≤ le
   nothing_there k fs (one_of (scalar_kind b)) h e = rw e refl
   nothing_there k fs (one_of (struct_kind t)) h e = rw e refl
   nothing_there k fs (one_of (table_kind t)) h e = rw e refl
-  nothing_there k fs (one_of (union_kind u)) h e = absurd h
-  nothing_there k fs (one_of (code_kind u)) h e = absurd h
   nothing_there k fs (one_of text_kind) h e = rw e refl
   nothing_there k fs (vector_of kind) h e = rw e refl
+  nothing_there k fs _ h e = absurd h
 
   pub something_there : (k : ℕ) (fs : List Slot) (shape : StoredShape) (d : Datum) → IsOwn shape
       → is_present s p k ≡ true → named_slot L s p k fs shape
@@ -50,10 +49,9 @@ module _ (L : LaidSchema) (low m : ℕ) (s : Bytes) (c : ℕ) (within : c ≤ le
   something_there k fs (one_of (scalar_kind b)) d h e = rw e refl
   something_there k fs (one_of (struct_kind t)) d h e = rw e refl
   something_there k fs (one_of (table_kind t)) d h e = rw e refl
-  something_there k fs (one_of (union_kind u)) d h e = absurd h
-  something_there k fs (one_of (code_kind u)) d h e = absurd h
   something_there k fs (one_of text_kind) d h e = rw e refl
   something_there k fs (vector_of kind) d h e = rw e refl
+  something_there k fs _ d h e = absurd h
 
   -- slot k of the table, what it stores and its end-count
   pub record SlotKnown (k : ℕ) (f : Slot) (x : Option Datum) (e : ℕ) : Type 0 where
@@ -175,13 +173,6 @@ module _ (L : LaidSchema) (low m : ℕ) (s : Bytes) (c : ℕ) (within : c ≤ le
 
       by_entry : (x : Option Datum) → EntryFits L g x → SlotKnown j f (coded (code_in x)) e → SlotKnown (suc j) g x e2
           → AbsentEntryBy (from_end s m) L s f (place_of j f fs)
-      by_entry None fits h h2 = nothing h
-      by_entry (Some (a_number n)) fits h h2 = nothing h
-      by_entry (Some (a_text b)) fits h h2 = nothing h
-      by_entry (Some (a_vector ds)) fits h h2 = nothing h
-      by_entry (Some (a_struct ds)) fits h h2 = nothing h
-      by_entry (Some (a_table t es)) fits h h2 = nothing h
-      by_entry (Some (an_unknown n)) fits h h2 = nothing h
       by_entry (Some (a_member n d)) fits h h2 =
           let code = code_there j f u n e shape may.1 h in
           let now = there (suc j) g (a_member n d) e2 h2 refl in
@@ -195,6 +186,7 @@ module _ (L : LaidSchema) (low m : ℕ) (s : Bytes) (c : ℕ) (within : c ≤ le
           let place : place_of j f fs ≡ Some spot = rw h.fits.0 named in
           rw place (code_keeps L m s u (suc j) (next_required fs) (is_present s p (suc j)) (p + slot_number s p j)
           code.inside (omega (arith, code.reads, some)) now.present)
+      by_entry _ fits h h2 = nothing h
 
   -- a union's value slot, with the code slot before it
   value_lies : (j : ℕ) (f g : Slot) (fs : List Slot) (u : ℕ) (x : Option Datum) (e e2 : ℕ)
@@ -207,11 +199,6 @@ module _ (L : LaidSchema) (low m : ℕ) (s : Bytes) (c : ℕ) (within : c ≤ le
       let back : suc j - 1 ≡ j = omega arith in
       let named : named_slot L s p (suc j) fs g.shape ≡ None = rw (value, back, number) refl in
       rw (no_place g.deprecated _ named) fits.1
-  value_lies j f g fs u (Some (a_number n)) e e2 shape value may fits h h2 = absurd (rw value at fits.1)
-  value_lies j f g fs u (Some (a_text b)) e e2 shape value may fits h h2 = absurd (rw value at fits.1)
-  value_lies j f g fs u (Some (a_vector ds)) e e2 shape value may fits h h2 = absurd (rw value at fits.1)
-  value_lies j f g fs u (Some (a_struct ds)) e e2 shape value may fits h h2 = absurd (rw value at fits.1)
-  value_lies j f g fs u (Some (a_table t es)) e e2 shape value may fits h h2 = absurd (rw value at fits.1)
   value_lies j f g fs u (Some (an_unknown n)) e e2 shape value may fits h h2 = absurd (rw value at h2.fits.1)
   value_lies j f g fs u (Some (a_member n (a_number k))) e e2 shape value may fits h h2 = absurd (rw value at fits.1).2
   value_lies j f g fs u (Some (a_member n (a_text b))) e e2 shape value may fits h h2 = absurd (rw value at fits.1).2
@@ -242,22 +229,19 @@ module _ (L : LaidSchema) (low m : ℕ) (s : Bytes) (c : ℕ) (within : c ≤ le
       let tight : EachTableAt L s (λ t r. IsTightInTail L s t r) (ref_place (member_part n t))
       (p + slot_number s p (suc j)) (a_member n (a_table t es)) = rw value at now.tight in
       rw place (lies, old, tight, inline)
+  value_lies j f g fs u _ e e2 shape value may fits h h2 = absurd (rw value at fits.1)
 
   value_kept : (j : ℕ) (f g : Slot) (u : ℕ) (x : Option Datum) (e e2 : ℕ) → f.shape ≡ one_of (code_kind u)
       → g.shape ≡ one_of (union_kind u) → MayBeAbsent f → EntryFits L g x
       → SlotKnown j f (coded (code_in x)) e → SlotKnown (suc j) g x e2 → is_missing s p (suc j) g ≡ false
   value_kept j f g u None e e2 shape value may fits h h2 = rw fits.0 refl
-  value_kept j f g u (Some (a_number n)) e e2 shape value may fits h h2 = absurd (rw value at fits.1)
-  value_kept j f g u (Some (a_text b)) e e2 shape value may fits h h2 = absurd (rw value at fits.1)
-  value_kept j f g u (Some (a_vector ds)) e e2 shape value may fits h h2 = absurd (rw value at fits.1)
-  value_kept j f g u (Some (a_struct ds)) e e2 shape value may fits h h2 = absurd (rw value at fits.1)
-  value_kept j f g u (Some (a_table t es)) e e2 shape value may fits h h2 = absurd (rw value at fits.1)
   value_kept j f g u (Some (an_unknown n)) e e2 shape value may fits h h2 = absurd (rw value at h2.fits.1)
   value_kept j f g u (Some (a_member n d)) e e2 shape value may fits h h2 =
       let code = code_there j f u n e shape may.1 h in
       let now = there (suc j) g (a_member n d) e2 h2 refl in
       let back : suc j - 1 ≡ j = omega arith in
       rw (now.present, back, code.present, value) (not_required g.required)
+  value_kept j f g u _ e e2 shape value may fits h h2 = absurd (rw value at fits.1)
 
   -- ---- all slots
 

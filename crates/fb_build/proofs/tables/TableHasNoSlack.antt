@@ -14,7 +14,7 @@ use Rattle.fb_layout.specs.Laid.{LaidSchema, Slot, scalar_kind, struct_kind, tab
 use Rattle.fb_layout.specs.Laid.{text_kind, StoredShape, one_of, vector_of, slots_of}
 use Rattle.fb_layout.specs.Sizes.{ceil4}
 use Rattle.fb_layout.specs.Widths.{inline_size}
-use Rattle.fb_value.specs.Datum.{Datum, a_number, a_text, a_vector, a_struct, a_table, a_member, an_unknown}
+use Rattle.fb_value.specs.Datum.{Datum, a_number}
 use Rattle.fb_value.specs.Lies.{LiesInline, LiesAtBy}
 use Rattle.fb_value.specs.Num.{Bytes, num, scalar_of}
 use Rattle.fb_value.specs.Places.{table_part, vtable, slot_number, is_present}
@@ -91,22 +91,12 @@ scalar_kept : (L : LaidSchema) (s : Bytes) (f : Slot) (base : Base) (d : Datum) 
     → is_stored f (Some d) ≡ true → LiesInline L s (scalar_kind base) q d → f.if_absent ≡ Some n
     → scalar_of base (num s q (base_size base)) ≢ n
 scalar_kept L s f base (a_number v) q n free is lies absent same = no_default f v n free absent is (lies ∙ same)
-scalar_kept L s f base (a_text b) q n free is lies absent same = absurd lies
-scalar_kept L s f base (a_vector ds) q n free is lies absent same = absurd lies
-scalar_kept L s f base (a_struct ds) q n free is lies absent same = absurd lies
-scalar_kept L s f base (a_table t es) q n free is lies absent same = absurd lies
-scalar_kept L s f base (a_member c d) q n free is lies absent same = absurd lies
-scalar_kept L s f base (an_unknown c) q n free is lies absent same = absurd lies
+scalar_kept L s f base _ q n free is lies absent same = absurd lies
 
 code_kept : (L : LaidSchema) (s : Bytes) (u : ℕ) (d : Datum) (q : ℕ) → SlotFits L (one_of (code_kind u)) d
     → LiesInline L s (scalar_kind U8) q d → pos (num s q 1) ≢ pos 0
 code_kept L s u (a_number v) q fits lies same = fits.1 (lies ∙ same)
-code_kept L s u (a_text b) q fits lies same = absurd lies
-code_kept L s u (a_vector ds) q fits lies same = absurd lies
-code_kept L s u (a_struct ds) q fits lies same = absurd lies
-code_kept L s u (a_table t es) q fits lies same = absurd lies
-code_kept L s u (a_member c d) q fits lies same = absurd lies
-code_kept L s u (an_unknown c) q fits lies same = absurd lies
+code_kept L s u _ q fits lies same = absurd lies
 
 -- a shape that no default goes with
 no_scalar : (f : Slot) (shape : StoredShape) (n : ℤ) → f.shape ≡ shape
@@ -233,8 +223,7 @@ module _ (L : LaidSchema) (t low m c size u count : ℕ) (s : Bytes) (xs : List 
           by_number _ shape (λ n absent same. without _ shape (λ base e. cc) n absent)
       by_shape (one_of (union_kind w)) shape =
           by_number _ shape (λ n absent same. without _ shape (λ base e. cc) n absent)
-      by_shape (one_of text_kind) shape = by_number _ shape (λ n absent same. without _ shape (λ base e. cc) n absent)
-      by_shape (vector_of kind) shape = by_number _ shape (λ n absent same. without _ shape (λ base e. cc) n absent)
+      by_shape _ shape = by_number _ shape (λ n absent same. without _ shape (λ base e. cc) n absent)
 
   told_bit : (k : ℕ) (f : Slot) → slice_get (slots_of L t) k ≡ Some f → is_present s (length s - c) k ≡ true
       → HoldsBit s ((length s - c) + slot_number s (length s - c) k) f.shape

@@ -88,11 +88,6 @@ module _ (L : LaidSchema) (low m : ℕ) (s : Bytes) (c : ℕ) (within : c ≤ le
       → SlotKnown L low m s c within (suc j) g (Some d) e2 → FieldLeads s true g (Some d) t e2
       → entry_reached L s (place_of L low m s c within (suc j) g fs) (Some d) ≡ parts_at L s (named_of g.shape d) t
   unfolding place_of
-  value_reached j f g fs u (a_number n) e e2 t shape value may fits h h2 leads = absurd (rw value at fits.1)
-  value_reached j f g fs u (a_text b) e e2 t shape value may fits h h2 leads = absurd (rw value at fits.1)
-  value_reached j f g fs u (a_vector ds) e e2 t shape value may fits h h2 leads = absurd (rw value at fits.1)
-  value_reached j f g fs u (a_struct ds) e e2 t shape value may fits h h2 leads = absurd (rw value at fits.1)
-  value_reached j f g fs u (a_table i es) e e2 t shape value may fits h h2 leads = absurd (rw value at fits.1)
   value_reached j f g fs u (an_unknown n) e e2 t shape value may fits h h2 leads = absurd (rw value at h2.fits.1)
   value_reached j f g fs u (a_member n (a_number k)) e e2 t shape value may fits h h2 leads =
       absurd (rw value at fits.1).2
@@ -123,6 +118,7 @@ module _ (L : LaidSchema) (low m : ℕ) (s : Bytes) (c : ℕ) (within : c ≤ le
       rw (fits.0, sort) named in
       stored_reached L s g.shape (a_member n (a_table i es)) _ _ e2 t place
       (at_end (suc j) g (a_member n (a_table i es)) e2 h2 refl) (leads refl)
+  value_reached j f g fs u _ e e2 t shape value may fits h h2 leads = absurd (rw value at fits.1)
 
   -- ---- all slots
 

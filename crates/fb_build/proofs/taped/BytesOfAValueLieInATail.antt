@@ -3,8 +3,8 @@ use Rattle.std.proofs.Common.{◌≡◌, ℕ, suc, ◌+◌, ◌-◌, ◌*◌, �
 use Rattle.std.proofs.Common.{sym, ◌∙◌, subst}
 use Rattle.std.proofs.Common.{arith, append_assoc, length-append}
 use Rattle.std.proofs.lemmas.Bool.{le-leb, and_from}
-use Rattle.fb_layout.specs.Laid.{LaidSchema, StoredKind, StoredShape, scalar_kind, struct_kind, table_kind, union_kind}
-use Rattle.fb_layout.specs.Laid.{code_kind, text_kind, one_of, vector_of, size_of, align_of}
+use Rattle.fb_layout.specs.Laid.{LaidSchema, StoredKind, StoredShape, scalar_kind, struct_kind, table_kind}
+use Rattle.fb_layout.specs.Laid.{code_kind, text_kind, one_of, size_of, align_of}
 use Rattle.fb_layout.specs.Widths.{inline_align, inline_size}
 use Rattle.fb_value.specs.Datum.{Datum, more_parts}
 use Rattle.fb_value.specs.Num.{Bytes, divides}
@@ -49,39 +49,29 @@ pub inline_sort : (shape : StoredShape) (d : Datum) → is_reference shape ≡ f
 inline_sort (one_of (scalar_kind b)) d is = refl
 inline_sort (one_of (struct_kind s)) d is = refl
 inline_sort (one_of (code_kind u)) d is = refl
-inline_sort (one_of (table_kind t)) d is = cc
-inline_sort (one_of (union_kind u)) d is = cc
-inline_sort (one_of text_kind) d is = cc
-inline_sort (vector_of kind) d is = cc
+inline_sort _ d is = cc
 
 pub inline_aligned : (L : LaidSchema) (shape : StoredShape) → is_reference shape ≡ false
     → inline_align L shape ≡ align_of L (inline_kind shape)
 inline_aligned L (one_of (scalar_kind b)) is = refl
 inline_aligned L (one_of (struct_kind s)) is = refl
 inline_aligned L (one_of (code_kind u)) is = refl
-inline_aligned L (one_of (table_kind t)) is = cc
-inline_aligned L (one_of (union_kind u)) is = cc
-inline_aligned L (one_of text_kind) is = cc
-inline_aligned L (vector_of kind) is = cc
+inline_aligned L _ is = cc
 
 pub inline_sized : (L : LaidSchema) (shape : StoredShape) → is_reference shape ≡ false
     → inline_size L shape ≡ size_of L (inline_kind shape)
 inline_sized L (one_of (scalar_kind b)) is = refl
 inline_sized L (one_of (struct_kind s)) is = refl
 inline_sized L (one_of (code_kind u)) is = refl
-inline_sized L (one_of (table_kind t)) is = cc
-inline_sized L (one_of (union_kind u)) is = cc
-inline_sized L (one_of text_kind) is = cc
-inline_sized L (vector_of kind) is = cc
+inline_sized L _ is = cc
 
 element_sort : (L : LaidSchema) (kind : StoredKind) (d : Datum) → IsElement L kind → is_reference (one_of kind) ≡ false
     → sort_for (one_of kind) d ≡ inline_place kind
 element_sort L (scalar_kind b) d el is = refl
 element_sort L (struct_kind s) d el is = refl
-element_sort L (code_kind u) d el is = absurd el
 element_sort L (table_kind t) d el is = cc
-element_sort L (union_kind u) d el is = absurd el
 element_sort L text_kind d el is = cc
+element_sort L _ d el is = absurd el
 
 -- the elements of a vector
 pub elements_long : (L : LaidSchema) (kind : StoredKind) (ds : List Datum) (bytes : Bytes)

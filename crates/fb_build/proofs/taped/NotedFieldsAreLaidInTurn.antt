@@ -75,10 +75,7 @@ inline_leads : (shape : StoredShape) (d : Datum) → is_reference shape ≡ fals
 inline_leads (one_of (scalar_kind b)) d is = refl
 inline_leads (one_of (struct_kind s)) d is = refl
 inline_leads (one_of (code_kind u)) d is = refl
-inline_leads (one_of (table_kind t)) d is = cc
-inline_leads (one_of (union_kind u)) d is = cc
-inline_leads (one_of text_kind) d is = cc
-inline_leads (vector_of kind) d is = cc
+inline_leads _ d is = cc
 
 -- a field's size is what is noted
 pub size_noted : (L : LaidSchema) (f : Slot) (d : Datum) (note : NotedField) (own : Bytes) → (is_reference f.shape
@@ -88,22 +85,18 @@ size_noted L f d Reference own four is = sym (four is.0)
 size_noted L f d (Inline n) own four is = is.1 ∙ is.2.long ∙ sym (inline_sized L f.shape is.0)
 
 pub four_bytes : (L : LaidSchema) (shape : StoredShape) → is_reference shape ≡ true → inline_size L shape ≡ 4
-four_bytes L (one_of (scalar_kind b)) is = cc
-four_bytes L (one_of (struct_kind s)) is = cc
-four_bytes L (one_of (code_kind u)) is = cc
 four_bytes L (one_of (table_kind t)) is = refl
 four_bytes L (one_of (union_kind u)) is = refl
 four_bytes L (one_of text_kind) is = refl
 four_bytes L (vector_of kind) is = refl
+four_bytes L _ is = cc
 
 pub four_aligned : (L : LaidSchema) (shape : StoredShape) → is_reference shape ≡ true → inline_align L shape ≡ 4
-four_aligned L (one_of (scalar_kind b)) is = cc
-four_aligned L (one_of (struct_kind s)) is = cc
-four_aligned L (one_of (code_kind u)) is = cc
 four_aligned L (one_of (table_kind t)) is = refl
 four_aligned L (one_of (union_kind u)) is = refl
 four_aligned L (one_of text_kind) is = refl
 four_aligned L (vector_of kind) is = refl
+four_aligned L _ is = cc
 
 module _ (L : LaidSchema) (fs : List Slot) (xs : List (Option Datum)) (known : AreKnown L fs xs) (start : ℕ)
     (o : TailSeen) (bytes : Bytes) (ends : List ℕ) (wide : (k : ℕ) (f : Slot) (x : Option Datum)

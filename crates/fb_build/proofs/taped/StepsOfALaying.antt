@@ -4,7 +4,7 @@ use Rattle.std.proofs.Common.{length}
 use Rattle.std.proofs.Common.{take, drop, slice_get, slice_index, Some, refl, ap, sym, ◌∙◌, arith, append-nil}
 use Rattle.std.proofs.Common.{length-append, length-drop}
 use Rattle.std.proofs.lemmas.List.{take-append-drop, get_or-drop, length-take-le}
-use Rattle.fb_layout.specs.Laid.{LaidSchema, StoredKind, scalar_kind, struct_kind, table_kind, union_kind, code_kind}
+use Rattle.fb_layout.specs.Laid.{LaidSchema, StoredKind, table_kind, union_kind}
 use Rattle.fb_layout.specs.Laid.{text_kind, one_of}
 use Rattle.fb_layout.specs.Sizes.{IsAlignment}
 use Rattle.fb_layout.specs.Widths.{greatest}
@@ -177,10 +177,7 @@ tables_long t (y ∷ ds) = ap suc (tables_long t ds)
 
 pub elements_named : (L : LaidSchema) (kind : StoredKind) (ds : List Datum) → IsElement L kind
     → is_reference (one_of kind) ≡ true → IsElementApart L kind ds
-elements_named L (scalar_kind b) ds el is = cc
-elements_named L (struct_kind s) ds el is = cc
 elements_named L (union_kind u) ds el is = absurd el
-elements_named L (code_kind u) ds el is = cc
 elements_named L text_kind ds el is = record {
   target = text_part;
   leads = λ d. refl;
@@ -195,6 +192,7 @@ elements_named L (table_kind t) ds el is = record {
   named = tables_named t ds;
   long = tables_long t ds;
 }
+elements_named L _ ds el is = cc
 
 module _ (L : LaidSchema) (vtables : List Bytes) (count room : ℕ) (ps qs : List NamedPart) (ends places : List ℕ)
     (a : TailSeen) (h : AreWaiting L vtables ps ends places a) (r : LaysReferences L count room ps qs) where

@@ -64,9 +64,8 @@ noted_bytes L fs zs (k ∷ ks) (Inline n ∷ notes) bytes noted =
 pub own_fields : (L : LaidSchema) (vtables : List Bytes) (op : Op) (room : ℕ) (ps : List NamedPart)
     (notes : List NotedField) (bytes : Bytes) (qs : List NamedPart) → Lays L vtables op room ps notes bytes qs
     → length notes ≡ op_fields op
-own_fields L vtables (Data align size) room ps notes bytes qs lays = ap length lays.0
-own_fields L vtables (References count) room ps notes bytes qs lays = ap length lays.0
 own_fields L vtables (Table align fields number) room ps notes bytes qs lays = sym lays.fields_are
+own_fields L vtables _ room ps notes bytes qs lays = ap length lays.0
 
 own_bytes : (L : LaidSchema) (vtables : List Bytes) (op : Op) (room : ℕ) (ps : List NamedPart)
     (notes : List NotedField) (bytes : Bytes) (qs : List NamedPart) → Lays L vtables op room ps notes bytes qs
@@ -79,10 +78,9 @@ own_bytes L vtables (Table align fields number) room ps notes bytes qs lays =
 has_vtable : (L : LaidSchema) (vtables : List Bytes) (op : Op) (room : ℕ) (ps : List NamedPart)
     (notes : List NotedField) (bytes : Bytes) (qs : List NamedPart) → Lays L vtables op room ps notes bytes qs
     → HasVtable vtables op (op_vtable vtables op)
-has_vtable L vtables (Data align size) room ps notes bytes qs lays = tt
-has_vtable L vtables (References count) room ps notes bytes qs lays = tt
 has_vtable L vtables (Table align fields number) room ps notes bytes qs lays =
     rw lays.vtable_is refl
+has_vtable L vtables _ room ps notes bytes qs lays = tt
 
 op_grow : (vtables : List Bytes) (known : ℕ) (op : Op) (notes : List NotedField) (laid : ℕ)
     → laid ≤ op_end vtables known op notes laid

@@ -6,7 +6,7 @@ use Rattle.std.proofs.lemmas.Bool.{le-leb, and_from, and_parts}
 use Rattle.std.proofs.lemmas.List.{get_or-append-add}
 use Rattle.byteorder.specs.Endian.{little_bytes}
 use Rattle.byteorder.specs.Numbers.{length-bytes_low_first}
-use Rattle.fb_layout.specs.Laid.{LaidSchema, StoredKind, scalar_kind, struct_kind, table_kind, union_kind, code_kind}
+use Rattle.fb_layout.specs.Laid.{LaidSchema, StoredKind, scalar_kind, struct_kind, table_kind}
 use Rattle.fb_layout.specs.Laid.{text_kind, size_of, align_of, one_of}
 use Rattle.fb_value.specs.Datum.{Datum, a_vector, Parts, no_parts, more_parts, count}
 use Rattle.fb_value.specs.Num.{Bytes, num, divides}
@@ -131,8 +131,7 @@ element_by L m s text_kind d el h = let first : length s - length s ≡ 0 = omeg
 element_by L m s (table_kind t) d el h = let first : length s - length s ≡ 0 = omega arith in rw first at h.lies.lies
 element_by L m s (struct_kind t) d el h = let first : length s - length s ≡ 0 = omega arith in
     (rw first at h.lies.lies).1
-element_by L m s (union_kind t) d el h = absurd el
-element_by L m s (code_kind t) d el h = absurd el
+element_by L m s _ d el h = absurd el
 
 element_old : (L : LaidSchema) (m : ℕ) (s : Bytes) (kind : StoredKind) (d : Datum) → IsElement L kind
     → LaidInTail L m s (sort_for (one_of kind) d) (length s) d
@@ -143,8 +142,7 @@ element_old L m s text_kind d el h = let first : length s - length s ≡ 0 = ome
 element_old L m s (table_kind t) d el h = let first : length s - length s ≡ 0 = omega arith in
     subst (λ (q : ℕ). EachTableAt L s (λ t p. IsOldTable L s t p) (ref_place (table_part t)) q d) first h.old
 element_old L m s (struct_kind t) d el h = tt
-element_old L m s (union_kind t) d el h = absurd el
-element_old L m s (code_kind t) d el h = absurd el
+element_old L m s _ d el h = absurd el
 
 element_tight : (L : LaidSchema) (m : ℕ) (s : Bytes) (kind : StoredKind) (d : Datum) → IsElement L kind
     → LaidInTail L m s (sort_for (one_of kind) d) (length s) d
@@ -155,8 +153,7 @@ element_tight L m s text_kind d el h = let first : length s - length s ≡ 0 = o
 element_tight L m s (table_kind t) d el h = let first : length s - length s ≡ 0 = omega arith in
     subst (λ (q : ℕ). EachTableAt L s (λ t p. IsTightInTail L s t p) (ref_place (table_part t)) q d) first h.tight
 element_tight L m s (struct_kind t) d el h = tt
-element_tight L m s (union_kind t) d el h = absurd el
-element_tight L m s (code_kind t) d el h = absurd el
+element_tight L m s _ d el h = absurd el
 
 element_inline : (L : LaidSchema) (m : ℕ) (s : Bytes) (kind : StoredKind) (d : Datum) → IsElement L kind
     → LaidInTail L m s (sort_for (one_of kind) d) (length s) d
@@ -172,8 +169,7 @@ element_inline L m s (table_kind t) d el h = let first : length s - length s ≡
 element_inline L m s (struct_kind t) d el h =
     let first : length s - length s ≡ 0 = omega arith in
     subst (λ (q : ℕ). EachInlineIn L (IsTightInline L s) (struct_kind t) q d) first h.inline
-element_inline L m s (union_kind t) d el h = absurd el
-element_inline L m s (code_kind t) d el h = absurd el
+element_inline L m s _ d el h = absurd el
 
 pub one_more : (L : LaidSchema) (a b : TailSeen) (kind : StoredKind) (d : Datum) (ds : Parts) → IsElement L kind
     → Grows a b → length b.bytes ≡ length a.bytes + size_of L kind

@@ -69,10 +69,8 @@ union_sort _ h = cc
 
 pub still_table : (x y : DeclaredBody) → SameKind x y → IsTrue (is_table x) → IsTrue (is_table y)
 still_table (table_body fs) (table_body gs) same h = h
-still_table (struct_body fs m) y same h = cc
-still_table (enum_body b flags values) y same h = cc
-still_table (union_body ms) y same h = cc
 still_table (table_body fs) _ same h = absurd same
+still_table _ y same h = cc
 
 pub was_table : (x y : DeclaredBody) → SameKind x y → IsTrue (is_table y) → IsTrue (is_table x)
 was_table (table_body fs) y same h = refl
@@ -90,10 +88,8 @@ pub struct_kept : (A B : LaidSchema) (t u : ℕ) (x y : DeclaredBody) → IsTrue
     → IsTrue (is_struct y) × SameFields A.schema B.schema (parts_in x) (parts_in y)
     × ((struct_at B u).align ≡ (struct_at A t).align)
 struct_kept A B t u (struct_body fs m) (struct_body gs n) h same keeps = (refl, keeps.0, keeps.1)
-struct_kept A B t u (table_body fs) y h same keeps = cc
-struct_kept A B t u (enum_body b flags values) y h same keeps = cc
-struct_kept A B t u (union_body ms) y h same keeps = cc
 struct_kept A B t u (struct_body fs m) _ h same keeps = absurd same
+struct_kept A B t u _ y h same keeps = cc
 
 -- what is no struct stays none, and has no fields
 pub no_struct_kept : (x y : DeclaredBody) → is_struct x ≡ false → SameKind x y
@@ -102,20 +98,14 @@ no_struct_kept (table_body fs) (table_body gs) e same = (refl, refl, refl)
 no_struct_kept (enum_body b flags values) (enum_body c marks others) e same = (refl, refl, refl)
 no_struct_kept (union_body ms) (union_body ns) e same = (refl, refl, refl)
 no_struct_kept (struct_body fs m) y e same = cc
-no_struct_kept (table_body fs) _ e same = absurd same
-no_struct_kept (enum_body b flags values) _ e same = absurd same
-no_struct_kept (union_body ms) _ e same = absurd same
+no_struct_kept _ _ e same = absurd same
 
 pub members_same : (S T : DeclaredSchema) (x y : DeclaredBody) (c t : ℕ) → SameKind x y → KeepsMembers S T x y
     → member_coded x c ≡ Some t → (u : ℕ) × (member_coded y c ≡ Some u) × SameName S T t u
 members_same S T (union_body ms) (union_body ns) c t same keeps e = keeps c t e
-members_same S T (table_body fs) y zero t same keeps e = cc
-members_same S T (table_body fs) y (suc c) t same keeps e = cc
-members_same S T (struct_body fs m) y zero t same keeps e = cc
-members_same S T (struct_body fs m) y (suc c) t same keeps e = cc
-members_same S T (enum_body b flags values) y zero t same keeps e = cc
-members_same S T (enum_body b flags values) y (suc c) t same keeps e = cc
 members_same S T (union_body ms) _ c t same keeps e = absurd same
+members_same S T _ y (suc c) t same keeps e = cc
+members_same S T _ y zero t same keeps e = cc
 
 -- slots of two tables, once each pair is known
 pub grown_from : (S T : DeclaredSchema) (to : ℕ → ℕ) (n : ℕ) (ds es : List DeclaredField)

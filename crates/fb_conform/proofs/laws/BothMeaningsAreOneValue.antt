@@ -5,7 +5,7 @@ use Rattle.serde_json.specs.Data.{Data, null, number, string, object, Items, no_
 use Rattle.serde_json.specs.Find.{get_member}
 use Rattle.fb_schema.specs.declared.kinds.TypeId.{TypeId}
 use Rattle.fb_schema.specs.declared.kinds.Kind.{Kind}
-use Rattle.fb_schema.specs.declared.kinds.Kind.TheVariants.{Scalar, Enum, Struct as Fixed, Table, Union, Code, Text}
+use Rattle.fb_schema.specs.declared.kinds.Kind.TheVariants.{Struct as Fixed, Table, Union, Code}
 use Rattle.fb_schema.specs.declared.kinds.Shape.{Shape}
 use Rattle.fb_schema.specs.declared.kinds.Shape.TheVariants.{One, Many}
 use Rattle.fb_schema.specs.Schema.{DeclaredField, body_at, slots_in, parts_in}
@@ -213,9 +213,6 @@ module _ (A B : LaidSchema) (old : IsWellMade A) (new : IsWellMade B) (conforms 
   mutual
     stay : (v e : Datum) (t : Data) (s : Shape) → IsShape A.schema s → MeansAs A false t s v
         → MeansAs B false t (to_shape to s) e → NamesStay A B t s v
-    stay v e t (One (Scalar b)) known h i = tt
-    stay v e t (One (Enum b)) known h i = tt
-    stay v e t (One Text) known h i = tt
     stay v e t (One (Code u)) known h i = absurd h
     stay v e t (One (Union u)) known h i = absurd h
     stay (a_struct ds) (a_struct es) t (One (Fixed s)) known h i =
@@ -253,6 +250,7 @@ module _ (A B : LaidSchema) (old : IsWellMade A) (new : IsWellMade B) (conforms 
         (subst (λ (ts : Items). EachMeans B false ts (to_kind to kind) es) same i.2))
     stay (a_vector ds) _ t (Many kind) known h i = absurd i
     stay _ e t (Many kind) known h i = absurd h
+    stay v e t _ known h i = tt
 
     member_stay : (v e : Datum) (t : Data) (u : TypeId) (c d : ℕ) → u.0 < types_in A → d ≡ c
         → MemberMeans A false t u.0 c v → MemberMeans B false t (to u.0) d e → NamesStay A B t (One (Union u)) v

@@ -3,9 +3,9 @@ use Rattle.std.proofs.Common.{◌≡◌, ℕ, suc, ◌<◌, length, get_or, ◌&
 use Rattle.std.proofs.Common.{◌∷◌, map, Option, None, Some, slice_get, ℤ, refl, sym, ap, subst, ◌∙◌}
 use Rattle.std.proofs.lemmas.Bool.{and_parts}
 use Rattle.std.proofs.lemmas.Option.{slice_get-get_or}
-use Rattle.fb_schema.specs.declared.kinds.Kind.TheVariants.{Scalar, Enum, Struct as Fixed, Table, Union, Code, Text}
+use Rattle.fb_schema.specs.declared.kinds.Kind.TheVariants.{Scalar, Enum, Struct as Fixed}
 use Rattle.fb_schema.specs.declared.kinds.Shape.{Shape}
-use Rattle.fb_schema.specs.declared.kinds.Shape.TheVariants.{One, Many}
+use Rattle.fb_schema.specs.declared.kinds.Shape.TheVariants.{One}
 use Rattle.fb_schema.specs.Schema.{Name, DeclaredField, DeclaredBody, table_body, struct_body, enum_body, union_body}
 use Rattle.fb_schema.specs.Schema.{DeclaredType, body_in, body_at, slots_in, parts_in, is_table}
 use Rattle.fb_schema.specs.WellDeclared.{MarksFit, IsPart, IsBody}
@@ -48,13 +48,12 @@ unless_whole false d ss here rest = rw (here, rest) refl
 module _ (A B : LaidSchema) where
   mutual
     stays_whole : (d : Datum) → is_whole d ≡ true → is_whole (carry A B d) ≡ true
-    stays_whole (a_number n) e = refl
-    stays_whole (a_text bytes) e = refl
     stays_whole (a_vector ds) e = parts_stay ds e
     stays_whole (a_struct ds) e = e
     stays_whole (a_table t ss) e = slots_stay (slots_of B (to_new A B t)) ss e
     stays_whole (a_member c d) e = stays_whole d e
     stays_whole (an_unknown c) e = cc
+    stays_whole _ e = refl
 
     parts_stay : (ds : Parts) → parts_whole ds ≡ true → parts_whole (carry_items A B ds) ≡ true
     parts_stay no_parts e = refl
@@ -64,8 +63,7 @@ module _ (A B : LaidSchema) where
     slots_stay : (gs : List Slot) (ss : SlotEntries) → entries_whole ss ≡ true
         → entries_whole (carry_slots A B gs ss) ≡ true
     slots_stay gs no_entries e = new_whole gs
-    slots_stay [] (absent_entry ss) e = refl
-    slots_stay [] (present_entry d ss) e = refl
+    slots_stay [] _ e = refl
     slots_stay (g ∷ gs) (absent_entry ss) e = slots_stay gs ss e
     slots_stay (g ∷ gs) (present_entry d ss) e =
         let both = and_parts (is_whole d) (entries_whole ss) e in
@@ -93,16 +91,7 @@ default_fits L f (One (Scalar b)) false false marks n e =
     (refl, rw (← same_default _ _ e) marks.0)
 default_fits L f (One (Enum t)) false false marks n e =
     (refl, rw (← same_default _ _ e) marks.0)
-default_fits L f (One (Scalar b)) false true marks n e = cc
-default_fits L f (One (Scalar b)) true given marks n e = cc
-default_fits L f (One (Enum t)) false true marks n e = cc
-default_fits L f (One (Enum t)) true given marks n e = cc
-default_fits L f (One (Fixed t)) false false marks n e = cc
-default_fits L f (One (Table t)) false false marks n e = cc
-default_fits L f (One (Union t)) false false marks n e = cc
-default_fits L f (One (Code t)) false false marks n e = cc
-default_fits L f (One Text) false false marks n e = cc
-default_fits L f (Many k) false false marks n e = cc
+default_fits L f _ false false marks n e = cc
 default_fits L f _ false true marks n e = cc
 default_fits L f _ true given marks n e = cc
 
@@ -240,8 +229,7 @@ module _ (A B : LaidSchema) (old : IsWellMade A) (new : IsWellMade B) (fit : Agr
         (fits_on f.shape d grown.0.known whole.0 fits.1))
         (slots_fit fs gs ss grown.1 made.1 whole.1 fits.2)
     slots_fit (f ∷ fs) [] ss grown made whole fits = absurd grown
-    slots_fit [] gs (absent_entry ss) grown made whole fits = absurd fits
-    slots_fit [] gs (present_entry d ss) grown made whole fits = absurd fits
+    slots_fit [] gs _ grown made whole fits = absurd fits
     slots_fit (f ∷ fs) (g ∷ gs) no_entries grown made whole fits = absurd fits
 
 -- the new root's value is one of its table

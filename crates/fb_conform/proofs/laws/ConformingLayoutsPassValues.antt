@@ -10,8 +10,8 @@ use Rattle.fb_value.specs.Datum.{Datum, a_number, a_struct, Parts, no_parts, mor
 use Rattle.fb_value.specs.Holds.{checked_identifier}
 use Rattle.fb_value.specs.Lies.{LiesInline, LiesParts}
 use Rattle.fb_value.specs.Num.{Bytes}
-use Rattle.fb_value.specs.Places.{Target, table_part, member_part, text_part, vector_part, Sort, ref_place, part_place}
-use Rattle.fb_value.specs.Places.{inline_place, code_place, unknown_place}
+use Rattle.fb_value.specs.Places.{Target, vector_part, Sort, ref_place, part_place}
+use Rattle.fb_value.specs.Places.{inline_place}
 use Rattle.fb_value.specs.Rules.{is_union}
 use Rattle.fb_conform.specs.Back.{taking_back, if_known}
 use Rattle.fb_conform.specs.Carry.{carrying}
@@ -38,17 +38,14 @@ shape_same (one_of kind) = ap one_of (kind_same kind)
 shape_same (vector_of kind) = ap vector_of (kind_same kind)
 
 target_same : (X : Target) → moved_target (λ t. t) X ≡ X
-target_same (table_part t) = refl
-target_same (member_part c t) = refl
-target_same text_part = refl
 target_same (vector_part kind) = ap vector_part (kind_same kind)
+target_same _ = refl
 
 sort_same : (s : Sort) → moved_sort (λ t. t) s ≡ s
 sort_same (ref_place X) = ap ref_place (target_same X)
 sort_same (part_place X) = ap part_place (target_same X)
 sort_same (inline_place kind) = ap inline_place (kind_same kind)
-sort_same (code_place u k required here) = refl
-sort_same (unknown_place c) = refl
+sort_same _ = refl
 
 -- what is known of a slot's value that is no union's
 plain_known : (A : LaidSchema) (s : StoredShape) (d e : Datum) → is_union s ≡ false → if_known A s d e ≡ e

@@ -10,7 +10,7 @@ use Rattle.fb_schema.specs.declared.kinds.Kind.{Kind}
 use Rattle.fb_schema.specs.declared.kinds.Kind.TheVariants.{Scalar, Enum, Struct as Fixed, Table, Union, Code, Text}
 use Rattle.fb_schema.specs.declared.kinds.Shape.{Shape}
 use Rattle.fb_schema.specs.declared.kinds.Shape.TheVariants.{One, Many}
-use Rattle.fb_schema.specs.Schema.{Name, DeclaredField, DeclaredBody, table_body, struct_body, enum_body, union_body}
+use Rattle.fb_schema.specs.Schema.{Name, DeclaredField, DeclaredBody, table_body, struct_body, union_body}
 use Rattle.fb_schema.specs.Schema.{DeclaredSchema, body_at, slots_in, parts_in, is_table, is_struct}
 use Rattle.fb_schema.specs.Found.{fields_in, member_coded}
 use Rattle.fb_schema.specs.WellDeclared.{Names, KindNames, IsShape, IsPart, IsBody, IsUnionBody}
@@ -69,9 +69,7 @@ pub member_table : (S : DeclaredSchema) (t : ℕ) (body : DeclaredBody) → IsBo
     → member_coded body c ≡ Some m → Names is_table S m
 member_table S t body is zero m e = absurd cc
 member_table S t (union_body ms) is (suc k) m e = member_is S ms is k m e
-member_table S t (table_body fs) is (suc k) m e = absurd cc
-member_table S t (struct_body fs force) is (suc k) m e = absurd cc
-member_table S t (enum_body base flags values) is (suc k) m e = absurd cc
+member_table S t _ is (suc k) m e = absurd cc
 
 -- the last slot isn't a code: its union follows it
 abbrev pub EndsWhole : List DeclaredField → Type 0

@@ -64,8 +64,7 @@ module _ (A V W : LaidSchema) (v w : ℕ → ℕ) (m : Movement) (needs : Type 0
   )
   behind_moved (part_place X) p d d2 known only knows lies = knows (part_place X) p known only lies
   behind_moved (inline_place kind) p d d2 known only knows lies = knows (inline_place kind) p known only lies
-  behind_moved (code_place u k required here) p d d2 known only knows lies = absurd lies
-  behind_moved (unknown_place c) p d d2 known only knows lies = absurd lies
+  behind_moved _ p d d2 known only knows lies = absurd lies
 
   entry_moved : (s : Sort) (p : ℕ) (d : Datum) → KnownSort (types_in A) s → OnlyAt s p → Knows d (move m d)
       → EntryAt V b (moved_sort v s) p d (λ s q. Lies V b s q d)

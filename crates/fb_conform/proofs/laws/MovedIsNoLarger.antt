@@ -44,8 +44,7 @@ module _ (m : Movement) (nothing : AddsNothing m depth entries_depth) where
 
     slots_depth_moved : (gs : List Slot) (ss : SlotEntries) → entries_depth (move_slots m gs ss) ≤ entries_depth ss
     slots_depth_moved gs no_entries = omega (arith, nothing.added gs)
-    slots_depth_moved [] (absent_entry ss) = omega arith
-    slots_depth_moved [] (present_entry d ss) = omega arith
+    slots_depth_moved [] _ = omega arith
     slots_depth_moved (g ∷ gs) (absent_entry ss) =
         omega (arith, nothing.absent g (move_slots m gs ss), slots_depth_moved gs ss)
     slots_depth_moved (g ∷ gs) (present_entry d ss) =
@@ -66,8 +65,7 @@ module _ (m : Movement) (nothing : AddsNothing m cells entries_cells) where
 
     slots_cells_moved : (gs : List Slot) (ss : SlotEntries) → entries_cells (move_slots m gs ss) ≤ entries_cells ss
     slots_cells_moved gs no_entries = omega (arith, nothing.added gs)
-    slots_cells_moved [] (absent_entry ss) = omega arith
-    slots_cells_moved [] (present_entry d ss) = omega arith
+    slots_cells_moved [] _ = omega arith
     slots_cells_moved (g ∷ gs) (absent_entry ss) =
         omega (arith, nothing.absent g (move_slots m gs ss), slots_cells_moved gs ss)
     slots_cells_moved (g ∷ gs) (present_entry d ss) =
@@ -96,7 +94,6 @@ module _ (size : Datum → ℕ) (entries_size : SlotEntries → ℕ) (measures :
 
   known_adds : (A : LaidSchema) (s : StoredShape) (d e : Datum) → size (if_known A s d e) ≤ size e
   known_adds A (one_of (union_kind u)) (a_member c d) e = code_known (member_by_code A u c) c e
-  known_adds A (one_of (union_kind u)) _ e = omega arith
   known_adds A _ d e = omega arith
 
   carrying_adds : (A B : LaidSchema) → AddsNothing (carrying A B) size entries_size

@@ -4,7 +4,7 @@ use Rattle.std.proofs.Common.{Option, None, Some, slice_get, ℤ, refl, sym, ap,
 use Rattle.fb_value.specs.Datum.{Datum, a_text, a_vector, a_table, a_member, Parts, no_parts}
 use Rattle.fb_value.specs.Datum.{more_parts, SlotEntries, no_entries, absent_entry, present_entry, count}
 use Rattle.fb_value.specs.Num.{Bytes, num}
-use Rattle.fb_layout.specs.Laid.{LaidSchema, Slot, StoredKind, scalar_kind, table_kind, union_kind}
+use Rattle.fb_layout.specs.Laid.{LaidSchema, Slot, StoredKind, table_kind, union_kind}
 use Rattle.fb_layout.specs.Laid.{text_kind, StoredShape, one_of, slots_of, size_of, member_by_code}
 use Rattle.fb_value.specs.Places.{Target, table_part, member_part, text_part, vector_part, Sort, ref_place, part_place}
 use Rattle.fb_value.specs.Places.{inline_place, Place, named_slot, named_slots, named_elements, target_of}
@@ -120,7 +120,6 @@ module _ (A V W : LaidSchema) (v w : ℕ → ℕ) (m : Movement) (needs : Type 0
         (subst (λ (Y : Target). slice_get (named_elements (moved_target v Y) (p + 4) (num b p 4)) j ≡ Some (Some y))
         (same_target X (table_part t) e) names),
   )
-  vector_only (scalar_kind base) p only keeps X e = cc
   vector_only _ p only keeps X e = cc
 
   -- a member is its table, under a code

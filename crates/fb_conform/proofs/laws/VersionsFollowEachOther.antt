@@ -259,8 +259,7 @@ module _ (A B C : LaidSchema) (first : Agrees A B) (second : Agrees B C) (throug
         (slots_on fs gs hs ss grown.1 more.1 fits.2)
     slots_on (f ∷ fs) [] hs ss grown more fits = absurd grown
     slots_on (f ∷ fs) (g ∷ gs) [] ss grown more fits = absurd more
-    slots_on [] gs hs (absent_entry ss) grown more fits = absurd fits
-    slots_on [] gs hs (present_entry d ss) grown more fits = absurd fits
+    slots_on [] gs hs _ grown more fits = absurd fits
     slots_on (f ∷ fs) (g ∷ gs) (h ∷ hs) no_entries grown more fits = absurd fits
 
 -- the root's value is one of its table

@@ -103,16 +103,14 @@ pub field_slot : (S : DeclaredSchema) (t : ℕ) (body : DeclaredBody) → IsBody
     → slice_get (fields_in body) k ≡ Some f → slot_named body f.name ≡ Some k
 field_slot S t (table_body fs) is k f there = field_slot_in fs is.names is.slots k f there
 field_slot S t (struct_body fs force) is k f there = field_slot_in fs is.names is.slots k f there
-field_slot S t (enum_body base flags values) is k f there = absurd cc
-field_slot S t (union_body members) is k f there = absurd cc
+field_slot S t _ is k f there = absurd cc
 
 -- and no other name does
 pub slot_field : (S : DeclaredSchema) (t : ℕ) (body : DeclaredBody) → IsBody S t body → is_union body ≡ false
     → (name : Name) (k : ℕ) → slot_named body name ≡ Some k → FoundAt (λ f. f.name) (fields_in body) name k
 slot_field S t (table_body fs) is other name k e = slot_field_in fs is.names is.slots name k e
 slot_field S t (struct_body fs force) is other name k e = slot_field_in fs is.names is.slots name k e
-slot_field S t (enum_body base flags values) is other name k e = absurd cc
-slot_field S t (union_body members) is other name k e = absurd cc
+slot_field S t _ is other name k e = absurd cc
 
 -- a member's name stands for its code
 pub member_slot : (S : DeclaredSchema) (t : ℕ) (ms : List (Name × ℕ)) → IsUnionBody S ms → (k : ℕ) (m : Name × ℕ)
@@ -136,8 +134,7 @@ pub slot_of_field : (body : DeclaredBody) (name : Name) (f : DeclaredField) → 
     → slot_named body name ≡ Some f.slot
 slot_of_field (table_body fs) name f e = ap (option_map (λ g. g.slot)) e
 slot_of_field (struct_body fs force) name f e = ap (option_map (λ g. g.slot)) e
-slot_of_field (enum_body base flags values) name f e = absurd cc
-slot_of_field (union_body members) name f e = absurd cc
+slot_of_field _ name f e = absurd cc
 
 -- no member is called `NONE`
 none_called : (S : DeclaredSchema) (ms : List (Name × ℕ)) → IsUnionBody S ms → (name : Name) → name ≡ codes "NONE"
@@ -176,8 +173,7 @@ pub field_at : (S : DeclaredSchema) (t : ℕ) (body : DeclaredBody) → IsBody S
     → field_named body name ≡ Some f → (slice_get (fields_in body) f.slot ≡ Some f) × (f.name ≡ name)
 field_at S t (table_body fs) is name f e = found_field fs is.names is.slots name f e
 field_at S t (struct_body fs force) is name f e = found_field fs is.names is.slots name f e
-field_at S t (enum_body base flags values) is name f e = absurd cc
-field_at S t (union_body members) is name f e = absurd cc
+field_at S t _ is name f e = absurd cc
 
 -- a text that finds a code in two unions, where each name of both stands for one code, finds one code
 pub one_code : (x y : DeclaredBody) (name : Name) (c d : ℕ)

@@ -1,9 +1,9 @@
 -- A slot that isn't required and not of a union needs no member.
 use Rattle.std.proofs.Common.{◌≡◌, ◌∙◌, ℕ, ℤ, Bool, true, false, ◌&&◌, not, Option, None, Some, Ok}
 use Rattle.std.proofs.Common.{option_map, ap, refl}
-use Rattle.fb_schema.specs.declared.kinds.Kind.TheVariants.{Scalar, Enum, Struct, Table, Union, Code, Text}
+use Rattle.fb_schema.specs.declared.kinds.Kind.TheVariants.{Union, Code}
 use Rattle.fb_schema.specs.declared.kinds.Shape.{Shape}
-use Rattle.fb_schema.specs.declared.kinds.Shape.TheVariants.{One, Many}
+use Rattle.fb_schema.specs.declared.kinds.Shape.TheVariants.{One}
 use Rattle.fb_schema.specs.Schema.{Name, DeclaredField, DeclaredSchema}
 use Rattle.fb_layout.specs.Laid.{LaidSchema, slot_of}
 use Rattle.fb_value.specs.Datum.{a_number}
@@ -16,27 +16,17 @@ pub code_handed_on : (S : DeclaredSchema) (look : Look) (at : Place) (code : ℕ
     (shape : Shape) → is_of_union shape ≡ false → code_after S look at code deprecated name shape ≡ Ok code
 unfolding code_after
 code_handed_on S look at code true name shape plain = refl
-code_handed_on S look at code false name (Many kind) plain = refl
-code_handed_on S look at code false name (One (Scalar base)) plain = refl
-code_handed_on S look at code false name (One (Enum e)) plain = refl
-code_handed_on S look at code false name (One (Struct s)) plain = refl
-code_handed_on S look at code false name (One (Table t)) plain = refl
 code_handed_on S look at code false name (One (Union u)) plain = absurd cc
 code_handed_on S look at code false name (One (Code u)) plain = absurd cc
-code_handed_on S look at code false name (One Text) plain = refl
+code_handed_on S look at code false name _ plain = refl
 
 module _ (L : LaidSchema) (look : Look) (f : DeclaredField) (at : Place) (code levels left : ℕ) where
   none_used : (shape : Shape) → is_of_union shape ≡ false → used_meant L f code None at levels left shape
       ≡ as_absent (slot_of L.schema f).if_absent (slot_of L.schema f).required at left
   unfolding plain_meant
-  none_used (Many kind) plain = refl
-  none_used (One (Scalar base)) plain = refl
-  none_used (One (Enum e)) plain = refl
-  none_used (One (Struct s)) plain = refl
-  none_used (One (Table t)) plain = refl
   none_used (One (Union u)) plain = absurd cc
   none_used (One (Code u)) plain = absurd cc
-  none_used (One Text) plain = refl
+  none_used _ plain = refl
 
   unneeded : (o : Option ℤ) (required : Bool) → required ≡ false
       → as_absent o required at left ≡ Ok (option_map a_number o, left)

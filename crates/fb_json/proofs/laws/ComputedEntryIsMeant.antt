@@ -1,5 +1,5 @@
 -- What is computed for a leaf, a code or an entry is what it means.
-use Rattle.std.proofs.Common.{◌≡◌, ℕ, zero, suc, ◌+◌, ◌≤◌, ℤ, pos, negsuc, length, Bool, true, false, Option, Some}
+use Rattle.std.proofs.Common.{◌≡◌, ℕ, zero, suc, ◌+◌, ◌≤◌, ℤ, pos, length, Bool, true, false, Option, Some}
 use Rattle.std.proofs.Common.{None, option_map, is_some, Ok, Err, nat_lt, if◌then◌else◌, refl, sym, ap, subst, arith}
 use Rattle.std.proofs.lemmas.Bool.Decides.{nat_tests}
 use Rattle.serde_json.specs.Data.{Num, Data, null, boolean, number, string, array, object, Members}
@@ -103,11 +103,10 @@ coded_by false true S u n c x at big named is h =
 
 numbered_ok : (S : DeclaredSchema) (u c : ℕ) (x : Num) (at : Place) (o : Option ℤ) → as_integer x ≡ o
     → code_numbered S u at o ≡ Ok c → CodeMeans S u (Some (number x)) c
-numbered_ok S u c x at None is h = cc
-numbered_ok S u c x at (Some (negsuc n)) is h = cc
 numbered_ok S u c x at (Some (pos zero)) is h = at_ok (CodeMeans S u (Some (number x))) 0 c h is
 numbered_ok S u c x at (Some (pos (suc n))) is h =
     coded_by (nat_lt 255 (suc n)) (is_some (member_coded (body_at S u) (suc n))) S u n c x at refl refl is h
+numbered_ok S u c x at _ is h = cc
 
 told_ok : (S : DeclaredSchema) (u c : ℕ) (t : Data) (at : Place) → code_told S u t at ≡ Ok c → CodeMeans S u (Some t) c
 unfolding code_told

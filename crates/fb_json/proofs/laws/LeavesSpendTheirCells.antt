@@ -1,6 +1,6 @@
 -- What leaves and codes spend, and a fault of the limits in them.
 use Rattle.std.proofs.Common.{◌≡◌, ◌∙◌, inl, inr, ℕ, ◌+◌, ◌≤◌, ◌<◌, length, Bool, true, false, Option, Some, None}
-use Rattle.std.proofs.Common.{Result, Ok, Err, nat_lt, if◌then◌else◌, Ordering, Less, Equal, Greater, refl, sym}
+use Rattle.std.proofs.Common.{Result, Ok, Err, nat_lt, if◌then◌else◌, Ordering, Equal, refl, sym}
 use Rattle.std.proofs.Common.{subst, arith}
 use Rattle.std.specs.Ordering.{nat_cmp, match_ordering}
 use Rattle.std.specs.Cmp.Lexicographic.{slice_cmp}
@@ -8,9 +8,9 @@ use Rattle.serde_json.specs.Data.{Data, null, boolean, number, string, array, ob
 use Rattle.serde_json.specs.Find.{get_member}
 use Rattle.fb_schema.specs.declared.kinds.Base.{Base}
 use Rattle.fb_schema.specs.declared.kinds.TypeId.{TypeId}
-use Rattle.fb_schema.specs.declared.kinds.Kind.TheVariants.{Scalar, Enum, Struct, Table, Union, Code, Text}
+use Rattle.fb_schema.specs.declared.kinds.Kind.TheVariants.{Scalar, Enum, Code, Text}
 use Rattle.fb_schema.specs.declared.kinds.Shape.{Shape}
-use Rattle.fb_schema.specs.declared.kinds.Shape.TheVariants.{One, Many}
+use Rattle.fb_schema.specs.declared.kinds.Shape.TheVariants.{One}
 use Rattle.fb_schema.specs.Schema.{Name, DeclaredField, DeclaredSchema}
 use Rattle.fb_layout.specs.Laid.{LaidSchema}
 use Rattle.fb_value.specs.Datum.{Datum}
@@ -85,9 +85,8 @@ module _ (L : LaidSchema) (m : Measure) where
   pub picked_count : (o : Ordering) (d : Data) (rest : Option Data) (more : ℕ) (shape : Shape)
       → more ≡ count_of rest shape
       → match_ordering o more (counted L m d shape) more ≡ count_of (match_ordering o rest (Some d) rest) shape
-  picked_count Less d rest more shape h = h
   picked_count Equal d rest more shape h = refl
-  picked_count Greater d rest more shape h = h
+  picked_count _ d rest more shape h = h
 
   pub counter_is : (ms : Members) (k : Name) (shape : Shape) → counter L m ms k shape ≡ count_of (get_member k ms) shape
   counter_is no_members k shape = refl
@@ -149,11 +148,9 @@ module _ (L : LaidSchema) (unknown : Bool) where
         | inr x ↦
             absurd (no_err _ f x.2)
       ]
-  text_limit null at levels left f h = over_wrong {A = Datum × ℕ} 0 0 levels left at f h
-  text_limit (boolean b) at levels left f h = over_wrong {A = Datum × ℕ} 0 0 levels left at f h
-  text_limit (number x) at levels left f h = over_wrong {A = Datum × ℕ} 0 0 levels left at f h
   text_limit (array ts) at levels left f h = over_wrong {A = Datum × ℕ} _ _ levels left at f h
   text_limit (object ms) at levels left f h = over_wrong {A = Datum × ℕ} _ _ levels left at f h
+  text_limit _ at levels left f h = over_wrong {A = Datum × ℕ} 0 0 levels left at f h
 
   -- what counts nothing but as a text
   abbrev pub IsLeaf : Data → Type 0
@@ -192,8 +189,4 @@ module _ (L : LaidSchema) (unknown : Bool) where
         | inr x ↦ absurd (no_err _ f x.2)
       ]
   leaf_limit t (One Text) at levels left f h = text_limit t at levels left f h
-  leaf_limit t (One (Struct s)) at levels left f h = over_wrong {A = Datum × ℕ} _ _ levels left at f h
-  leaf_limit t (One (Table s)) at levels left f h = over_wrong {A = Datum × ℕ} _ _ levels left at f h
-  leaf_limit t (One (Union s)) at levels left f h = over_wrong {A = Datum × ℕ} _ _ levels left at f h
-  leaf_limit t (One (Code s)) at levels left f h = over_wrong {A = Datum × ℕ} _ _ levels left at f h
-  leaf_limit t (Many k) at levels left f h = over_wrong {A = Datum × ℕ} _ _ levels left at f h
+  leaf_limit t _ at levels left f h = over_wrong {A = Datum × ℕ} _ _ levels left at f h

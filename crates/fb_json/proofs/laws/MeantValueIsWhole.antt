@@ -22,12 +22,7 @@ module _ (d : Datum) (own : Data → Type 0) (member : Data → ℕ → Type 0) 
   whole_present_as : (t : Data) (shape : Shape) → PresentAs shape (own t) (member t) → is_whole d ≡ true
   whole_present_as t (One (Code u)) h = absurd h
   whole_present_as t (One (Union u)) h = member_whole t u.0 h
-  whole_present_as t (One (Scalar base)) h = own_whole t h
-  whole_present_as t (One (Enum id)) h = own_whole t h
-  whole_present_as t (One (Struct id)) h = own_whole t h
-  whole_present_as t (One (Table id)) h = own_whole t h
-  whole_present_as t (One Text) h = own_whole t h
-  whole_present_as t (Many kind) h = own_whole t h
+  whole_present_as t _ h = own_whole t h
 
   pub whole_present : (s : Slot) (shape : Shape) (o : Option Data) → PresentMeans s shape o d own member
       → is_whole d ≡ true

@@ -4,9 +4,9 @@ use Rattle.std.proofs.Common.{Option, Some, None, option_map, Ok, Err, if◌then
 use Rattle.serde_json.specs.Data.{Data, object, Members}
 use Rattle.serde_json.specs.Find.{get_member}
 use Rattle.fb_schema.specs.declared.kinds.TypeId.{TypeId}
-use Rattle.fb_schema.specs.declared.kinds.Kind.TheVariants.{Scalar, Enum, Struct, Table, Union, Code, Text}
+use Rattle.fb_schema.specs.declared.kinds.Kind.TheVariants.{Struct, Table, Code}
 use Rattle.fb_schema.specs.declared.kinds.Shape.{Shape}
-use Rattle.fb_schema.specs.declared.kinds.Shape.TheVariants.{One, Many}
+use Rattle.fb_schema.specs.declared.kinds.Shape.TheVariants.{One}
 use Rattle.fb_schema.specs.Schema.{DeclaredField, body_at, slots_in, parts_in as fields_of_struct}
 use Rattle.fb_layout.specs.Laid.{LaidSchema}
 use Rattle.fb_value.specs.Datum.{Datum}
@@ -319,9 +319,4 @@ module _ (L : LaidSchema) (unknown : Bool) (ms : Members) where
   unfolding object_meant
   object_limit spends limits (One (Table id)) at levels left f h = table_limit spends limits id at levels left f h
   object_limit spends limits (One (Struct id)) at levels left f h = struct_limit spends limits id at levels left f h
-  object_limit spends limits (One (Scalar b)) at levels left f h = over_wrong {A = Datum × ℕ} _ _ levels left at f h
-  object_limit spends limits (One (Enum b)) at levels left f h = over_wrong {A = Datum × ℕ} _ _ levels left at f h
-  object_limit spends limits (One (Union b)) at levels left f h = over_wrong {A = Datum × ℕ} _ _ levels left at f h
-  object_limit spends limits (One (Code b)) at levels left f h = over_wrong {A = Datum × ℕ} _ _ levels left at f h
-  object_limit spends limits (One Text) at levels left f h = over_wrong {A = Datum × ℕ} _ _ levels left at f h
-  object_limit spends limits (Many kind) at levels left f h = over_wrong {A = Datum × ℕ} _ _ levels left at f h
+  object_limit spends limits _ at levels left f h = over_wrong {A = Datum × ℕ} _ _ levels left at f h

@@ -1,11 +1,11 @@
 -- A look-up in an object's map is one in its members.
 use Rattle.std.proofs.Common.{◌≡◌, ◌∙◌, ℕ, List, Option, Some, None, option_map, String, BTreeMap, Global, Bor, Bool}
-use Rattle.std.proofs.Common.{Ordering, Less, Equal, Greater, nat_cmp, ap, sym, subst, refl}
+use Rattle.std.proofs.Common.{Ordering, Equal, nat_cmp, ap, sym, subst, refl}
 use Rattle.std.specs.BTreeMap.{get_by_text}
 use Rattle.std.specs.Ordering.{match_ordering}
 use Rattle.std.specs.Cmp.Lexicographic.{slice_cmp}
 use Rattle.serde_json.specs.declared.value.Value.{Value}
-use Rattle.serde_json.specs.Data.{Data, Members, no_members, member, null, boolean, number, string, array, object}
+use Rattle.serde_json.specs.Data.{Data, Members, no_members, member, boolean, number, string, array, object}
 use Rattle.serde_json.specs.Find.{get_member}
 use Rattle.serde_json.specs.View.{view, members_view}
 use Rattle.serde_json.proofs.Views.{view-lookup, view_of_ref}
@@ -27,9 +27,8 @@ picked : (L : LaidSchema) (unknown : Bool) (o : Ordering) (d : Data) (rest : Opt
     (more : Option (Data × Meaner)) → more ≡ option_map (with_meaning L unknown) rest
     → match_ordering o more (Some (with_meaning L unknown d)) more
     ≡ option_map (with_meaning L unknown) (match_ordering o rest (Some d) rest)
-picked L unknown Less d rest more h = h
 picked L unknown Equal d rest more h = refl
-picked L unknown Greater d rest more h = h
+picked L unknown _ d rest more h = h
 
 pub looked : (L : LaidSchema) (unknown : Bool) (ms : Members) (k : Name)
     → look L unknown ms k ≡ option_map (with_meaning L unknown) (get_member k ms)
@@ -64,10 +63,9 @@ module _ (L : LaidSchema) (unknown : Bool) (name asked : List ℕ) (m : BTreeMap
       ∙ ap (λ (o : Option (Bor Value)). option_map (with_meaning L unknown) (option_map (λ v. view v.now) o)) is)
 
 pub found_in : (o : Option Data) (t : Data) → unless_null o ≡ Some t → o ≡ Some t
-found_in None t h = cc
-found_in (Some null) t h = cc
 found_in (Some (boolean b)) t h = h
 found_in (Some (number x)) t h = h
 found_in (Some (string s)) t h = h
 found_in (Some (array ts)) t h = h
 found_in (Some (object es)) t h = h
+found_in _ t h = cc

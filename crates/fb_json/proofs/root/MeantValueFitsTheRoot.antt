@@ -4,7 +4,7 @@ use Rattle.std.proofs.Common.{IsTrue, ℤ, map, get_or, slice_get, refl, sym, ap
 use Rattle.std.proofs.lemmas.Int.{ints}
 use Rattle.serde_json.specs.Data.{Data, boolean, number, string, Items, no_items, item, Members}
 use Rattle.fb_schema.specs.declared.kinds.Base.{Base}
-use Rattle.fb_schema.specs.declared.kinds.Base.TheVariants.{Bool as Boolean, I8, U8, I16, U16, I32, U32, I64, U64}
+use Rattle.fb_schema.specs.declared.kinds.Base.TheVariants.{Bool as Boolean}
 use Rattle.fb_schema.specs.declared.kinds.Kind.{Kind}
 use Rattle.fb_schema.specs.declared.kinds.Kind.TheVariants.{Scalar, Enum, Struct, Table, Union, Code, Text}
 use Rattle.fb_schema.specs.declared.kinds.Shape.{Shape}
@@ -35,15 +35,7 @@ boolean_fits false n h = rw h (grind (arith, ints), grind (arith, ints))
 scalar_fits : (base : Base) (t : Data) (n : ℤ) → ScalarMeans base t n → InRange base n
 scalar_fits base (number x) n h = h.1
 scalar_fits Boolean (boolean b) n h = boolean_fits b n h
-scalar_fits I8 _ n h = absurd h
-scalar_fits U8 _ n h = absurd h
-scalar_fits I16 _ n h = absurd h
-scalar_fits U16 _ n h = absurd h
-scalar_fits I32 _ n h = absurd h
-scalar_fits U32 _ n h = absurd h
-scalar_fits I64 _ n h = absurd h
-scalar_fits U64 _ n h = absurd h
-scalar_fits Boolean _ n h = absurd h
+scalar_fits _ _ n h = absurd h
 
 enum_fits : (S : DeclaredSchema) → IsDeclared S → (e : ℕ) (t : Data) (n : ℤ) → EnumMeans S e t n
     → InRange (base_in (body_at S e)) n
@@ -105,12 +97,7 @@ module _ (L : LaidSchema) (f : DeclaredField) where
         ∙ no_default (f.deprecated || f.optional) f.default u.0,
   )
   used_absent c o (One (Union u)) e marks h = (h.3, h.2)
-  used_absent c o (One (Scalar base)) e marks h = (h.2, h.1)
-  used_absent c o (One (Enum id)) e marks h = (h.2, h.1)
-  used_absent c o (One (Struct id)) e marks h = (h.2, h.1)
-  used_absent c o (One (Table id)) e marks h = (h.2, h.1)
-  used_absent c o (One Text) e marks h = (h.2, h.1)
-  used_absent c o (Many kind) e marks h = (h.2, h.1)
+  used_absent c o _ e marks h = (h.2, h.1)
 
   pub absent_fits : (c : ℕ) (o : Option Data) (deprecated : Bool) → f.deprecated ≡ deprecated
       → MarksFit L.schema f f.shape → AbsentAt L f c o deprecated → MayBeAbsent (slot_of L.schema f)
@@ -133,12 +120,7 @@ module _ (L : LaidSchema) (f : DeclaredField) where
         → Fits L (stored_shape L.schema f.shape) d
     as_fits t (One (Code u)) e h = absurd h
     as_fits t (One (Union u)) e h = rw e (member_fits t u.0 h)
-    as_fits t (One (Scalar base)) e h = own_fits t h
-    as_fits t (One (Enum id)) e h = own_fits t h
-    as_fits t (One (Struct id)) e h = own_fits t h
-    as_fits t (One (Table id)) e h = own_fits t h
-    as_fits t (One Text) e h = own_fits t h
-    as_fits t (Many kind) e h = own_fits t h
+    as_fits t _ e h = own_fits t h
 
     pub present_fits : MarksFit L.schema f f.shape → (o : Option Data)
         → PresentMeans (slot_of L.schema f) f.shape o d own member → Fits L (stored_shape L.schema f.shape) d

@@ -15,9 +15,7 @@ use Rattle.fb_layout.specs.Laid.{LaidSchema}
 use Rattle.fb_value.specs.Datum.{Datum}
 use Rattle.fb_json.specs.declared.faults.Place.{Place}
 use Rattle.fb_json.specs.declared.faults.JsonFault.{JsonFault}
-use Rattle.fb_json.specs.declared.faults.JsonFault.TheVariants.{WrongShape, NotWhole, OutOfRange, UnknownName}
-use Rattle.fb_json.specs.declared.faults.JsonFault.TheVariants.{UnknownMember, MissingMember, MissingRequired}
-use Rattle.fb_json.specs.declared.faults.JsonFault.TheVariants.{UnionMismatch, TooDeep, TooManyCells, Memory}
+use Rattle.fb_json.specs.declared.faults.JsonFault.TheVariants.{Memory}
 use Rattle.fb_json.specs.Outcome.{◌>>=◌, Fails, Counted}
 use Rattle.fb_json.specs.Meant.{Look, slot_place, code_after, entry_meant, slots_meant, part_meant, parts_meant, meant}
 use Rattle.fb_json.specs.Meant.{items_meant, count}
@@ -29,45 +27,18 @@ after front (Ok x) = Ok (front ++ x.0, x.1)
 
 pub fails_is : {Y : Type 0} (e : JsonFault) (whole : Result Y JsonFault) → whole ≡ Err e → Fails e whole
 fails_is Memory whole h = tt
-fails_is (WrongShape at) whole h = h
-fails_is (NotWhole at) whole h = h
-fails_is (OutOfRange at) whole h = h
-fails_is (UnknownName at) whole h = h
-fails_is (UnknownMember at) whole h = h
-fails_is (MissingMember at) whole h = h
-fails_is (MissingRequired at) whole h = h
-fails_is (UnionMismatch at) whole h = h
-fails_is (TooDeep at) whole h = h
-fails_is (TooManyCells at) whole h = h
+fails_is _ whole h = h
 
 -- the fault of a part is the fault of the whole
 pub fails_by : {X Y : Type 0} (e : JsonFault) (part : Result X JsonFault) (whole : Result Y JsonFault)
     → (part ≡ Err e → whole ≡ Err e) → Fails e part → Fails e whole
 fails_by Memory part whole same h = tt
-fails_by (WrongShape at) part whole same h = same h
-fails_by (NotWhole at) part whole same h = same h
-fails_by (OutOfRange at) part whole same h = same h
-fails_by (UnknownName at) part whole same h = same h
-fails_by (UnknownMember at) part whole same h = same h
-fails_by (MissingMember at) part whole same h = same h
-fails_by (MissingRequired at) part whole same h = same h
-fails_by (UnionMismatch at) part whole same h = same h
-fails_by (TooDeep at) part whole same h = same h
-fails_by (TooManyCells at) part whole same h = same h
+fails_by _ part whole same h = same h
 
 -- a failure is that of memory, or the fault that is given
 pub failed : {Y : Type 0} (f : JsonFault) (r : Result Y JsonFault) → Fails f r → (f ≡ Memory) ⊎ (r ≡ Err f)
 failed Memory r h = inl refl
-failed (WrongShape at) r h = inr h
-failed (NotWhole at) r h = inr h
-failed (OutOfRange at) r h = inr h
-failed (UnknownName at) r h = inr h
-failed (UnknownMember at) r h = inr h
-failed (MissingMember at) r h = inr h
-failed (MissingRequired at) r h = inr h
-failed (UnionMismatch at) r h = inr h
-failed (TooDeep at) r h = inr h
-failed (TooManyCells at) r h = inr h
+failed _ r h = inr h
 
 put_front : {A : Type 0} (front : List A) (x : A) (r : Counted (List A))
     → after front (r >>= λ xs. Ok (x ∷ xs.0, xs.1)) ≡ after (front ++ x ∷ []) r

@@ -4,7 +4,7 @@ use Rattle.std.proofs.Common.{Less, Equal, Greater}
 use Rattle.std.proofs.lemmas.Str.{IsUtf8-string_bytes}
 use Rattle.std.specs.Ordering.{nat_cmp, match_ordering}
 use Rattle.std.specs.Cmp.Lexicographic.{slice_cmp}
-use Rattle.serde_json.specs.Data.{Data, null, boolean, number, string, array, object, Items, no_items, item, Members}
+use Rattle.serde_json.specs.Data.{Data, string, array, object, Items, no_items, item, Members}
 use Rattle.serde_json.specs.Data.{no_members, member}
 use Rattle.serde_json.specs.Find.{get_member}
 use Rattle.serde_json.specs.View.{view, view_step, items_of, members_of}
@@ -26,12 +26,10 @@ use Rattle.fb_json.proofs.texts.ValueTextsAreUtf8.{HasUtf8, HaveUtf8, EntriesHav
 
 abbrev mutual
   pub TreeHasUtf8 : Data → Type 0
-  TreeHasUtf8 null = Unit {0}
-  TreeHasUtf8 (boolean b) = Unit {0}
-  TreeHasUtf8 (number x) = Unit {0}
   TreeHasUtf8 (string s) = IsUtf8 s
   TreeHasUtf8 (array ts) = TreesHaveUtf8 ts
   TreeHasUtf8 (object ms) = MembersHaveUtf8 ms
+  TreeHasUtf8 _ = Unit {0}
 
   pub TreesHaveUtf8 : Items → Type 0
   TreesHaveUtf8 no_items = Unit {0}
@@ -58,11 +56,10 @@ module _ {X : Type 0} (get : X → Value) (has : (x : X) → TreeHasUtf8 (view (
   -- one level, where what is inside has
   level : (y : Value-F X) → TreeHasUtf8 (view_step (map-Value Value Data view (map-Value X Value get y)))
   level Value-F.Null = tt
-  level (Value-F.Bool b) = tt
-  level (Value-F.Number x) = tt
   level (Value-F.String s) = IsUtf8-string_bytes s
   level (Value-F.Array v) = elements v.items
   level (Value-F.Object m) = members _ _ (λ e. refl) m.entries
+  level _ = tt
 
 pub tree_utf8 : (t : Value) → TreeHasUtf8 (view t)
 tree_utf8 t =
@@ -87,12 +84,7 @@ module _ (d : Datum) (own : Data → Type 0) (member : Data → ℕ → Type 0) 
   present_as : (t : Data) (shape : Shape) → TreeHasUtf8 t → PresentAs shape (own t) (member t) → HasUtf8 d
   present_as t (One (Code u)) utf8 h = absurd h
   present_as t (One (Union u)) utf8 h = under_utf8 t u.0 utf8 h
-  present_as t (One (Scalar base)) utf8 h = own_utf8 t utf8 h
-  present_as t (One (Enum id)) utf8 h = own_utf8 t utf8 h
-  present_as t (One (Struct id)) utf8 h = own_utf8 t utf8 h
-  present_as t (One (Table id)) utf8 h = own_utf8 t utf8 h
-  present_as t (One Text) utf8 h = own_utf8 t utf8 h
-  present_as t (Many kind) utf8 h = own_utf8 t utf8 h
+  present_as t _ utf8 h = own_utf8 t utf8 h
 
   present : (s : Slot) (shape : Shape) (o : Option Data) → ((t : Data) → o ≡ Some t → TreeHasUtf8 t)
       → PresentMeans s shape o d own member → HasUtf8 d

@@ -1,7 +1,7 @@
 -- The texts of a `Value` are UTF-8, since each is a `String`.
 use Rattle.std.proofs.Common.{◌≡◌, List, [], ◌∷◌, Option, None, Some, map, IsUtf8, subst, refl}
 use Rattle.std.proofs.lemmas.Str.{IsUtf8-string_bytes}
-use Rattle.fb_value.specs.Datum.{Datum, a_number, a_text, a_vector, a_struct, a_table, a_member, an_unknown, Parts}
+use Rattle.fb_value.specs.Datum.{Datum, a_text, a_vector, a_struct, a_table, a_member, Parts}
 use Rattle.fb_value.specs.Datum.{no_parts, more_parts, SlotEntries, no_entries, absent_entry, present_entry}
 use Rattle.fb_value.specs.View.{view, view_step, parts_in, entries_in}
 use Rattle.fb_value.specs.declared.values.Value.{Value, ind-Value, roll-Value, fold-roll-Value, map-Value}
@@ -9,13 +9,12 @@ use Rattle.fb_value.specs.declared.values.Value.TheOpen.{Value-F}
 
 abbrev mutual
   pub HasUtf8 : Datum → Type 0
-  HasUtf8 (a_number n) = Unit {0}
   HasUtf8 (a_text bytes) = IsUtf8 bytes
   HasUtf8 (a_vector ds) = HaveUtf8 ds
   HasUtf8 (a_struct ds) = HaveUtf8 ds
   HasUtf8 (a_table type es) = EntriesHaveUtf8 es
   HasUtf8 (a_member code d) = HasUtf8 d
-  HasUtf8 (an_unknown code) = Unit {0}
+  HasUtf8 _ = Unit {0}
 
   pub HaveUtf8 : Parts → Type 0
   HaveUtf8 no_parts = Unit {0}
@@ -41,13 +40,12 @@ module _ {X : Type 0} (get : X → Value) (has : (x : X) → HasUtf8 (view (get 
 
   -- one level, where what is inside has
   level : (y : Value-F X) → HasUtf8 (view_step (map-Value Value Datum view (map-Value X Value get y)))
-  level (Value-F.Number n) = tt
   level (Value-F.Text s) = IsUtf8-string_bytes s
   level (Value-F.Items items) = parts items.items
   level (Value-F.Fixed items) = parts items.items
   level (Value-F.Fields type slots) = entries _ _ refl (λ v. refl) refl (λ x. refl) slots.items
   level (Value-F.Member code member) = has member.value
-  level (Value-F.Other code) = tt
+  level _ = tt
 
 pub value_utf8 : (v : Value) → HasUtf8 (view v)
 value_utf8 v =

@@ -7,7 +7,7 @@ use mir.Syntax.{w128}
 use Rattle.fb_schema.specs.declared.kinds.Base.{Base}
 use Rattle.fb_schema.specs.declared.kinds.Base.TheVariants as the_base
 use Rattle.fb_schema.specs.WellDeclared.{InRange}
-use Rattle.fb_layout.specs.Laid.{StoredKind, scalar_kind, struct_kind, table_kind, union_kind, code_kind, text_kind}
+use Rattle.fb_layout.specs.Laid.{StoredKind, scalar_kind, table_kind, union_kind, code_kind, text_kind}
 use Rattle.fb_layout.specs.Laid.{LaidSchema, one_of}
 use Rattle.fb_value.specs.Datum.{a_number}
 use Rattle.fb_value.specs.Fits.{Fits}

@@ -1,7 +1,7 @@
 -- A vector of references is laid.
 use Rattle.std.proofs.Common.{ℕ, ◌+◌, ◌*◌, ◌≡◌, ◌≤◌, ◌<◌, ◌++◌, ◌↔◌, IsTrue, true, false, List, [], ◌∷◌, length}
 use Rattle.std.proofs.Common.{refl, ap, sym, ◌∙◌, arith, append-nil}
-use Rattle.fb_layout.specs.Laid.{StoredKind, scalar_kind, struct_kind, table_kind, union_kind, code_kind, text_kind}
+use Rattle.fb_layout.specs.Laid.{StoredKind, table_kind, union_kind, text_kind}
 use Rattle.fb_layout.specs.Laid.{LaidSchema, one_of}
 use Rattle.fb_value.specs.Datum.{Datum, a_vector}
 use Rattle.fb_value.specs.Places.{vector_part}

@@ -1,6 +1,6 @@
 -- A slot that has no table, union or vector of tables has no union without a name.
 use Rattle.std.proofs.Common.{◌≡◌, ℕ, ◌+◌, List, Bool, true, false, Option, None, Some, refl, if◌then◌else◌}
-use Rattle.fb_schema.specs.declared.kinds.Kind.TheVariants.{Scalar, Enum, Struct, Table, Union, Code, Text}
+use Rattle.fb_schema.specs.declared.kinds.Kind.TheVariants.{Scalar, Enum, Struct, Code, Text}
 use Rattle.fb_schema.specs.declared.kinds.Shape.{Shape}
 use Rattle.fb_schema.specs.declared.kinds.Shape.TheVariants.{One, Many}
 use Rattle.fb_layout.specs.Laid.{LaidSchema, Slot, StoredKind, scalar_kind, struct_kind, code_kind, one_of, stored_kind}

@@ -17,7 +17,7 @@ use Rattle.fb_read.specs.Stored.{number_entry}
 use Rattle.fb_text.specs.Printed.{first_in_entry}
 use Rattle.fb_schema.specs.declared.kinds.TypeId.{TypeId}
 use Rattle.fb_schema.specs.declared.kinds.Kind.{Kind}
-use Rattle.fb_schema.specs.declared.kinds.Kind.TheVariants.{Scalar, Enum, Struct, Table, Union, Code, Text}
+use Rattle.fb_schema.specs.declared.kinds.Kind.TheVariants.{Table}
 use Rattle.fb_schema.specs.Schema.{DeclaredSchema}
 use Rattle.fb_layout.specs.Laid.{stored_kind}
 use Rattle.fb_read.specs.declared.view.View.{View}
@@ -25,7 +25,7 @@ use Rattle.fb_read.specs.Shows.{Shows}
 use Rattle.fb_text.specs.Unnamed.{entry_place, first_unnamed, first_in_parts, first_in_entries, nth_child, child_place}
 use Rattle.fb_text.specs.Unnamed.{unnamed_from}
 use Rattle.fb_text.specs.declared.shown.Found.{Found}
-use Rattle.fb_text.specs.declared.shown.Found.TheVariants.{Absent, Number, Text as TextFound, Vector}
+use Rattle.fb_text.specs.declared.shown.Found.TheVariants.{Vector}
 use Rattle.fb_text.specs.declared.shown.Found.TheVariants.{Struct as StructFound, Table as TableFound, Member, Unknown}
 use Rattle.fb_text.specs.Shown.{IsTop}
 

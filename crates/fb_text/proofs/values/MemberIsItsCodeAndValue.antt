@@ -1,6 +1,6 @@
 -- What the printer's pieces add up to.
 use Rattle.std.proofs.Common.{◌≡◌, ℕ, zero, suc, ◌<◌, ◌||◌, List, [], ◌∷◌, length, map, slice_get, slice_index_or, Bool}
-use Rattle.std.proofs.Common.{true, Option, None, Some, Result, Ok, Err, refl, subst, arith}
+use Rattle.std.proofs.Common.{true, Option, None, Some, Result, Err, refl, subst, arith}
 use Rattle.fb_schema.specs.declared.types.FieldInfo.{FieldInfo}
 use Rattle.fb_schema.specs.Schema.{DeclaredField}
 use Rattle.fb_schema.specs.Seen.{field_seen}
@@ -9,7 +9,7 @@ use Rattle.fb_value.specs.Datum.{Datum, Parts, no_parts, more_parts, count}
 use Rattle.fb_value.specs.Nth.{nth_part}
 use Rattle.fb_text.specs.Texts.{has_code, code_text}
 use Rattle.fb_text.specs.declared.faults.WriteFault.{WriteFault}
-use Rattle.fb_text.specs.declared.faults.WriteFault.TheVariants.{NoMemberName, WriteFailed}
+use Rattle.fb_text.specs.declared.faults.WriteFault.TheVariants.{NoMemberName}
 use Rattle.fb_text.specs.Printed.{is_entry_printed, slot_text, named_text, IfUnnamed}
 use Rattle.fb_text.specs.Writes.{State, Adds}
 use Rattle.fb_text.proofs.noted.PiecesAddUp.{added_then}
