@@ -6,7 +6,8 @@ use Rattle.fb_encode.proofs.slot_texts.field_read.Goals as goal
 
 pub returns-clause-name : goal.returns-clause-name
 returns-clause-name c =
-    name_is_read c.args.name.brackets c.args.name.text.now c.in-Some.name.now ((rw c.in-Some.is at c.in_ok-name.ensures) c.args.name.brackets)
+    name_is_read c.args.name.brackets c.args.name.text.now c.in-Some.name.now
+    ((rw c.in-Some.is at c.in_ok-name.ensures) c.args.name.brackets)
 
 pub returns-clause-field : goal.returns-clause-field
 returns-clause-field c =
