@@ -1,6 +1,6 @@
 //! What the values of a kind are.
 ghost use Rattle.std.specs.Prelude.{◌≡◌, option_map};
-ghost use Rattle.fb_layout.specs.Laid.{LaidSchema, stored_kind};
+ghost use Rattle.fb_layout.specs.Laid.{LaidSchema, align_of, size_of, stored_kind};
 ghost use Rattle.fb_value.specs.Places.{target_of};
 ghost use Rattle.fb_read.specs.Values.{led_to};
 ghost use Rattle.fb_read.specs.Kinds.{base_wanted, structure_wanted, table_wanted, is_text};
@@ -48,6 +48,30 @@ pub fn table_of(kind: Kind) -> Option<TypeId>
         | Kind::Union(_)
         | Kind::Code(_)
         | Kind::Text => None,
+    }
+}
+
+/// The size of an element of this kind in bytes. That of a number or a reference takes no look-up.
+#[inline(always)]
+pub fn size_in(layout: &Layout, kind: Kind) -> u32
+    ensures { result ≡ size_of layout.now (stored_kind layout.now.schema kind) }
+{
+    match kind {
+        Kind::Text | Kind::Table(_) => 4,
+        Kind::Scalar(base) => u32::from(base.size()),
+        Kind::Enum(_) | Kind::Struct(_) | Kind::Union(_) | Kind::Code(_) => layout.size_of(kind),
+    }
+}
+
+/// The alignment of an element of this kind. That of a number or a reference takes no look-up.
+#[inline(always)]
+pub fn align_in(layout: &Layout, kind: Kind) -> u32
+    ensures { result ≡ align_of layout.now (stored_kind layout.now.schema kind) }
+{
+    match kind {
+        Kind::Text | Kind::Table(_) => 4,
+        Kind::Scalar(base) => u32::from(base.size()),
+        Kind::Enum(_) | Kind::Struct(_) | Kind::Union(_) | Kind::Code(_) => layout.align_of(kind),
     }
 }
 

@@ -17,7 +17,7 @@ ghost use Rattle.fb_read.specs.Walks.{place, visit_in, visit_each_in, visit_entr
 ghost use Rattle.fb_read.specs.Walks.{TicksWithin, EntersAt, EntersSlot, EntersSlots, EntersItems};
 
 use crate::buffer::Buffer;
-use crate::kinds::reference_of;
+use crate::kinds::{align_in, reference_of, size_in};
 use crate::places::{follow, held_slot, stored_slots};
 use crate::reference::Reference;
 use crate::rules::{enter_table, open_vector, union_code};
@@ -300,8 +300,8 @@ fn visit_vector<V: Visitor>(
         (stored_kind buffer.now.layout.now.schema kind))) at)) }
 {
     walk.ticks.tick();
-    let size = buffer.layout.size_of(kind);
-    let count = open_vector(buffer.bytes, at, size, buffer.layout.align_of(kind))?;
+    let size = size_in(buffer.layout, kind);
+    let count = open_vector(buffer.bytes, at, size, align_in(buffer.layout, kind))?;
     let most = u64::from(buffer.most_cells);
     let after = walk.spent + (1 + u64::from(count));
     if after > most {

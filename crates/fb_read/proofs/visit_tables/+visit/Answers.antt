@@ -71,7 +71,7 @@ visit_vector-returns-in_err-count-clause-visit g t c =
     let p = err_from_is_err_and c.from_residual.result c.from_residual.ensures.1 in
     let L = c.args.buffer.now.layout.now in
     rw (p.1, p.2) (λ lasts. visit_fault L c.args.buffer.now.bytes.now _ _ c.args.tables c.args.walk.now.spent _
-    (c.in_err-count.ensures.rules L (stored_kind L.schema c.args.kind) c.size_of-size.ensures c.align_of.ensures))
+    (c.in_err-count.ensures.rules L (stored_kind L.schema c.args.kind) c.size_in-size.ensures c.align_in.ensures))
 
 pub visit_slots-returns-clause-each : goal.visit_slots-returns-clause-each
 visit_slots-returns-clause-each g t c es lies =
@@ -85,8 +85,8 @@ visit_vector-returns-in-Some-clause-visit g t c =
     let L = c.args.buffer.now.layout.now in
     let b = c.args.buffer.now.bytes.now in
     let most = limits_of c.args.buffer.now in
-    let keeps = c.in_ok-count.ensures.rules L (stored_kind L.schema c.args.kind) c.size_of-size.ensures
-    c.align_of.ensures in
+    let keeps = c.in_ok-count.ensures.rules L (stored_kind L.schema c.args.kind) c.size_in-size.ensures
+    c.align_in.ensures in
     let long : c.in_ok-count.count ≡ num b c.args.at 4 = c.in_ok-count.ensures.count in
     let small : c.args.walk.now.spent + (1 + num b c.args.at 4) ≤ c.args.buffer.now.most_cells = omega arith in
     let visited = rw (c.from.ensures, long) at c.visit_elements.ensures.visit in
@@ -378,7 +378,7 @@ visit_vector-returns-in_err-count-clause-hears g t c =
     let kind = stored_kind L.schema c.args.kind in
     rw p.1 (λ lasts. rule_heard g.V.Visitor.takes_memory g.V.Visitor.told g.met.V.Visitor.silent c.args.buffer.now
     (place (part_place (vector_part kind)) c.args.at) c.args.tables c.args.walk.now.spent c.args.walk.now.visitor _
-    (c.in_err-count.ensures.rules L kind c.size_of-size.ensures c.align_of.ensures))
+    (c.in_err-count.ensures.rules L kind c.size_in-size.ensures c.align_in.ensures))
 
 pub visit_vector-returns-then-after-most-clause-hears : goal.visit_vector-returns-then-after-most-clause-hears
 visit_vector-returns-then-after-most-clause-hears g t c = λ lasts.
@@ -387,7 +387,7 @@ visit_vector-returns-then-after-most-clause-hears g t c = λ lasts.
     vector_over_heard g.V.Visitor.takes_memory g.V.Visitor.told g.met.V.Visitor.silent c.args.buffer.now kind
     c.args.at c.args.tables
     c.args.walk.now.spent c.in_ok-count.count c.args.walk.now.visitor
-    (c.in_ok-count.ensures.rules L kind c.size_of-size.ensures c.align_of.ensures) c.in_ok-count.ensures.count
+    (c.in_ok-count.ensures.rules L kind c.size_in-size.ensures c.align_in.ensures) c.in_ok-count.ensures.count
     (omega arith)
 
 pub visit_vector-returns-in-Some-clause-hears : goal.visit_vector-returns-in-Some-clause-hears
@@ -397,7 +397,7 @@ visit_vector-returns-in-Some-clause-hears g t c =
     vector_hears g.V.Visitor.takes_memory g.V.Visitor.told g.met.V.Visitor.silent c.args.buffer.now kind
     (led_to c.in-Some.reference) c.args.at c.args.tables
     c.args.walk.now.spent c.in_ok-count.count _ _ c.visit_elements.result (sym (c.in-Some.ensures L))
-    (c.in_ok-count.ensures.rules L kind c.size_of-size.ensures c.align_of.ensures) c.in_ok-count.ensures.count
+    (c.in_ok-count.ensures.rules L kind c.size_in-size.ensures c.align_in.ensures) c.in_ok-count.ensures.count
     (omega arith) (rw c.from.ensures at c.visit_elements.ensures.hears)
 
 pub visit_slot-returns-in-One-Scalar-clause-hears : goal.visit_slot-returns-in-One-Scalar-clause-hears
@@ -629,8 +629,8 @@ visit_vector-returns-in_ok-inlines-in-None g t c =
     let L = c.args.buffer.now.layout.now in
     let b = c.args.buffer.now.bytes.now in
     let most = limits_of c.args.buffer.now in
-    let keeps = c.in_ok-count.ensures.rules L (stored_kind L.schema c.args.kind) c.size_of-size.ensures
-    c.align_of.ensures in
+    let keeps = c.in_ok-count.ensures.rules L (stored_kind L.schema c.args.kind) c.size_in-size.ensures
+    c.align_in.ensures in
     let long : c.from.result ≡ num b c.args.at 4 = c.from.ensures ∙ c.in_ok-count.ensures.count in
     let small : c.args.walk.now.spent + (1 + num b c.args.at 4) ≤ c.args.buffer.now.most_cells = omega arith in
     let none = sym (c.in-None.ensures L) in
