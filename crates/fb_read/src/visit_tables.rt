@@ -1,7 +1,7 @@
 //! A walk over all that is reached from a place.
 //!
 //! A call passes slices and results through memory, which costs more than most rules. So all that is
-//! done at a table is inlined into `visit_table_behind`, but for what is seldom or has a loop of its own.
+//! done at a table is inlined into `visit_table`, but for what is seldom or has a loop of its own.
 ghost use Rattle.std.specs.Prelude.{◌≡◌, ◌+◌, ◌*◌, ◌<◌, ◌≤◌, ◌^◌, length, OnOk, IfOk, Some, None, Err};
 ghost use Rattle.fb_layout.specs.Laid.{StoredKind, Slot, stored_kind, member_by_code};
 ghost use Rattle.fb_value.specs.Num.{num};
@@ -32,6 +32,7 @@ use fb_schema::{FieldInfo, Kind, Shape, TypeId};
 use fb_value::ReadFault;
 
 /// Visits the table behind a reference.
+#[inline(always)]
 #[cycle(visit)]
 #[tactic(auto, using(crate::proofs::visit_tables::VisitsOnePlaceAfterAnother::visit_ref))]
 pub fn visit_table_behind<V: Visitor>(
@@ -60,7 +61,6 @@ pub fn visit_table_behind<V: Visitor>(
     visited
 }
 
-#[inline(always)]
 #[cycle(visit)]
 #[tactic(auto, using(crate::proofs::visit_tables::VisitsOnePlaceAfterAnother::table_limits))]
 fn visit_table<V: Visitor>(
