@@ -1,5 +1,5 @@
 //! Builds buffers.
-ghost use Rattle.std.specs.Prelude.{◌≡◌, ◌≤◌, ◌<◌, ◌+◌, length, true, Bool, IfOk, IfErr};
+ghost use Rattle.std.specs.Prelude.{◌≡◌, ◌≤◌, ◌<◌, length, true, Bool, IfOk, IfErr};
 ghost use Rattle.fb_value.specs.Bounds.{Bounds};
 ghost use Rattle.fb_value.specs.Counts.{cells, depth, is_whole};
 ghost use Rattle.fb_value.specs.Fits.{FitsRoot};
@@ -9,6 +9,7 @@ ghost use Rattle.fb_value.specs.Room.{room_of};
 ghost use Rattle.fb_value.specs.View.{view};
 ghost use Rattle.fb_value.specs.Datum.{Datum};
 ghost use Rattle.fb_build.specs.Covered.{Covered, CoveredFramed, EndsAligned, EndsAlignedFramed};
+ghost use Rattle.fb_build.specs.FramedRoom.{framed_room};
 ghost use Rattle.fb_build.specs.NotedRoots.{NotesRoot};
 ghost use Rattle.fb_build.specs.declared.faults.BuildFault.TheVariants.{TooBig, Memory};
 
@@ -80,13 +81,13 @@ pub fn lay_root<'l>(
     ensures covered { IfOk result (λ b. CoveredFramed prefixed layout.now b.items) }
     ensures aligned { IfOk result (λ b. EndsAlignedFramed prefixed layout.now b.items) }
     ensures short { IfOk result (λ b. (d : Datum) → NotesRoot layout.now tape.entry d
-        → length b.items ≤ front_of prefixed + room_of layout.now d) }
+        → length b.items ≤ framed_room prefixed layout.now d) }
     ensures small { IfOk result (λ b. (d : Datum) → NotesRoot layout.now tape.entry d
-        → front_of prefixed + room_of layout.now d ≤ 2147483647) }
+        → framed_room prefixed layout.now d ≤ 2147483647) }
     ensures too_big { IfErr result (λ e. (d : Datum) → NotesRoot layout.now tape.entry d → e ≡ TooBig
-        → 2147483647 < front_of prefixed + room_of layout.now d) }
+        → 2147483647 < framed_room prefixed layout.now d) }
     ensures memory { IfErr result (λ e. (d : Datum) → NotesRoot layout.now tape.entry d → e ≡ Memory
-        → front_of prefixed + room_of layout.now d ≤ 2147483647) }
+        → framed_room prefixed layout.now d ≤ 2147483647) }
 {
     // What is too big is so whatever memory there is.
     let Some(_) = buffer_room(layout, tape.room().saturating_add(front_of(prefixed))) else {

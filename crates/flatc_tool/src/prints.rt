@@ -47,6 +47,7 @@ pub fn print_to<W: Write>(
         limits,
         raw_binary: raw,
         defaults_json: defaults,
+        size_prefixed: false,
     };
     decode_to(&layout, bytes, &options, out)
 }
@@ -79,6 +80,7 @@ pub fn to_json(
         limits,
         raw_binary: raw,
         defaults_json: defaults,
+        size_prefixed: false,
     };
     decode(alloc, &layout, bytes, &options)
 }

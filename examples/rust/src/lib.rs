@@ -71,6 +71,8 @@ pub struct Options {
     pub raw_binary: bool,
     /// `decode`: includes fields with default values.
     pub defaults_json: bool,
+    /// `encode`, `decode`, `verify`: a 32-bit count of the buffer's bytes is in front of it.
+    pub size_prefixed: bool,
 }
 
 impl Default for Options {
@@ -81,6 +83,7 @@ impl Default for Options {
             unknown_json: false,
             raw_binary: false,
             defaults_json: false,
+            size_prefixed: false,
         }
     }
 }
@@ -94,6 +97,7 @@ impl Options {
             unknown_json: self.unknown_json,
             raw_binary: self.raw_binary,
             defaults_json: self.defaults_json,
+            size_prefixed: self.size_prefixed,
         }
     }
 }

@@ -35,6 +35,7 @@ pub struct Options {
     pub unknown_json: bool,
     pub raw_binary: bool,
     pub defaults_json: bool,
+    pub size_prefixed: bool,
 }
 
 extern "C" {

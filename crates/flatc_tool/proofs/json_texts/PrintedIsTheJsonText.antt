@@ -7,7 +7,7 @@ use Rattle.fb_value.specs.Counts.{is_whole}
 use Rattle.fb_value.specs.Datum.{Datum}
 use Rattle.fb_value.specs.Num.{Bytes}
 use Rattle.fb_value.specs.declared.faults.ReadFault.{ReadFault}
-use Rattle.fb_value.specs.Holds.{Holds, Refuses}
+use Rattle.fb_value.specs.Holds.{HoldsFramed, RefusesFramed}
 use Rattle.fb_json.specs.Meant.{type_place}
 use Rattle.fb_text.specs.Texts.{json_text}
 use Rattle.fb_text.specs.Laws.{TextsAreUtf8}
@@ -15,8 +15,8 @@ use Rattle.fb_text.specs.declared.faults.WriteFault.{WriteFault}
 use Rattle.fb_text.specs.declared.faults.WriteFault.TheVariants.{NoMemberName, WriteFailed}
 use Rattle.fb_text.specs.Printed.{IsPrinted}
 use Rattle.flatc_tool.specs.LayerLaws.{LayerLaws}
-use Rattle.flatc_tool.specs.Jobs.{IsTextOf, MayBeTextOf, TextRefusedOf}
-use Rattle.flatc_tool.specs.Prints.{IsSentOf, PrintRefusedOf, IsOfInput, text_fault}
+use Rattle.flatc_tool.specs.Jobs.{IsTextFramed, MayBeTextFramed, TextRefusedFramed}
+use Rattle.flatc_tool.specs.Prints.{IsSentFramed, PrintRefusedFramed, IsOfInput, text_fault}
 use Rattle.fb_faults.specs.declared.faults.ToolFault.{ToolFault}
 use Rattle.fb_faults.specs.declared.faults.ToolFault.TheVariants.{Schema, Json, Build, Read, Text, Write, Breach}
 use Rattle.fb_faults.specs.declared.faults.ToolFault.TheVariants.{NameMoved}
@@ -33,31 +33,31 @@ at_layout L K table defaults v start known r layout root printed =
     subst (λ (M : LaidSchema). IsPrinted (type_place L.schema.root) v (json_text M defaults v) start known r) layout
     here
 
-module _ (laws : LayerLaws) (b : Bytes) (most : Bounds) (raw defaults : Bool) (L : LaidSchema) (v : Datum)
-    (holds : Holds L most raw b v) (start known : Option (List ℕ)) where
-  text_is : is_whole v ≡ true → IsTextOf L b most raw defaults (json_text L defaults v)
+module _ (laws : LayerLaws) (prefixed : Bool) (b : Bytes) (most : Bounds) (raw defaults : Bool) (L : LaidSchema)
+    (v : Datum) (holds : HoldsFramed prefixed L most raw b v) (start known : Option (List ℕ)) where
+  text_is : is_whole v ≡ true → IsTextFramed prefixed L b most raw defaults (json_text L defaults v)
   text_is whole = record { value = v; holds = holds; whole = whole; spelled = refl }
 
   pub sent : (x : Unit {0}) → IsWellMade L → TextsAreUtf8 L → All (λ x. x < 256) b
       → IsPrinted (type_place L.schema.root) v (json_text L defaults v) start known (Ok x)
-      → IsSentOf L b most raw defaults start known
+      → IsSentFramed prefixed L b most raw defaults start known
   sent x made utf8 small printed =
-      let fits = laws.fits_where_held L most raw b v made small holds in
+      let fits = laws.fits_where_held _ _ L most b v made small holds in
       (json_text L defaults v, text_is printed.0, utf8 defaults v fits, printed.1)
 
   pub unsent : (f : WriteFault)
       → IsPrinted {A = Unit {0}} (type_place L.schema.root) v (json_text L defaults v) start known (Err f)
-      → PrintRefusedOf L b most raw defaults start known (Write f)
+      → PrintRefusedFramed prefixed L b most raw defaults start known (Write f)
   unsent (NoMemberName at) printed = (v, holds, printed)
   unsent (WriteFailed n) printed =
       (json_text L defaults v, text_is printed.0, printed.1, printed.2, printed.3, printed.4)
 
   pub unsent_excludes : (f : WriteFault)
       → IsPrinted {A = Unit {0}} (type_place L.schema.root) v (json_text L defaults v) start known (Err f)
-      → IsOfInput (Write f) → MayBeTextOf L b most raw → ⊥
+      → IsOfInput (Write f) → MayBeTextFramed prefixed L b most raw → ⊥
   unsent_excludes (WriteFailed n) printed rule may = rule
   unsent_excludes (NoMemberName at) printed rule may =
-      let same = laws.one_value L most raw b may.value v may.holds holds in
+      let same = laws.one_value _ _ L most b may.value v may.holds holds in
       let whole = may.whole in
       let told = printed.0 in
       let is : is_whole may.value ≡ is_whole v = ap is_whole same in
@@ -65,9 +65,9 @@ module _ (laws : LayerLaws) (b : Bytes) (most : Bounds) (raw defaults : Bool) (L
 
 -- ---- printing to memory
 
-module _ (L : LaidSchema) (b : Bytes) (most : Bounds) (raw defaults : Bool) (start known : Option (List ℕ)) where
-  pub text_refused : (f : ToolFault) → PrintRefusedOf L b most raw defaults start known f
-      → TextRefusedOf L b most raw (text_fault f)
+module _ (prefixed : Bool) (L : LaidSchema) (b : Bytes) (most : Bounds) (raw defaults : Bool) (start known : Option (List ℕ)) where
+  pub text_refused : (f : ToolFault) → PrintRefusedFramed prefixed L b most raw defaults start known f
+      → TextRefusedFramed prefixed L b most raw (text_fault f)
   text_refused (Read f) refused = refused
   text_refused (Write (NoMemberName at)) refused = refused
   text_refused (Write (WriteFailed n)) refused =
@@ -88,6 +88,7 @@ module _ (L : LaidSchema) (b : Bytes) (most : Bounds) (raw defaults : Bool) (sta
   text_refused Memory refused = absurd refused
 
 -- bytes with a fault hold no value, so that they have no text
-pub bytes_exclude : (L : LaidSchema) (b : Bytes) (most : Bounds) (raw : Bool) (f : ReadFault) → Refuses L most raw b f
-    → MayBeTextOf L b most raw → ⊥
-bytes_exclude L b most raw f refuses may = refuses.1 may.value may.holds
+pub bytes_exclude : (prefixed : Bool) (L : LaidSchema) (b : Bytes) (most : Bounds) (raw : Bool) (f : ReadFault)
+    → RefusesFramed prefixed L most raw b f
+    → MayBeTextFramed prefixed L b most raw → ⊥
+bytes_exclude prefixed L b most raw f refuses may = refuses.1 may.value may.holds

@@ -5,7 +5,8 @@ use Rattle.flatc_tool.proofs.json_texts.PrintedIsTheJsonText.{at_layout, bytes_e
 use Rattle.flatc_tool.proofs.json_texts.decode_to.Goals as goal
 
 pub returns-in-Err-clause-exact : goal.returns-in-Err-clause-exact
-returns-in-Err-clause-exact g c rule = bytes_exclude c.args.layout.now c.args.bytes.now c.args.options.now.limits
+returns-in-Err-clause-exact g c rule = bytes_exclude c.args.options.now.size_prefixed
+    c.args.layout.now c.args.bytes.now c.args.options.now.limits
     c.args.options.now.raw_binary c.in-Err.fault c.in-Err.ensures.fault
 
 pub returns-in-Ok-write_text-clause-printed : goal.returns-in-Ok-write_text-clause-printed
@@ -20,7 +21,7 @@ returns-in-Ok-write_text-clause-printed g c =
     All-from_get_or (λ x. x < 256) c.args.bytes.now 0 (λ i less. (let fits = c.type_inv.bytes i in omega arith)) in
     let root = at_layout L view.layout.now view.table.0 c.args.options.now.defaults_json held.0 start known (Ok tt)
     c.in-Ok.ensures.root.0 c.in-Ok.ensures.root.1 printed in
-    sent c.layer_laws.ensures.laws c.args.bytes.now c.args.options.now.limits c.args.options.now.raw_binary
+    sent c.layer_laws.ensures.laws c.args.options.now.size_prefixed c.args.bytes.now c.args.options.now.limits c.args.options.now.raw_binary
     c.args.options.now.defaults_json L held.0 held.1 start known tt c.schema-schema.ensures.made
     c.texts_are_utf8.ensures small
     root
@@ -36,7 +37,7 @@ returns-in-Err-write_text-clause-refused g c =
     let printed = c.in-Err-write_text.ensures.printed held.0 (c.in-Ok.ensures.stands held.0 held.1) in
     let root = at_layout L view.layout.now view.table.0 c.args.options.now.defaults_json held.0 start known (Err fault)
     c.in-Ok.ensures.root.0 c.in-Ok.ensures.root.1 printed in
-    unsent c.layer_laws.ensures.laws c.args.bytes.now c.args.options.now.limits c.args.options.now.raw_binary
+    unsent c.layer_laws.ensures.laws c.args.options.now.size_prefixed c.args.bytes.now c.args.options.now.limits c.args.options.now.raw_binary
     c.args.options.now.defaults_json L held.0 held.1 start known fault root
 
 pub returns-in-Err-write_text-clause-exact : goal.returns-in-Err-write_text-clause-exact
@@ -50,5 +51,5 @@ returns-in-Err-write_text-clause-exact g c rule =
     let printed = c.in-Err-write_text.ensures.printed held.0 (c.in-Ok.ensures.stands held.0 held.1) in
     let root = at_layout L view.layout.now view.table.0 c.args.options.now.defaults_json held.0 start known (Err fault)
     c.in-Ok.ensures.root.0 c.in-Ok.ensures.root.1 printed in
-    unsent_excludes c.layer_laws.ensures.laws c.args.bytes.now c.args.options.now.limits
+    unsent_excludes c.layer_laws.ensures.laws c.args.options.now.size_prefixed c.args.bytes.now c.args.options.now.limits
     c.args.options.now.raw_binary c.args.options.now.defaults_json L held.0 held.1 start known fault root rule
