@@ -33,7 +33,7 @@ pub use fb_value::{
 };
 pub use headline::{
     chains_carry, chains_conform, json_is_carried, old_programs_read, old_texts_are_carried,
-    old_texts_are_read, other_json_is_refused, others_are_refused,
+    old_texts_are_read, other_json_is_refused, others_are_refused, streams_are_split,
 };
 pub use jobs::to_binary;
 pub use json_texts::{decode, decode_to};
