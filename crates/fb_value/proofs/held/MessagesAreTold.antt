@@ -6,6 +6,7 @@ use Rattle.std.proofs.lemmas.Bool.Decides.{nat_tests}
 use Rattle.std.proofs.lemmas.List.{get_or_append_left, append_cancel_left}
 use Rattle.std.proofs.Math.Seq.{take-append_seam}
 use Rattle.fb_value.specs.Num.{Bytes, num}
+use Rattle.fb_value.specs.Rules.{first_failing}
 use Rattle.fb_value.specs.Holds.{prefixed_fault}
 use Rattle.fb_value.specs.Messages.{IsMessage, OneMessageInFront, MessageIsWhole, HeldIsMessage}
 use Rattle.fb_value.proofs.rules.RulesHoldOneByOne.{rule_held}
