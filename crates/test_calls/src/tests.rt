@@ -8,6 +8,7 @@ mod conform;
 mod explanations;
 mod fault_lines;
 mod fault_sentences;
+mod messages;
 mod options;
 mod pages;
 mod print_to;
