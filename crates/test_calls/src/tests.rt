@@ -10,6 +10,7 @@ mod fault_lines;
 mod fault_sentences;
 mod options;
 mod pages;
+mod pieces;
 mod print_to;
 mod report;
 mod request_of;
