@@ -11,6 +11,7 @@ mod fault_sentences;
 mod messages;
 mod options;
 mod pages;
+mod pieces;
 mod print_to;
 mod report;
 mod request_of;
