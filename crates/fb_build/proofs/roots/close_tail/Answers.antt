@@ -5,4 +5,3 @@ use Rattle.fb_build.proofs.roots.TailWithItsRootIsABuffer.{whole_lies, whole_hol
 use Rattle.fb_build.proofs.roots.CountedTailIsABuffer.{IsCounted, counted_lies, counted_holds, counted_old}
 use Rattle.fb_build.proofs.roots.CountedTailIsABuffer.{counted_behind}
 use Rattle.fb_build.proofs.roots.close_tail.Goals as goal
-
