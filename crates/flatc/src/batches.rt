@@ -97,6 +97,7 @@ fn write_text<'j>(
             raw_binary,
             defaults_json,
             size_prefixed: false,
+            compact: false,
         },
         fault: None,
     };

@@ -20,6 +20,7 @@ pub(crate) fn printed_of(
         raw_binary: raw,
         defaults_json: defaults,
         size_prefixed: true,
+        compact: false,
     };
     decode(case.alloc, case.layout, bytes, &options)
 }
