@@ -101,6 +101,13 @@ static void settings(void) {
     tell("and behind it", encode("{\"a\":7}") == FLATC_OK && made.size == 24 && made.data[0] == 20 &&
          made.data[20] == 7);
     options.size_prefixed = false;
+    options.compact = true;
+    tell("a size before the flag of a compact text", encode("{\"a\":7}") == FLATC_OK &&
+         flatc_decode(&schema, made.data, made.size, &options, &text, &fault) == FLATC_OK && text.size == 13);
+    options.size = 14;
+    tell("and behind it", flatc_decode(&schema, made.data, made.size, &options, &text, &fault) == FLATC_OK &&
+         text.size == 7 && memcmp(text.data, "{\"a\":7}", 7) == 0);
+    options.compact = false;
     options.size = sizeof options;
     options.max_cells = 0;
     tell("no cell", encode("{\"a\":1}") == FLATC_REFUSED && strcmp(fault.name, "TooManyCells") == 0);

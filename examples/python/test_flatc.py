@@ -51,6 +51,10 @@ class Messages(unittest.TestCase):
         with self.assertRaises(flatc.Refused):
             self.schema.verify(buffer)
 
+    def test_a_text_is_compact_where_asked(self):
+        text = self.schema.decode(self.schema.encode(JSON), compact=True)
+        self.assertEqual(text, json.dumps(json.loads(JSON), separators=(",", ":")))
+
     def test_text_may_be_str(self):
         self.assertEqual(flatc.Schema(TEXT.decode()).encode(JSON.decode()), self.schema.encode(JSON))
 

@@ -71,7 +71,9 @@ pub(crate) fn push_other_framing(page: &mut Page, layout: &Layout, sources: &Sou
         Some(count) if count > 1 => {
             page.push_str("these may be ");
             page.push_number(count);
-            page.push_line(" size-prefixed buffers, one behind the other: --lines reads a stream of them");
+            page.push_line(
+                " size-prefixed buffers, one behind the other: --lines reads a stream of them",
+            );
         }
         _ => {}
     }

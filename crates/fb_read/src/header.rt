@@ -1,6 +1,6 @@
 //! The rules of a buffer's front: its count, if it has one, and its header.
-ghost use Rattle.std.specs.Prelude.{◌≡◌, ◌≤◌, ◌<◌, ◌+◌, ◌^◌, [], length, MatchResult, OnOk, None, Some, Err};
-ghost use Rattle.fb_value.specs.Rules.{first_failing};
+ghost use Rattle.std.specs.Prelude.{◌≡◌, ◌≤◌, ◌<◌, ◌+◌, ◌^◌, List, length, MatchResult, OnOk, None, Some, Err};
+ghost use Rattle.fb_value.specs.Rules.{Rule, first_failing};
 ghost use Rattle.fb_value.specs.Holds.{header_rules, count_rules, front_of, front_fault, checked_identifier};
 
 use crate::numbers::u32_at;
@@ -52,12 +52,12 @@ fn check_header(bytes: &[u8], front: usize, identifier: Option<[u8; 4]>) -> Resu
     }
 }
 
-/// Checks that a count in front is the length of what follows it.
+/// Checks that a count in front is the length of what follows it, before other rules are.
 #[tactic(auto, unfolding(fb_value::specs::Rules::first_failing))]
 fn check_count(bytes: &[u8]) -> Result<(), ReadFault>
     ensures rules { MatchResult result
-        (λ _. first_failing (count_rules bytes.now []) ≡ None)
-        (λ f. first_failing (count_rules bytes.now []) ≡ Some f) }
+        (λ _. (others : List Rule) → first_failing (count_rules bytes.now others) ≡ first_failing others)
+        (λ f. (others : List Rule) → first_failing (count_rules bytes.now others) ≡ Some f) }
     ensures rule { result ≡ Err ReadFault.Memory → ⊥ }
 {
     if bytes.len() < 4 {
@@ -87,11 +87,12 @@ pub fn check_front(
     ensures long { OnOk result (front_of prefixed + 4 ≤ length bytes.now) }
     ensures rule { result ≡ Err ReadFault.Memory → ⊥ }
 {
-    if prefixed {
-        check_count(bytes)?;
-        check_header(bytes, 4, identifier)
-    } else {
-        check_header(bytes, 0, identifier)
+    if !prefixed {
+        return check_header(bytes, 0, identifier);
+    }
+    match check_count(bytes) {
+        Ok(()) => check_header(bytes, 4, identifier),
+        Err(fault) => Err(fault),
     }
 }
 

@@ -105,6 +105,7 @@ impl Flags {
             raw_binary: self.raw_binary,
             defaults_json: self.defaults_json,
             size_prefixed: self.form.size_prefixed,
+            compact: self.form.compact,
         }
     }
 }

@@ -21,6 +21,9 @@ defaults_of o = if nat_lt o.size 12 then false else o.defaults_json
 abbrev pub prefixed_of : Options → Bool
 prefixed_of o = if nat_lt o.size 13 then false else o.size_prefixed
 
+abbrev pub compact_of : Options → Bool
+compact_of o = if nat_lt o.size 14 then false else o.compact
+
 abbrev pub limits_of : Options → Bounds
 limits_of o = record { depth = depth_of o; cells = cells_of o }
 

@@ -7,7 +7,7 @@ ghost use Rattle.flatc_tool.specs.Jobs.{IsBinaryFramed, MayBeBinaryFramed, Binar
 ghost use Rattle.flatc_tool.specs.Jobs.{IsTextFramed, MayBeTextFramed, TextRefusedFramed};
 ghost use Rattle.flatc_c.specs.Handles.{HasLayout, HasBytes, layout_of};
 ghost use Rattle.flatc_c.specs.Faults.{Told, OnReadFault};
-ghost use Rattle.flatc_c.specs.Settings.{limits_of, unknown_of, raw_of, defaults_of, prefixed_of, AreSet};
+ghost use Rattle.flatc_c.specs.Settings.{limits_of, unknown_of, raw_of, defaults_of, prefixed_of, compact_of, AreSet};
 
 use crate::contents::{clear, give, put, take};
 use crate::faults::{Fault, told};
@@ -81,7 +81,7 @@ pub extern "C" fn flatc_decode(
     out: &mut Bytes,
     fault: &mut Fault,
 ) -> u32
-    ensures text { (result ≡ 0) → HasLayout schema.old.held.value (λ L. HasBytes out.new (IsTextFramed (prefixed_of options.now) L
+    ensures text { (result ≡ 0) → HasLayout schema.old.held.value (λ L. HasBytes out.new (IsTextFramed (compact_of options.now) (prefixed_of options.now) L
         buffer.now (limits_of options.now) (raw_of options.now) (defaults_of options.now))) }
     ensures refused { (result ≡ 1) → HasLayout schema.old.held.value (λ L. Told fault.new
         (TextRefusedFramed (prefixed_of options.now) L buffer.now (limits_of options.now) (raw_of options.now))) }
@@ -106,6 +106,7 @@ pub extern "C" fn flatc_decode(
         raw_binary: options.is_raw(),
         defaults_json: options.has_defaults(),
         size_prefixed: options.has_prefix(),
+        compact: options.is_compact(),
     };
     let made = match kept.layout() {
         Some(layout) => Some(decode(alloc, layout, buffer, &options)),

@@ -1,6 +1,6 @@
 //! How C wants a call done.
 ghost use Rattle.std.specs.Prelude.{◌≡◌, SomeIff};
-ghost use Rattle.flatc_c.specs.Settings.{cells_of, depth_of, unknown_of, raw_of, defaults_of, prefixed_of};
+ghost use Rattle.flatc_c.specs.Settings.{cells_of, depth_of, unknown_of, raw_of, defaults_of, prefixed_of, compact_of};
 ghost use Rattle.flatc_c.specs.Settings.{limits_of, AreSet};
 
 use flatc_tool::Limits;
@@ -18,6 +18,7 @@ pub struct Options {
     pub raw_binary: bool,
     pub defaults_json: bool,
     pub size_prefixed: bool,
+    pub compact: bool,
 }
 
 impl Options {
@@ -79,6 +80,13 @@ impl Options {
         } else {
             self.size_prefixed
         }
+    }
+
+    /// Whether a text has no blanks and line feeds.
+    pub(crate) fn is_compact(&self) -> bool
+        ensures { result ≡ compact_of self.now }
+    {
+        if self.size < 14 { false } else { self.compact }
     }
 
     /// The limits, if the size is 4 to 16 and the depth 1 to 127.

@@ -14,7 +14,9 @@ use Rattle.fb_json.specs.declared.faults.JsonFault.TheVariants as the_json
 use Rattle.fb_text.specs.declared.faults.TextFault.TheVariants as the_text
 use Rattle.fb_json.specs.Means.{Means}
 use Rattle.fb_json.specs.Meant.{type_place}
-use Rattle.fb_text.specs.Texts.{json_text}
+use Rattle.fb_text.specs.Texts.{spaced_text}
+use Rattle.fb_text.specs.declared.indents.Spacing.{Spacing}
+use Rattle.fb_text.specs.declared.indents.Spacing.TheVariants.{Indented, Compact}
 use Rattle.fb_text.specs.Unnamed.{IsRefused as IsUnnamed}
 use Rattle.fb_build.specs.Covered.{CoveredFramed, EndsAlignedFramed}
 use Rattle.fb_build.specs.FramedRoom.{framed_room}
@@ -98,17 +100,22 @@ BinaryRefused schema json most unknown f = OfLayout schema (λ L. BinaryRefusedO
 
 -- ---- a buffer to JSON
 
+-- compact or indented
+abbrev pub spacing_of : Bool → Spacing
+spacing_of false = Indented
+spacing_of true = Compact
+
 -- The text of the value that the bytes hold under a layout. It has no code that the schema doesn't know.
-pub record IsTextFramed (prefixed : Bool) (L : LaidSchema) (b : Bytes) (most : Bounds) (raw defaults : Bool)
+pub record IsTextFramed (compact prefixed : Bool) (L : LaidSchema) (b : Bytes) (most : Bounds) (raw defaults : Bool)
     (text : List ℕ) : Type 0 where
   pub value : Datum
   pub holds : HoldsFramed prefixed L most raw b value
   pub whole : is_whole value ≡ true
-  pub spelled : text ≡ json_text L defaults value
+  pub spelled : text ≡ spaced_text (spacing_of compact) L defaults value
 
--- of a buffer alone
+-- the indented text of a buffer alone
 abbrev pub IsTextOf : LaidSchema → Bytes → Bounds → Bool → Bool → List ℕ → Type 0
-IsTextOf L b most raw defaults text = IsTextFramed false L b most raw defaults text
+IsTextOf L b most raw defaults text = IsTextFramed false false L b most raw defaults text
 
 -- the text of the value that the bytes hold under a schema text
 abbrev pub IsText : List ℕ → Bytes → Bounds → Bool → Bool → List ℕ → Type 0

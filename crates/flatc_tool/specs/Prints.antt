@@ -18,14 +18,14 @@ use Rattle.fb_faults.specs.declared.faults.ToolFault.{ToolFault}
 use Rattle.fb_faults.specs.declared.faults.ToolFault.TheVariants.{Schema, Read, Text, Write}
 
 -- All of the text of the bytes under a layout, which is UTF-8, was written behind the bytes of the start.
-abbrev pub IsSentFramed : Bool → LaidSchema → Bytes → Bounds → Bool → Bool → Option (List ℕ) → Option (List ℕ)
+abbrev pub IsSentFramed : Bool → Bool → LaidSchema → Bytes → Bounds → Bool → Bool → Option (List ℕ) → Option (List ℕ)
     → Type 0
-IsSentFramed prefixed L b most raw defaults start known =
-    (text : List ℕ) × IsTextFramed prefixed L b most raw defaults text × IsUtf8 text × Appends start known text
+IsSentFramed compact prefixed L b most raw defaults start known =
+    (text : List ℕ) × IsTextFramed compact prefixed L b most raw defaults text × IsUtf8 text × Appends start known text
 
--- of a buffer alone
+-- the indented text of a buffer alone
 abbrev pub IsSentOf : LaidSchema → Bytes → Bounds → Bool → Bool → Option (List ℕ) → Option (List ℕ) → Type 0
-IsSentOf L b most raw defaults start known = IsSentFramed false L b most raw defaults start known
+IsSentOf L b most raw defaults start known = IsSentFramed false false L b most raw defaults start known
 
 -- the same under a schema text
 abbrev pub IsSent : List ℕ → Bytes → Bounds → Bool → Bool → Option (List ℕ) → Option (List ℕ) → Type 0
@@ -33,20 +33,20 @@ IsSent schema b most raw defaults start known = OfLayout schema (λ L. IsSentOf 
 
 -- The least fault of the bytes, or the first union's code without a name; else a write failed behind the first bytes
 -- of the text, as many as it counts.
-abbrev pub PrintRefusedFramed : Bool → LaidSchema → Bytes → Bounds → Bool → Bool → Option (List ℕ) → Option (List ℕ)
-    → ToolFault → Type 0
-PrintRefusedFramed prefixed L b most raw defaults start known (Read f) = RefusesFramed prefixed L most raw b f
-PrintRefusedFramed prefixed L b most raw defaults start known (Write (NoMemberName at)) =
+abbrev pub PrintRefusedFramed : Bool → Bool → LaidSchema → Bytes → Bounds → Bool → Bool → Option (List ℕ)
+    → Option (List ℕ) → ToolFault → Type 0
+PrintRefusedFramed compact prefixed L b most raw defaults start known (Read f) = RefusesFramed prefixed L most raw b f
+PrintRefusedFramed compact prefixed L b most raw defaults start known (Write (NoMemberName at)) =
     (v : Datum) × HoldsFramed prefixed L most raw b v
     × IsUnnamed (type_place L.schema.root) v (the_text.NoMemberName at)
-PrintRefusedFramed prefixed L b most raw defaults start known (Write (WriteFailed n)) =
-    (text : List ℕ) × IsTextFramed prefixed L b most raw defaults text × (m : ℕ) × (m < length text)
+PrintRefusedFramed compact prefixed L b most raw defaults start known (Write (WriteFailed n)) =
+    (text : List ℕ) × IsTextFramed compact prefixed L b most raw defaults text × (m : ℕ) × (m < length text)
     × Appends start known (take m text) × (n ≡ counted m)
-PrintRefusedFramed prefixed L b most raw defaults start known _ = ⊥
+PrintRefusedFramed compact prefixed L b most raw defaults start known _ = ⊥
 
 abbrev pub PrintRefusedOf : LaidSchema → Bytes → Bounds → Bool → Bool → Option (List ℕ) → Option (List ℕ) → ToolFault
     → Type 0
-PrintRefusedOf L b most raw defaults start known f = PrintRefusedFramed false L b most raw defaults start known f
+PrintRefusedOf L b most raw defaults start known f = PrintRefusedFramed false false L b most raw defaults start known f
 
 -- The refusal of the schema, which is checked first, or one under its layout.
 abbrev pub PrintRefused : List ℕ → Bytes → Bounds → Bool → Bool → Option (List ℕ) → Option (List ℕ) → ToolFault → Type 0

@@ -1,7 +1,7 @@
 //! Buffers printed as JSON texts under a layout.
 ghost use Rattle.std.specs.Prelude.{◌≡◌, IfOk, IfErr, OnOk, false, string_bytes};
 ghost use Rattle.fb_text.specs.Noted.{write_failed, writer_of};
-ghost use Rattle.flatc_tool.specs.Jobs.{IsTextFramed, MayBeTextFramed, TextRefusedFramed, IsNotMemory};
+ghost use Rattle.flatc_tool.specs.Jobs.{IsTextFramed, MayBeTextFramed, TextRefusedFramed, IsNotMemory, spacing_of};
 ghost use Rattle.flatc_tool.specs.Prints.{IsSentFramed, PrintRefusedFramed, TellsFailure, IfUnwritten, IsOfInput, text_fault};
 
 use crate::laws::layer_laws;
@@ -9,9 +9,21 @@ use crate::options::DecodeOptions;
 use fb_faults::ToolFault;
 use fb_layout::Layout;
 use fb_read::{Entries, verify_framed};
-use fb_text::{Noted, TextFault, WriteFault, texts_are_utf8, write_text};
+use fb_text::{Noted, Spacing, TextFault, WriteFault, spaced_texts_are_utf8, write_spaced};
 use std::alloc::Global;
 use std::io::Write;
+
+/// How a text is spaced.
+#[inline(always)]
+fn spacing_of(compact: bool) -> Spacing
+    ensures { result ≡ spacing_of compact }
+{
+    if compact {
+        Spacing::Compact
+    } else {
+        Spacing::Indented
+    }
+}
 
 /// Writes the JSON text of the value that a buffer holds under a layout, which may be kept for any
 /// number of buffers.
@@ -26,9 +38,9 @@ pub fn decode_to<W: Write>(
     out: &mut Noted<W>,
 ) -> Result<(), ToolFault>
     requires fresh { write_failed out.old ≡ false }
-    ensures printed { OnOk result (IsSentFramed options.now.size_prefixed layout.now bytes.now options.now.limits options.now.raw_binary
+    ensures printed { OnOk result (IsSentFramed options.now.compact options.now.size_prefixed layout.now bytes.now options.now.limits options.now.raw_binary
         options.now.defaults_json (W.contents (writer_of out.old)) (W.contents (writer_of out.new))) }
-    ensures refused { IfErr result (PrintRefusedFramed options.now.size_prefixed layout.now bytes.now options.now.limits
+    ensures refused { IfErr result (PrintRefusedFramed options.now.compact options.now.size_prefixed layout.now bytes.now options.now.limits
         options.now.raw_binary options.now.defaults_json
         (W.contents (writer_of out.old)) (W.contents (writer_of out.new))) }
     ensures failed { TellsFailure (write_failed out.new) result }
@@ -37,7 +49,7 @@ pub fn decode_to<W: Write>(
         → ¬ MayBeTextFramed options.now.size_prefixed layout.now bytes.now options.now.limits options.now.raw_binary) }
 {
     layer_laws();
-    texts_are_utf8(layout);
+    spaced_texts_are_utf8(layout);
     let _schema = layout.schema(); // its contract: the layout is well made
     let mut entries = Entries::new();
     let view = match verify_framed(
@@ -51,7 +63,7 @@ pub fn decode_to<W: Write>(
         Ok(view) => view,
         Err(fault) => return Err(ToolFault::Read(fault)),
     };
-    match write_text(&view, options.defaults_json, out) {
+    match write_spaced(&view, options.defaults_json, spacing_of(options.compact), out) {
         Ok(()) => Ok(()),
         Err(fault) => Err(ToolFault::Write(fault)),
     }
@@ -80,7 +92,7 @@ pub fn decode(
     bytes: &[u8],
     options: &DecodeOptions,
 ) -> Result<String, ToolFault>
-    ensures text { IfOk result (λ s. IsTextFramed options.now.size_prefixed layout.now bytes.now options.now.limits options.now.raw_binary
+    ensures text { IfOk result (λ s. IsTextFramed options.now.compact options.now.size_prefixed layout.now bytes.now options.now.limits options.now.raw_binary
         options.now.defaults_json (string_bytes s)) }
     ensures refused { IfErr result
         (TextRefusedFramed options.now.size_prefixed layout.now bytes.now options.now.limits options.now.raw_binary) }

@@ -52,7 +52,8 @@ impl Default for EncodeOptions {
 }
 
 /// How a buffer is made a JSON text. By default: within the usual limits, the file identifier is
-/// checked, scalars with their default values are left out, and no length is in front of the buffer.
+/// checked, scalars with their default values are left out, no length is in front of the buffer, and the text
+/// is indented.
 #[derive(Clone, Copy)]
 pub struct DecodeOptions {
     /// How deep tables may be nested, and how many cells there may be.
@@ -63,22 +64,26 @@ pub struct DecodeOptions {
     pub defaults_json: bool,
     /// Takes the count of the buffer's bytes in front, as `--size-prefixed` does.
     pub size_prefixed: bool,
+    /// Leaves out blanks and line feeds outside strings, as `--compact` does.
+    pub compact: bool,
 }
 
 impl DecodeOptions {
-    /// The usual limits, the file identifier is checked, default values are left out, and a buffer has no
-    /// count in front.
+    /// The usual limits, the file identifier is checked, default values are left out, a buffer has no
+    /// count in front, and a text is indented.
     pub fn new() -> DecodeOptions
         ensures limits { result.limits ≡ usual_limits }
         ensures raw { result.raw_binary ≡ false }
         ensures defaults { result.defaults_json ≡ false }
         ensures prefixed { result.size_prefixed ≡ false }
+        ensures compact { result.compact ≡ false }
     {
         DecodeOptions {
             limits: usual_limits(),
             raw_binary: false,
             defaults_json: false,
             size_prefixed: false,
+            compact: false,
         }
     }
 }
@@ -89,6 +94,7 @@ impl Default for DecodeOptions {
         ensures raw { result.raw_binary ≡ false }
         ensures defaults { result.defaults_json ≡ false }
         ensures prefixed { result.size_prefixed ≡ false }
+        ensures compact { result.compact ≡ false }
     {
         DecodeOptions::new()
     }

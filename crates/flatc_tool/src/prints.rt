@@ -48,6 +48,7 @@ pub fn print_to<W: Write>(
         raw_binary: raw,
         defaults_json: defaults,
         size_prefixed: false,
+        compact: false,
     };
     decode_to(&layout, bytes, &options, out)
 }
@@ -81,6 +82,7 @@ pub fn to_json(
         raw_binary: raw,
         defaults_json: defaults,
         size_prefixed: false,
+        compact: false,
     };
     decode(alloc, &layout, bytes, &options)
 }

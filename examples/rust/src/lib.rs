@@ -73,6 +73,8 @@ pub struct Options {
     pub defaults_json: bool,
     /// `encode`, `decode`, `verify`: a 32-bit count of the buffer's bytes is in front of it.
     pub size_prefixed: bool,
+    /// `decode`: no blanks and line feeds outside strings.
+    pub compact: bool,
 }
 
 impl Default for Options {
@@ -84,6 +86,7 @@ impl Default for Options {
             raw_binary: false,
             defaults_json: false,
             size_prefixed: false,
+            compact: false,
         }
     }
 }
@@ -98,6 +101,7 @@ impl Options {
             raw_binary: self.raw_binary,
             defaults_json: self.defaults_json,
             size_prefixed: self.size_prefixed,
+            compact: self.compact,
         }
     }
 }

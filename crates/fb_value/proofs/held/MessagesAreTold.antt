@@ -1,16 +1,18 @@
 -- Size-prefixed buffers are told apart by their counts.
 use Rattle.std.proofs.Common.{◌≡◌, ℕ, zero, suc, ◌+◌, ◌≤◌, ◌++◌, Option, None, length, take, refl}
-use Rattle.std.proofs.Common.{ap, sym, ◌∙◌, arith}
+use Rattle.std.proofs.Common.{ap, sym, ◌∙◌, arith, length-append}
+use Rattle.std.proofs.lemmas.Bool.{le-leb}
 use Rattle.std.proofs.lemmas.Bool.Decides.{nat_tests}
 use Rattle.std.proofs.lemmas.List.{get_or_append_left, append_cancel_left}
 use Rattle.std.proofs.Math.Seq.{take-append_seam}
 use Rattle.fb_value.specs.Num.{Bytes, num}
+use Rattle.fb_value.specs.Rules.{first_failing}
 use Rattle.fb_value.specs.Holds.{prefixed_fault}
-use Rattle.fb_value.specs.Messages.{IsMessage, OneMessageInFront, HeldIsMessage}
+use Rattle.fb_value.specs.Messages.{IsMessage, OneMessageInFront, MessageIsWhole, HeldIsMessage}
 use Rattle.fb_value.proofs.rules.RulesHoldOneByOne.{rule_held}
 
 -- a number in the first of two lists of bytes
-num_before : (m rest : Bytes) (p n : ℕ) → p + n ≤ length m → num (m ++ rest) p n ≡ num m p n
+pub num_before : (m rest : Bytes) (p n : ℕ) → p + n ≤ length m → num (m ++ rest) p n ≡ num m p n
 unfolding num
 num_before m rest p zero within = refl
 num_before m rest p (suc n) within =
@@ -29,6 +31,16 @@ one_in_front_shown m n rest more first second same =
     let is : m ≡ n = sym (take-append_seam m rest) ∙ ap (take (length m)) same
     ∙ ap (λ k. take k (n ++ more)) long ∙ take-append_seam n more in
     (is, append_cancel_left n rest more (ap (λ b. b ++ rest) (sym is) ∙ same))
+
+pub whole_shown : MessageIsWhole
+unfolding first_failing
+whole_shown m rest h =
+    let all = length-append m rest in
+    let same = num_before m rest 0 4 h.long in
+    rw (
+      le-leb 4 (length (m ++ rest)) (omega (arith, all, h.long)),
+      le-leb (4 + num (m ++ rest) 0 4) (length (m ++ rest)) (omega (arith, all, same, h.counted)),
+    ) refl
 
 counts : (b : Bytes) (id : Option Bytes) → prefixed_fault b id ≡ None → IsMessage b
 unfolding prefixed_fault

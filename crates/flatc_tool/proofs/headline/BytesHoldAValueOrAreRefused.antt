@@ -96,7 +96,7 @@ module _ (laws : LayerLaws) (schema json : List ℕ) (most : Bounds) (unknown : 
 
   pub carried_on : (raw : Bool) (K : LaidSchema) (new : List ℕ) → IsAccepted new K → Conforms L K
       → Holds K most raw b (carry L K v)
-  carried_on raw K new other conforms = laws.carried_holds L K most raw b v accepted.made other.made conforms is_known
+  carried_on raw K new other conforms = laws.carried_holds false L K most raw b v accepted.made other.made conforms is_known
       in_use (held raw)
 
   evolved : (raw : Bool) (new : List ℕ) (K : LaidSchema) → TextsConform schema new → IsAccepted new K

@@ -1,4 +1,4 @@
-use Rattle.std.proofs.Common.{◌≤◌, [], arith}
+use Rattle.std.proofs.Common.{◌+◌, ◌≤◌, [], arith}
 use Rattle.fb_layout.specs.Widths.{greatest}
 use Rattle.fb_build.specs.TapeLaid.{tape_most}
 use Rattle.fb_build.proofs.taped.PaddedToTheGreatest.{ops_low}

@@ -37,7 +37,8 @@ returns-clause-deep c =
 
 pub returns-clause-nests : goal.returns-clause-nests
 returns-clause-nests c =
-    answer_nests (front_of c.args.prefixed) _ c.args.layout.now c.args.limits c.args.bytes.now c.schema-schema.ensures.made
+    answer_nests (front_of c.args.prefixed)
+    (front_fault c.args.prefixed c.args.bytes.now (checked_identifier c.args.layout.now c.args.raw)) c.args.layout.now c.args.limits c.args.bytes.now c.schema-schema.ensures.made
     c.visit_table_behind-value.result (returns-clause-fits c) (returns-clause-deep c)
 
 pub returns-clause-fault : goal.returns-clause-fault

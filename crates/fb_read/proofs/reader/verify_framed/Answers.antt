@@ -1,6 +1,6 @@
 use Rattle.std.proofs.lemmas.Grind.{merely}
 use Rattle.std.proofs.lemmas.Result.{err_from_is_err_and}
-use Rattle.std.proofs.Common.{◌≡◌, None}
+use Rattle.std.proofs.Common.{◌≡◌, None, arith}
 use Rattle.fb_value.specs.Holds.{front_of, front_fault, checked_identifier}
 use Rattle.fb_read.proofs.reader.RootVisitDecides.{refused_root, held_root, view_lies}
 use Rattle.fb_read.proofs.reader.verify_framed.Goals as goal
@@ -46,8 +46,10 @@ invariant_of-result c =
       c.schema-schema.ensures.schema,
     ) at (rw c.in_ok-visited.was at c.visit_table_behind-visited.ensures.visit) in
     let root = rw c.schema-schema.ensures.schema at c.root-2.ensures in
+    let from = c.front_of-front.ensures.exact in
+    let there = rw from at c.u32_at.ensures in
     record {
       short = c.in_ok-check_front.ensures.short;
       lies = merely (view_lies (front_of c.args.prefixed) _ c.args.layout.now c.args.limits c.args.bytes.now c.schema-schema.ensures.made
-          _ _ _ header fine root c.u32_at-at.ensures);
+          _ _ _ header fine root (omega (arith, from, there)));
     }

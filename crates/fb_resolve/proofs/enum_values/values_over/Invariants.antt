@@ -1,6 +1,6 @@
 use Rattle.std.proofs.Common.{◌≡◌, ◌++◌, map, drop, string_bytes, ◌+◌, ◌≤◌, length, vec_len, vec_capacity}
-use Rattle.fb_resolve.specs.EnumsRead.{value_over}
-use Rattle.fb_resolve.proofs.enums.values_over.Given as goal
+use Rattle.fb_resolve.specs.EnumValues.{value_over}
+use Rattle.fb_resolve.proofs.enum_values.values_over.Given as goal
 
 abbrev pub invariant-loop-resolved : goal.invariant-loop-resolved
 invariant-loop-resolved l = record {

@@ -1,8 +1,8 @@
 use Rattle.std.proofs.Common.{rules, ap, sym, ◌∙◌}
 use Rattle.fb_scopes.specs.Scopes.{names_of}
-use Rattle.fb_resolve.specs.EnumsRead.{integer_type}
+use Rattle.fb_resolve.specs.EnumValues.{integer_type}
 use Rattle.fb_resolve.proofs.PathsKept.{first_use}
-use Rattle.fb_resolve.proofs.scope.Scope.resolved_enum.Goals as goal
+use Rattle.fb_resolve.proofs.type_uses.Scope.resolved_enum.Goals as goal
 
 pub meaning-requires-clause-noted : goal.meaning-requires-clause-noted
 meaning-requires-clause-noted c = (

@@ -1,8 +1,8 @@
 use Rattle.std.proofs.Common.{◌≡◌, ◌≤◌, ◌+◌, ◌++◌, drop, length, vec_len, vec_capacity}
 use Rattle.std.specs.Int.RustNames.{unsigned_abs}
 use Rattle.fb_syntax.specs.Integers.{greatest_magnitude}
-use Rattle.fb_resolve.specs.EnumsRead.{values_from, resolved_values}
-use Rattle.fb_resolve.proofs.enums.resolved_values.Given as goal
+use Rattle.fb_resolve.specs.EnumValues.{values_from, resolved_values}
+use Rattle.fb_resolve.proofs.enum_values.resolved_values.Given as goal
 
 abbrev pub invariant-loop-value : goal.invariant-loop-value
 invariant-loop-value l = record {

@@ -3,9 +3,9 @@ use Rattle.std.specs.Int.{w128}
 use Rattle.std.specs.Int.RustNames.{unsigned_abs}
 use Rattle.std.proofs.lemmas.Int.{to_z-of_z, ints}
 use Rattle.fb_syntax.specs.Integers.{greatest_magnitude}
-use Rattle.fb_resolve.specs.EnumsRead.{values_from}
+use Rattle.fb_resolve.specs.EnumValues.{values_from}
 use Rattle.std.proofs.lemmas.Grind.{common_steps}
-use Rattle.fb_resolve.proofs.enums.resolved_values.Goals as goal
+use Rattle.fb_resolve.proofs.enum_values.resolved_values.Goals as goal
 
 pub overflow_add-next : goal.overflow_add-next
 overflow_add-next c =

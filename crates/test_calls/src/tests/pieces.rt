@@ -1,6 +1,6 @@
 //! Texts by hand, and the pieces into which they are cut: `|` is behind each piece but the last, `.` behind the last,
 //! and `?` is where a text isn't cut.
-use crate::{Cuts, Piece, cut_array, cut_object, leading_blanks};
+use fb_pieces::{Cuts, Piece, cut_array, cut_object, leading_blanks};
 use std::alloc::{AllocError, Global};
 use std::test::Fail;
 

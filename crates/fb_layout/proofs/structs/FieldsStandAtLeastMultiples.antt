@@ -1,4 +1,5 @@
--- The exact sizes are the sizes of a schema that is declared.
+-- Each field of a declared struct stands at the least multiple of its alignment behind the one before it, and the struct
+-- ends at the least multiple of its own: the exact sizes are sizes of the schema.
 use Rattle.std.proofs.Common.{◌≡◌, ◌<◌, ◌≤◌, ◌+◌, ℕ, zero, suc, max, false, IsTrue, List, [], ◌∷◌, length, map, Option}
 use Rattle.std.proofs.Common.{None, Some, slice_get, slice_index, slice_index_or, refl, sym, ap, ◌∙◌, subst, arith}
 use Rattle.std.specs.Int.{next_multiple_of}
@@ -12,46 +13,17 @@ use Rattle.fb_schema.specs.declared.kinds.Shape.TheVariants.{One, Many}
 use Rattle.fb_schema.specs.Schema.{DeclaredField, DeclaredBody, table_body, struct_body, enum_body, union_body}
 use Rattle.fb_schema.specs.Schema.{DeclaredType, DeclaredSchema, body_in, body_at, parts_in, force_align_in, is_struct}
 use Rattle.fb_schema.specs.Alignments.{greatest_in, part_align, natural_align_in, AreAligned}
-use Rattle.fb_schema.specs.WellDeclared.{IsPart, IsForceAlign, IsStructBody, IsBody, IsDeclared}
+use Rattle.fb_schema.specs.WellDeclared.{IsPart, IsForceAlign, IsBody, IsDeclared}
 use Rattle.fb_layout.specs.Laid.{LaidSchema, StructLayout, no_struct, StoredKind, stored_shape, kind_in, struct_at}
 use Rattle.fb_layout.specs.Laid.{size_of, align_of, parts_of}
 use Rattle.fb_layout.specs.WellMade.{StandInOrder, natural_align, IsStructLaid, IsSized}
+use Rattle.fb_layout.proofs.sizes.StructsAreDeclared.{IsStructAt, struct_told, body_told}
 use Rattle.fb_layout.proofs.structs.KindsTakeTheirExactSizes.{kinds_of, offsets_from, end_from, struct_of_kinds}
 use Rattle.fb_layout.proofs.structs.KindsTakeTheirExactSizes.{exact_struct, with_structs, exact, ArePositive}
 use Rattle.fb_layout.proofs.structs.KindsTakeTheirExactSizes.{align_positive}
 use Rattle.fb_layout.proofs.structs.SmallStructsAreKnown.{IsSizable, AreSizable, exact-positives}
 use Rattle.fb_layout.proofs.laws.NextMultipleIsTheLeast.{next-least}
 use Rattle.fb_layout.proofs.structs.StructNeedsOnlyLowerOnes.{exact-length, below, entry, struct_entry}
-
--- ---- what a declared schema's structs are
-
--- the type of a struct's number
-pub record IsStructAt (S : DeclaredSchema) (s : ℕ) : Type 0 where
-  pub type : DeclaredType
-  pub fs : List DeclaredField
-  pub force : Option ℕ
-  pub found : slice_get S.types s ≡ Some type
-  pub body : type.body ≡ struct_body fs force
-  pub at : body_at S s ≡ struct_body fs force
-
-struct_of_type : (S : DeclaredSchema) (s : ℕ) (type : DeclaredType) (body : DeclaredBody)
-    → slice_get S.types s ≡ Some type → type.body ≡ body → IsTrue (is_struct body) → IsStructAt S s
-struct_of_type S s type (struct_body fs force) e is h =
-    record { type = type; fs = fs; force = force; found = e; body = is; at = ap body_in e ∙ is }
-struct_of_type S s type (table_body fs) e is h = absurd (false≢true h)
-struct_of_type S s type (enum_body base flags values) e is h = absurd (false≢true h)
-struct_of_type S s type (union_body members) e is h = absurd (false≢true h)
-
-struct_found : (S : DeclaredSchema) (s : ℕ) (o : Option DeclaredType) → slice_get S.types s ≡ o
-    → IsTrue (is_struct (body_in o)) → IsStructAt S s
-struct_found S s None e h = absurd (false≢true h)
-struct_found S s (Some type) e h = struct_of_type S s type type.body e refl h
-
-pub struct_told : (S : DeclaredSchema) (s : ℕ) → IsTrue (is_struct (body_at S s)) → IsStructAt S s
-struct_told S s h = struct_found S s (slice_get S.types s) refl h
-
-pub body_told : (S : DeclaredSchema) → IsDeclared S → (s : ℕ) (at : IsStructAt S s) → IsStructBody S s at.fs at.force
-body_told S declared s at = subst (λ (b : DeclaredBody). IsBody S s b) at.body (declared.bodies s at.type at.found)
 
 -- ---- each struct and its fields are sizable
 

@@ -1,11 +1,11 @@
-//! What the names of types mean inside a namespace.
+//! What each use of a type's name means, by the namespace around it.
 ghost use Rattle.std.specs.Prelude.{◌≡◌, map};
 ghost use Rattle.fb_schema.specs.Schema.{Name};
 ghost use Rattle.std.specs.Option.{option_copied};
 ghost use Rattle.fb_scopes.specs.Scopes.{tree_of, names_of, AreScopes};
 ghost use Rattle.fb_resolve.specs.Meaning.{meaning_of, use_of_type, words_of_scope, paths_of_types};
 ghost use Rattle.fb_resolve.specs.Paths.{IsPath, IsNoted};
-ghost use Rattle.fb_resolve.specs.EnumsRead.{enum_values_of};
+ghost use Rattle.fb_resolve.specs.EnumValues.{enum_values_of};
 
 use crate::meanings::Meaning;
 use crate::outline::{Names, TypeRead, TypeUse};

@@ -2,7 +2,7 @@ use Rattle.std.proofs.Common.{arith}
 use Rattle.std.proofs.lemmas.Grind.{common_steps}
 use Rattle.fb_scopes.specs.Scopes.{names_of}
 use Rattle.fb_resolve.proofs.PathsKept.{use_at, uses_counted}
-use Rattle.fb_resolve.proofs.scope.Scope.resolved_members.Goals as goal
+use Rattle.fb_resolve.proofs.type_uses.Scope.resolved_members.Goals as goal
 
 pub bounds-uses-number : goal.bounds-uses-number
 bounds-uses-number c = uses_counted (λ m. m.table.bytes)

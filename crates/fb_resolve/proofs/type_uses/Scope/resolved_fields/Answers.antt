@@ -3,7 +3,7 @@ use Rattle.std.proofs.lemmas.Grind.{common_steps}
 use Rattle.fb_scopes.specs.Scopes.{names_of}
 use Rattle.fb_resolve.specs.Meaning.{type_name}
 use Rattle.fb_resolve.proofs.PathsKept.{use_at, uses_counted}
-use Rattle.fb_resolve.proofs.scope.Scope.resolved_fields.Goals as goal
+use Rattle.fb_resolve.proofs.type_uses.Scope.resolved_fields.Goals as goal
 
 pub bounds-uses-number : goal.bounds-uses-number
 bounds-uses-number c = uses_counted (λ f. (type_name f.kind).bytes)

@@ -1,4 +1,4 @@
-//! Two fields in one slot.
+//! What a slot's field keeps under a schema that follows: its type, default and marks.
 ghost use Rattle.std.specs.Prelude.{◌≡◌, ◌↔◌, true, IsTrue};
 ghost use Rattle.fb_schema.specs.Seen.{field_seen};
 ghost use Rattle.fb_conform.specs.ByName.{SameShape};
