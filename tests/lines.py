@@ -65,15 +65,17 @@ def prefixed(tests):
     inputs()
     words = ["--size-prefixed", "one.fbs"]
     tests.expect("a buffer", ["binary", *words, "seven.json", "out"], 0, holds={"out": number(7)})
-    tests.expect("a buffer of eight bytes", ["binary", "--size-prefixed", "long.fbs", "seven.json", "l"], 0, holds={"l": LONG_SEVEN})
+    long = ["binary", "--size-prefixed", "long.fbs", "seven.json", "long"]
+    tests.expect("a buffer of eight bytes", long, 0, holds={"long": LONG_SEVEN})
     tests.expect("without a count", ["binary", "long.fbs", "seven.json", "plain"], 0, holds={"plain": LONG_PLAIN})
     tests.expect("its text", ["json", *words, "seven.bin"], 0, SEVEN_TEXT)
-    tests.expect("its text, compact", ["json", "--compact", *words, "seven.bin"], 0, b'{"a":7}\n')
+    tests.expect("its text, compact", ["json", "--compact", *words, "seven.bin"], 0, b'{"a":7}')
     tests.expect("it is sound", ["check", *words, "seven.bin"], 0, b"ok\n")
     tests.expect("several", ["check", *words, "seven.bin", "out"], 0, b"ok\n")
     tests.expect("into a folder", ["binary", "-o", ".", *words, "seven.json"], 0, holds={"seven.bin": number(7)})
     tests.expect("a text in a folder", ["json", "-o", ".", *words, "out"], 0, holds={"out.json": SEVEN_TEXT})
-    tests.expect("a compact text in a folder", ["json", "--compact", "-o", ".", *words, "out"], 0, holds={"out.json": b'{"a":7}\n'})
+    compact = ["json", "--compact", "-o", ".", *words, "out"]
+    tests.expect("a compact text in a folder", compact, 0, holds={"out.json": b'{"a":7}'})
     tests.expect("a buffer without a count", ["check", *words, "plain"], 1, err=b"54 OutOfBounds at 24\n")
     write("two", number(1) + number(2))
     tests.expect("bytes behind it", ["check", *words, "two"], 1, err=b"54 OutOfBounds at 24\n")
@@ -100,11 +102,13 @@ def files(tests):
     tests.expect("blank lines, blanks, carriage returns and a last line without a line feed",
                  ["binary", "--lines", "one.fbs", "spaced", "out"], 0, holds={"out": three})
     write("defaults.bin", b"".join(map(number, (0, 5))))
-    tests.expect("with defaults", ["json", "--lines", "--defaults-json", "one.fbs", "defaults.bin"], 0, b'{"a":0}\n{"a":5}\n')
+    defaults = ["json", "--lines", "--defaults-json", "one.fbs", "defaults.bin"]
+    tests.expect("with defaults", defaults, 0, b'{"a":0}\n{"a":5}\n')
     long = b"x" * 300_000
     write("long.bin", string(b"a") + string(long) + string(b"b"))
     write("long.json", b'{"s":"a"}\n{"s":"%s"}\n{"s":"b"}\n' % long)
-    tests.expect("a long one to a buffer", ["binary", "--lines", "text.fbs", "long.json", "out"], 0, holds={"out": content("long.bin")})
+    words = ["binary", "--lines", "text.fbs", "long.json", "out"]
+    tests.expect("a long one to a buffer", words, 0, holds={"out": content("long.bin")})
     tests.expect("a long one to a line", ["json", "--lines", "text.fbs", "long.bin"], 0, content("long.json"))
     tests.expect("no input", ["json", "--lines", "one.fbs", "nothing"], 1, err=UNREAD)
     tests.expect("a folder", ["json", "--lines", "one.fbs", "."], 1, err=b"message 1: " + UNREAD)
@@ -132,10 +136,11 @@ def refused(tests):
     fault = b"message 2: 56 BadVtable at 16\n"
     write("bad.bin", number(1) + bad + number(3))
     tests.expect("a line before it", ["json", "--lines", "one.fbs", "bad.bin"], 1, b'{"a":1}\n', fault)
-    tests.expect("the other lines", ["json", "--lines", "--keep-going", "one.fbs", "bad.bin"], 1, b'{"a":1}\n{"a":3}\n', fault)
+    words = ["json", "--lines", "--keep-going", "one.fbs", "bad.bin"]
+    tests.expect("the other lines", words, 1, b'{"a":1}\n{"a":3}\n', fault)
     tests.expect("checked", ["check", "--lines", "one.fbs", "bad.bin"], 1, err=fault)
     tests.expect("all checked", ["check", "--lines", "--keep-going", "one.fbs", "bad.bin"], 1, err=fault)
-    done = tests.run(["binary", "--lines", "--explain", *words, "-"])
+    done = tests.run(["binary", "--lines", "--explain", "one.fbs", "bad.json", "-"])
     good = done.stdout == number(1) and done.stderr.startswith(unknown) and len(done.stderr) > len(unknown)
     tests.tell("a refusal that is explained", good and done.returncode == 1, f"{done}")
 
@@ -216,7 +221,7 @@ def filters(tests):
     told = run.child.stderr.readline()
     tests.tell("check tells at once", told.startswith(b"message 2: "), f"{told}")
     tests.tell("and ends with its input", run.end() == (b"", b"", 1))
-    there = f'"$0" binary --lines one.fbs - - < three.json | "$0" json --lines one.fbs -'
+    there = '"$0" binary --lines one.fbs - - < three.json | "$0" json --lines one.fbs -'
     done = subprocess.run(["bash", "-c", there, tests.program], capture_output=True, timeout=SECONDS, check=False)
     tests.tell("there and back", done.stdout == content("three.json"), f"{done}")
 
@@ -290,8 +295,9 @@ def growths(tests):
             _, missing = map(int, content("counts").split())
             if not missing:
                 break
-            good = done.stdout in whole and done.returncode in (0, 1) and (done.returncode == 0) == (done.stdout == whole[-1])
-            tests.tell(f"{words[0]} without growth {n}", good and (not done.returncode or b" Memory\n" in done.stderr), f"{done}")
+            ended = done.stdout == whole[-1] if done.returncode == 0 else done.stdout in whole
+            told = done.returncode == 0 or (done.returncode == 1 and b" Memory\n" in done.stderr)
+            tests.tell(f"{words[0]} without growth {n}", ended and told, f"{done}")
         tests.tell(f"{words[0]} with all its growths", done.stdout == whole[-1], f"{done}")
 
 
@@ -334,7 +340,8 @@ def misused(tests):
     tests.expect("an input is OUT", ["binary", "--lines", "one.fbs", "three.json", "./three.json"], 1, err=UNWRITTEN)
     for job in ("binary", "json", "check"):
         done = tests.run([job, "--help"])
-        tests.tell(f"{job} --help has the flags", all(it in done.stdout for it in (b"--lines", b"--keep-going", b"--size-prefixed")))
+        has = all(flag in done.stdout for flag in (b"--lines", b"--keep-going", b"--size-prefixed"))
+        tests.tell(f"{job} --help has the flags", has, f"{done}")
 
 
 def beside_flatc(tests):
@@ -342,7 +349,8 @@ def beside_flatc(tests):
     google = shutil.which("flatc")
     if not google:
         return
-    for name, schema, text in (("one", ONE, b'{"a":7}'), ("long", LONG, b'{"a":7}'), ("text", TEXT, b'{"s":"some text"}')):
+    seven = text_of(7)
+    for name, schema, text in (("one", ONE, seven), ("long", LONG, seven), ("text", TEXT, b'{"s":"some text"}')):
         write(f"{name}.fbs", schema)
         write(f"{name}.json", text)
         ours = tests.run(["binary", "--size-prefixed", f"{name}.fbs", f"{name}.json", "-"]).stdout
@@ -353,10 +361,11 @@ def beside_flatc(tests):
                      stdin=stream_of(theirs + theirs))
         os.mkdir(f"{name}.ours")
         write(f"{name}.ours/{name}.bin", ours)
-        words = [google, "-t", "--strict-json", "--raw-binary", "--size-prefixed", f"{name}.fbs", "--", f"{name}.ours/{name}.bin"]
-        done = subprocess.run(words, capture_output=True, check=False)
+        words = [google, "-t", "--strict-json", "--raw-binary", "--size-prefixed", f"{name}.fbs", "--"]
+        done = subprocess.run([*words, f"{name}.ours/{name}.bin"], capture_output=True, check=False)
         back = content(f"{name}.json")
-        tests.tell(f"flatc reads {name}", done.returncode == 0 and b"".join(back.split()) == b"".join(text.split()), f"{done}")
+        same = b"".join(back.split()) == b"".join(text.split())
+        tests.tell(f"flatc reads {name}", done.returncode == 0 and same, f"{done}")
 
 
 def stream_of(text):

@@ -25,8 +25,8 @@ use flatc_cli::{Batch, Form, Inspection, Job, Request, request_of};
 use flatc_files::{Reasoned, Texts, write_out};
 use flatc_tool::command::report_noted;
 use flatc_tool::{
-    EncodeOptions, Entries, Layout, Limits, Noted, ToolFault, conform_names, conform_texts, decode_to,
-    encode_owned, schema_of, to_binary, to_json, verify_framed,
+    EncodeOptions, Entries, Layout, Limits, Noted, ToolFault, conform_names, conform_texts,
+    decode_to, encode_owned, schema_of, to_binary, to_json, verify_framed,
 };
 use std::alloc::Global;
 use std::process::ExitCode;
@@ -188,7 +188,10 @@ fn do_job<'j>(
 ) -> Result<&'static str, ToolFault> {
     match job {
         Job::Binary {
-            schema, json, out, ..
+            schema,
+            json,
+            out,
+            ..
         } => {
             write_buffer(
                 rt,

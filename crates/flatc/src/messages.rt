@@ -118,7 +118,11 @@ impl Run<'_> {
         let _status = tell(self.rt, Err(fault));
         if self.is_explained {
             let message = self.window.first(len);
-            if self.texts.quote(self.rt, self.stream.input.as_str(), message).is_ok() {
+            if self
+                .texts
+                .quote(self.rt, self.stream.input.as_str(), message)
+                .is_ok()
+            {
                 let flags = Flags::of_stream(&self.stream.task);
                 explain_refusal(self.rt, flags, &mut self.texts, fault);
             }
@@ -134,8 +138,12 @@ impl Run<'_> {
 
     fn read_more(&mut self) -> Result<(), ToolFault> {
         let read = self.window.read_more();
-        self.texts
-            .note(self.rt, self.stream.input.as_str(), &read, "it has a message longer than 2147483647 bytes");
+        self.texts.note(
+            self.rt,
+            self.stream.input.as_str(),
+            &read,
+            "it has a message longer than 2147483647 bytes",
+        );
         read.map_err(read_fault)
     }
 
