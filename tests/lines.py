@@ -76,7 +76,7 @@ def prefixed(tests):
     tests.expect("a text in a folder", ["json", "-o", ".", *words, "out"], 0, holds={"out.json": SEVEN_TEXT})
     compact = ["json", "--compact", "-o", ".", *words, "out"]
     tests.expect("a compact text in a folder", compact, 0, holds={"out.json": b'{"a":7}'})
-    tests.expect("a buffer without a count", ["check", *words, "plain"], 1, err=b"54 OutOfBounds at 24\n")
+    tests.expect("a buffer without a count", ["check", *words, "plain"], 1, err=b"54 OutOfBounds at 16\n")
     write("two", number(1) + number(2))
     tests.expect("bytes behind it", ["check", *words, "two"], 1, err=b"54 OutOfBounds at 24\n")
     write("cut", number(1)[:-1])
