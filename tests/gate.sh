@@ -32,7 +32,7 @@ if [ ! -x "$parser" ]; then
     python3 tools/build.py bench_json_parse || status=1
 fi
 python3 tools/mutations.py --not-compiled | tee "$logs/not-compiled" || status=1
-for part in command outputs streams batches lines terminal hostile explain told_alike costs; do
+for part in command outputs streams batches lines prefixed terminal hostile explain told_alike costs; do
     python3 "tests/$part.py" "$program" | tee "$logs/$part" || status=1
 done
 for part in growths soak pieces; do
