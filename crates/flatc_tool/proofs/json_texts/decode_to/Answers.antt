@@ -1,9 +1,25 @@
-use Rattle.std.proofs.Common.{◌<◌, All, Ok, Err, arith}
+use Rattle.std.proofs.Common.{◌≡◌, ◌<◌, ℕ, List, Bool, Option, All, Ok, Err, arith, subst}
 use Rattle.std.proofs.lemmas.List.Elements.{All-from_get_or}
+use Rattle.fb_layout.specs.Laid.{LaidSchema}
+use Rattle.fb_value.specs.Datum.{Datum}
+use Rattle.fb_json.specs.Meant.{type_place}
 use Rattle.fb_text.specs.Noted.{writer_of}
+use Rattle.fb_text.specs.Printed.{IsPrinted}
+use Rattle.fb_text.specs.Texts.{spaced_text}
+use Rattle.fb_text.specs.declared.faults.WriteFault.{WriteFault}
+use Rattle.fb_text.specs.declared.indents.Spacing.{Spacing}
 use Rattle.flatc_tool.specs.Jobs.{spacing_of}
 use Rattle.flatc_tool.proofs.json_texts.PrintedIsTheJsonText.{at_layout, bytes_exclude, sent, unsent, unsent_excludes}
 use Rattle.flatc_tool.proofs.json_texts.decode_to.Goals as goal
+
+-- what is refused of a text that is spaced as it is said
+at_spacing : (L : LaidSchema) (v : Datum) (defaults : Bool) (start known : Option (List ℕ)) (fault : WriteFault)
+    {sp to : Spacing} → sp ≡ to
+    → IsPrinted {A = Unit {0}} (type_place L.schema.root) v (spaced_text sp L defaults v) start known (Err fault)
+    → IsPrinted {A = Unit {0}} (type_place L.schema.root) v (spaced_text to L defaults v) start known (Err fault)
+at_spacing L v defaults start known fault e printed =
+    subst (λ (sp : Spacing). IsPrinted {A = Unit {0}} (type_place L.schema.root) v (spaced_text sp L defaults v) start
+    known (Err fault)) e printed
 
 pub returns-in-Err-clause-exact : goal.returns-in-Err-clause-exact
 returns-in-Err-clause-exact g c rule = bytes_exclude c.args.options.now.size_prefixed
@@ -35,9 +51,10 @@ returns-in-Err-write_spaced-clause-refused g c =
     let fault = c.in-Err-write_spaced.fault in
     let start = g.W.Write.contents (writer_of c.args.out.now) in
     let known = g.W.Write.contents (writer_of c.write_spaced.new.out) in
-    let printed = (rw c.spacing_of.ensures at c.in-Err-write_spaced.ensures.printed) held.0 (c.in-Ok.ensures.stands held.0 held.1) in
-    let root = at_layout (spacing_of c.args.options.now.compact) L view.layout.now view.table.0 c.args.options.now.defaults_json held.0 start known (Err fault)
-    c.in-Ok.ensures.root.0 c.in-Ok.ensures.root.1 printed in
+    let printed = c.in-Err-write_spaced.ensures.printed held.0 (c.in-Ok.ensures.stands held.0 held.1) in
+    let root = at_spacing L held.0 c.args.options.now.defaults_json start known fault c.spacing_of.ensures
+    (at_layout c.spacing_of.result L view.layout.now view.table.0 c.args.options.now.defaults_json held.0 start known
+    (Err fault) c.in-Ok.ensures.root.0 c.in-Ok.ensures.root.1 printed) in
     unsent c.layer_laws.ensures.laws c.args.options.now.compact c.args.options.now.size_prefixed c.args.bytes.now c.args.options.now.limits c.args.options.now.raw_binary
     c.args.options.now.defaults_json L held.0 held.1 start known fault root
 
@@ -49,8 +66,9 @@ returns-in-Err-write_spaced-clause-exact g c rule =
     let fault = c.in-Err-write_spaced.fault in
     let start = g.W.Write.contents (writer_of c.args.out.now) in
     let known = g.W.Write.contents (writer_of c.write_spaced.new.out) in
-    let printed = (rw c.spacing_of.ensures at c.in-Err-write_spaced.ensures.printed) held.0 (c.in-Ok.ensures.stands held.0 held.1) in
-    let root = at_layout (spacing_of c.args.options.now.compact) L view.layout.now view.table.0 c.args.options.now.defaults_json held.0 start known (Err fault)
-    c.in-Ok.ensures.root.0 c.in-Ok.ensures.root.1 printed in
+    let printed = c.in-Err-write_spaced.ensures.printed held.0 (c.in-Ok.ensures.stands held.0 held.1) in
+    let root = at_spacing L held.0 c.args.options.now.defaults_json start known fault c.spacing_of.ensures
+    (at_layout c.spacing_of.result L view.layout.now view.table.0 c.args.options.now.defaults_json held.0 start known
+    (Err fault) c.in-Ok.ensures.root.0 c.in-Ok.ensures.root.1 printed) in
     unsent_excludes c.layer_laws.ensures.laws c.args.options.now.compact c.args.options.now.size_prefixed c.args.bytes.now c.args.options.now.limits
     c.args.options.now.raw_binary c.args.options.now.defaults_json L held.0 held.1 start known fault root rule
