@@ -82,8 +82,10 @@ typedef struct flatc_options {
     bool unknown_json;  /* flatc_encode: ignores unknown JSON fields */
     bool raw_binary;    /* flatc_decode, flatc_verify: skips the file identifier check */
     bool defaults_json; /* flatc_decode: includes fields with default values */
+    bool size_prefixed; /* flatc_encode, _decode, _verify: a 32-bit count of the buffer's bytes is in front of it */
+    bool compact;       /* flatc_decode: no blanks and line feeds outside strings */
 } flatc_options;
-#define FLATC_OPTIONS_INIT {(uint32_t)sizeof(flatc_options), 100000000u, 64, false, false, false}
+#define FLATC_OPTIONS_INIT {(uint32_t)sizeof(flatc_options), 100000000u, 64, false, false, false, false, false}
 
 /* The FLATC_VERSION_NUMBER that the library was built with. */
 uint32_t flatc_version(void);

@@ -68,7 +68,7 @@ static void nothing(void) {
 
 static void settings(void) {
     static const uint8_t depths[] = {0, 128, 255};
-    static const uint32_t sizes[] = {0, 3, 13, 100};
+    static const uint32_t sizes[] = {0, 3, 17, 100};
     for (size_t k = 0; k < sizeof depths; k++) {
         options.max_depth = depths[k];
         tell("a depth out of range to encode", encode("{}") == FLATC_BAD_OPTIONS && !made.full);
@@ -94,6 +94,20 @@ static void settings(void) {
     options.size = 10;
     tell("and behind it", encode("{\"x\":7}") == FLATC_OK);
     options.unknown_json = false;
+    options.size_prefixed = true;
+    options.size = 12;
+    tell("a size before the flag of a count", encode("{\"a\":7}") == FLATC_OK && made.size == 20);
+    options.size = 13;
+    tell("and behind it", encode("{\"a\":7}") == FLATC_OK && made.size == 24 && made.data[0] == 20 &&
+         made.data[20] == 7);
+    options.size_prefixed = false;
+    options.compact = true;
+    tell("a size before the flag of a compact text", encode("{\"a\":7}") == FLATC_OK &&
+         flatc_decode(&schema, made.data, made.size, &options, &text, &fault) == FLATC_OK && text.size == 13);
+    options.size = 14;
+    tell("and behind it", flatc_decode(&schema, made.data, made.size, &options, &text, &fault) == FLATC_OK &&
+         text.size == 7 && memcmp(text.data, "{\"a\":7}", 7) == 0);
+    options.compact = false;
     options.size = sizeof options;
     options.max_cells = 0;
     tell("no cell", encode("{\"a\":1}") == FLATC_REFUSED && strcmp(fault.name, "TooManyCells") == 0);

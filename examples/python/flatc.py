@@ -54,6 +54,8 @@ class _Options(ctypes.Structure):
         ("unknown_json", ctypes.c_bool),
         ("raw_binary", ctypes.c_bool),
         ("defaults_json", ctypes.c_bool),
+        ("size_prefixed", ctypes.c_bool),
+        ("compact", ctypes.c_bool),
     ]
 
 
@@ -157,8 +159,8 @@ class Schema:
 
     For calls side by side give each thread a schema of its own, by share().
 
-    Options of encode, decode and verify, by keyword: max_depth (64), max_cells (100_000_000); encode: unknown_json;
-    decode, verify: raw_binary; decode: defaults_json.
+    Options of encode, decode and verify, by keyword: max_depth (64), max_cells (100_000_000), size_prefixed; encode:
+    unknown_json; decode, verify: raw_binary; decode: defaults_json, compact.
     """
 
     def __init__(self, text: str | bytes):

@@ -42,6 +42,19 @@ class Messages(unittest.TestCase):
             self.schema.encode(hairy)
         self.assertEqual(self.schema.encode(hairy, unknown_json=True), self.schema.encode(bald))
 
+    def test_a_count_is_in_front_where_asked(self):
+        buffer = self.schema.encode(JSON, size_prefixed=True)
+        self.assertEqual(int.from_bytes(buffer[:4], "little"), len(buffer) - 4)
+        self.assertEqual(buffer[8:12], b"MONS")
+        self.schema.verify(buffer, size_prefixed=True)
+        self.assertEqual(json.loads(self.schema.decode(buffer, size_prefixed=True)), json.loads(JSON))
+        with self.assertRaises(flatc.Refused):
+            self.schema.verify(buffer)
+
+    def test_a_text_is_compact_where_asked(self):
+        text = self.schema.decode(self.schema.encode(JSON), compact=True)
+        self.assertEqual(text, json.dumps(json.loads(JSON), separators=(",", ":")))
+
     def test_text_may_be_str(self):
         self.assertEqual(flatc.Schema(TEXT.decode()).encode(JSON.decode()), self.schema.encode(JSON))
 

@@ -1,1 +1,2 @@
+pub mod FramedRoomHasTheCount
 pub mod RootIsNoted

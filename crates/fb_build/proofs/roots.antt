@@ -1,1 +1,2 @@
+pub mod CountedTailIsABuffer
 pub mod TailWithItsRootIsABuffer

@@ -1,14 +1,14 @@
 -- That every byte of a buffer belongs to its value, or is one of few zeros between what does.
 -- From the FlatBuffers documentation, "FlatBuffer Internals": what a buffer is made of. That nothing else is in it is
 -- this project's own.
-use Rattle.std.specs.Prelude.{ℕ, ◌+◌, ◌≡◌, ◌<◌, Bool, true, false, List, [], ◌∷◌, length, replicate, flat_map}
+use Rattle.std.specs.Prelude.{ℕ, ◌+◌, ◌≡◌, ◌<◌, Bool, true, false, List, [], ◌∷◌, length, drop, replicate, flat_map}
 use Rattle.std.specs.Prelude.{IsPermutation}
 use Rattle.fb_layout.specs.Laid.{LaidSchema}
 use Rattle.fb_value.specs.Datum.{Datum}
 use Rattle.fb_value.specs.Num.{Bytes, num, part_of, divides}
 use Rattle.fb_value.specs.Lies.{LiesAt}
 use Rattle.fb_value.specs.EachTable.{EachTableAt}
-use Rattle.fb_value.specs.Holds.{root_place}
+use Rattle.fb_value.specs.Holds.{front_of, root_place}
 use Rattle.fb_build.specs.Pieces.{PieceKind, Piece, reached_parts, greatest_align, is_among, tables_vtables, pieces_of}
 use Rattle.fb_build.specs.Stored.{IsTightTable}
 use Rattle.fb_tape.specs.InlineBytes.{IsTightInline, EachInlineAt}
@@ -63,11 +63,20 @@ pub record IsCoveredBy (L : LaidSchema) (b : Bytes) (v : Datum) : Type 0 where
   pub tables : EachTableAt L b (IsTightTable L b) (root_place L).sort 0 v
   pub inline : EachInlineAt L b (IsTightInline L b) (root_place L).sort 0 v
 
--- Covered: the value that lies at the root takes all bytes.
-abbrev pub Covered : LaidSchema → Bytes → Type 0
-Covered L b = (v : Datum) × LiesAt L b (root_place L).sort 0 v × IsCoveredBy L b v
+-- Covered: the value that lies at the root takes all bytes, but for those of a count in front.
+abbrev pub CoveredFramed : Bool → LaidSchema → Bytes → Type 0
+CoveredFramed prefixed L b = (v : Datum) × LiesAt L b (root_place L).sort (front_of prefixed) v
+    × IsCoveredBy L (drop (front_of prefixed) b) v
 
--- The length of a buffer is a multiple of the greatest alignment of a part in which its value lies.
+abbrev pub Covered : LaidSchema → Bytes → Type 0
+Covered L b = CoveredFramed false L b
+
+-- The length of a buffer, with the count in front, is a multiple of the greatest alignment of a part in which its value
+-- lies.
+abbrev pub EndsAlignedFramed : Bool → LaidSchema → Bytes → Type 0
+EndsAlignedFramed prefixed L b = (v : Datum) × LiesAt L b (root_place L).sort (front_of prefixed) v
+    × (divides (greatest_align L (drop (front_of prefixed) b) (reached_parts L (drop (front_of prefixed) b) v))
+    (length b) ≡ true)
+
 abbrev pub EndsAligned : LaidSchema → Bytes → Type 0
-EndsAligned L b = (v : Datum) × LiesAt L b (root_place L).sort 0 v
-    × (divides (greatest_align L b (reached_parts L b v)) (length b) ≡ true)
+EndsAligned L b = EndsAlignedFramed false L b

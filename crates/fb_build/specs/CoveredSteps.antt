@@ -4,13 +4,11 @@ use Rattle.fb_layout.specs.Laid.{LaidSchema}
 use Rattle.fb_value.specs.Datum.{Datum}
 use Rattle.fb_value.specs.Num.{Bytes, num}
 use Rattle.fb_value.specs.Places.{table_part, part_place}
-use Rattle.fb_value.specs.Lies.{LiesAt}
-use Rattle.fb_value.specs.Holds.{root_place}
 use Rattle.fb_value.specs.Tails.{LiesInTail}
 use Rattle.fb_build.specs.Pieces.{PartAt, reached_parts, greatest_align, is_among, each_once, tables_vtables}
 use Rattle.fb_build.specs.Pieces.{header_piece, part_piece, vtable_piece}
 use Rattle.fb_build.specs.Covered.{Chunk, chunk_bytes, pieces_among, begins_with_zeros, RunsAreShort}
-use Rattle.fb_build.specs.Covered.{EqualVtablesAreOne, IsMadeOf, Covered}
+use Rattle.fb_build.specs.Covered.{EqualVtablesAreOne, IsMadeOf, IsCoveredBy}
 use Rattle.fb_build.specs.CoveredTails.{part_further, piece_further, parts_in_tail, TightInTail, InlineInTail}
 
 -- The bytes are these chunks, of which the first isn't a run of zeros, so that one may be laid in front.
@@ -70,7 +68,7 @@ MadeWhole =
     → most ≤ greatest_align L (front ++ s) (reached_parts L (front ++ s) v)
     → IsMadeOf L (front ++ s) v
 
--- A buffer is covered once its header is laid in front of a tail in which a value lies that has no slack.
+-- A buffer is covered by a value once its header is laid in front of a tail in which that lies and has no slack.
 abbrev pub CoveredWhole : Type 0
 CoveredWhole =
     (L : LaidSchema) (m : ℕ) (front s : Bytes) (e : ℕ) (v : Datum)
@@ -79,5 +77,4 @@ CoveredWhole =
     → InlineInTail L s (part_place (table_part L.schema.root)) e v
     → EqualVtablesAreOne s (tables_vtables s (parts_in_tail L s (table_part L.schema.root) e v))
     → num (front ++ s) 0 4 ≡ length (front ++ s) - e → IsMadeOf L (front ++ s) v
-    → LiesAt L (front ++ s) (root_place L).sort 0 v
-    → Covered L (front ++ s)
+    → IsCoveredBy L (front ++ s) v

@@ -31,7 +31,8 @@ closed_end size is_known laid = first_end size is_known (laid + zeros_to 4 laid)
 abbrev pub table_end : ℕ → ℕ → ℕ → ℕ → ℕ
 table_end size number known laid = closed_end size (nat_lt number known) laid
 
--- The root's reference and the identifier, if there is one, with which a buffer's length is a multiple.
-abbrev pub header_end : Option (List ℕ) → ℕ → ℕ → ℕ
-header_end None most laid = laid + (zeros_to most (laid + 4) + 4)
-header_end (Some id) most laid = laid + (zeros_to most (laid + 8) + 8)
+-- The root's reference and the identifier, if there is one, and what comes before them: with these the whole length is
+-- a multiple.
+abbrev pub header_end : ℕ → Option (List ℕ) → ℕ → ℕ → ℕ
+header_end front None most laid = laid + (zeros_to most (laid + (4 + front)) + (4 + front))
+header_end front (Some id) most laid = laid + (zeros_to most (laid + (8 + front)) + (8 + front))

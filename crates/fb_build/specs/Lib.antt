@@ -22,6 +22,7 @@ pub mod OneByOne
 pub mod Roots
 pub mod Vtables
 pub mod Lengths
+pub mod FramedRoom
 pub mod Noted
 pub mod NotedRoots
 pub mod Referred

@@ -47,9 +47,9 @@ tape_end t = ops_end t.vtables 0 t.ops t.notes 0
 abbrev pub tape_most : Taped → ℕ
 tape_most t = ops_most t.ops 4
 
--- a buffer of a tape alone
-abbrev pub buffer_end : LaidSchema → Taped → ℕ
-buffer_end L t = header_end L.schema.identifier (tape_most t) (tape_end t)
+-- a buffer of a tape alone, with what comes before it
+abbrev pub buffer_end : ℕ → LaidSchema → Taped → ℕ
+buffer_end front L t = header_end front L.schema.identifier (tape_most t) (tape_end t)
 
 -- ---- the operations that are left
 

@@ -3,12 +3,13 @@ ghost use Rattle.std.specs.Prelude.{◌≡◌, ◌≤◌, ◌<◌, length, true,
 ghost use Rattle.fb_value.specs.Bounds.{Bounds};
 ghost use Rattle.fb_value.specs.Counts.{cells, depth, is_whole};
 ghost use Rattle.fb_value.specs.Fits.{FitsRoot};
-ghost use Rattle.fb_value.specs.Holds.{Holds};
-ghost use Rattle.fb_value.specs.OldSlots.{OnlyOld};
+ghost use Rattle.fb_value.specs.Holds.{Holds, HoldsFramed, front_of};
+ghost use Rattle.fb_value.specs.OldSlots.{OnlyOld, OnlyOldBehind};
 ghost use Rattle.fb_value.specs.Room.{room_of};
 ghost use Rattle.fb_value.specs.View.{view};
 ghost use Rattle.fb_value.specs.Datum.{Datum};
-ghost use Rattle.fb_build.specs.Covered.{Covered, EndsAligned};
+ghost use Rattle.fb_build.specs.Covered.{Covered, CoveredFramed, EndsAligned, EndsAlignedFramed};
+ghost use Rattle.fb_build.specs.FramedRoom.{framed_room};
 ghost use Rattle.fb_build.specs.NotedRoots.{NotesRoot};
 ghost use Rattle.fb_build.specs.declared.faults.BuildFault.TheVariants.{TooBig, Memory};
 
@@ -18,7 +19,7 @@ use crate::plans::{Plan, TapePlan};
 use crate::rooms::table_with_parts_room;
 use fb_layout::Layout;
 use fb_tape::Tape;
-use fb_value::{Value, buffer_room};
+use fb_value::{Value, buffer_room, front_of};
 use std::alloc::Global;
 
 /// Takes all the memory that building a value takes, and lays no byte.
@@ -42,7 +43,7 @@ pub fn plan<'v>(alloc: Global, layout: &'v Layout, value: &'v Value) -> Result<P
         return Err(BuildFault::TooBig);
     };
     let tape = note_root(alloc, layout, *table, entries)?;
-    let plan = TapePlan::for_tape(alloc, layout, tape)?;
+    let plan = TapePlan::for_tape(alloc, layout, tape, false)?;
     Ok(Plan { value, plan })
 }
 
@@ -65,30 +66,32 @@ pub fn build(alloc: Global, layout: &Layout, value: &Value) -> Result<Vec<u8>, B
 }
 
 /// The bytes that encode a value of the root table, which is noted on a tape. All memory that laying them takes is
-/// taken before the first of them is laid.
+/// taken before the first of them is laid. Where it is `prefixed`, the count of the buffer's bytes comes before it, and
+/// it is aligned from there.
 pub fn lay_root<'l>(
     alloc: Global,
     layout: &'l Layout,
     tape: Tape<'l>,
+    prefixed: bool,
 ) -> Result<Vec<u8>, BuildFault>
     requires { (d : Datum) × NotesRoot layout.now tape d }
     ensures holds { IfOk result (λ b. (d : Datum) (most : Bounds) (raw : Bool) → NotesRoot layout.now tape.entry d
-        → depth d ≤ most.depth → cells d ≤ most.cells → Holds layout.now most raw b.items d) }
-    ensures old_slots { IfOk result (λ b. OnlyOld layout.now b.items) }
-    ensures covered { IfOk result (λ b. Covered layout.now b.items) }
-    ensures aligned { IfOk result (λ b. EndsAligned layout.now b.items) }
+        → depth d ≤ most.depth → cells d ≤ most.cells → HoldsFramed prefixed layout.now most raw b.items d) }
+    ensures old_slots { IfOk result (λ b. OnlyOldBehind (front_of prefixed) layout.now b.items) }
+    ensures covered { IfOk result (λ b. CoveredFramed prefixed layout.now b.items) }
+    ensures aligned { IfOk result (λ b. EndsAlignedFramed prefixed layout.now b.items) }
     ensures short { IfOk result (λ b. (d : Datum) → NotesRoot layout.now tape.entry d
-        → length b.items ≤ room_of layout.now d) }
+        → length b.items ≤ framed_room prefixed layout.now d) }
     ensures small { IfOk result (λ b. (d : Datum) → NotesRoot layout.now tape.entry d
-        → room_of layout.now d ≤ 2147483647) }
+        → framed_room prefixed layout.now d ≤ 2147483647) }
     ensures too_big { IfErr result (λ e. (d : Datum) → NotesRoot layout.now tape.entry d → e ≡ TooBig
-        → 2147483647 < room_of layout.now d) }
+        → 2147483647 < framed_room prefixed layout.now d) }
     ensures memory { IfErr result (λ e. (d : Datum) → NotesRoot layout.now tape.entry d → e ≡ Memory
-        → room_of layout.now d ≤ 2147483647) }
+        → framed_room prefixed layout.now d ≤ 2147483647) }
 {
     // What is too big is so whatever memory there is.
-    let Some(_) = buffer_room(layout, tape.room()) else {
+    let Some(_) = buffer_room(layout, tape.room().saturating_add(front_of(prefixed))) else {
         return Err(BuildFault::TooBig);
     };
-    Ok(TapePlan::for_tape(alloc, layout, tape)?.finish())
+    Ok(TapePlan::for_tape(alloc, layout, tape, prefixed)?.finish())
 }

@@ -94,7 +94,6 @@ pub fn reached_is_listed()
 {}
 
 /// A buffer is covered once its header is laid in front of a tail that has no slack.
-#[tactic(auto, using(crate::proofs::covered::TightTailIsCovered::covered_shown))]
 pub fn covered_whole()
     ensures { CoveredWhole }
 {}

@@ -1,15 +1,15 @@
 //! What is to be laid, with all the memory that laying it takes.
-ghost use Rattle.std.specs.Prelude.{Bool, List, Option, ◌≡◌, ◌≤◌, ◌+◌, ◌-◌, length, IfOk};
+ghost use Rattle.std.specs.Prelude.{Bool, false, List, Option, ◌≡◌, ◌≤◌, ◌+◌, ◌-◌, length, IfOk};
 ghost use Rattle.fb_layout.specs.Widths.{greatest};
 ghost use Rattle.fb_value.specs.Bounds.{Bounds};
 ghost use Rattle.fb_value.specs.Counts.{cells, depth};
 ghost use Rattle.fb_value.specs.Datum.{Datum, a_table};
-ghost use Rattle.fb_value.specs.Holds.{Holds};
-ghost use Rattle.fb_value.specs.OldSlots.{OnlyOld};
+ghost use Rattle.fb_value.specs.Holds.{Holds, HoldsFramed, front_of};
+ghost use Rattle.fb_value.specs.OldSlots.{OnlyOld, OnlyOldBehind};
 ghost use Rattle.fb_value.specs.Room.{room_of};
 ghost use Rattle.fb_value.specs.View.{view, entries_in};
 ghost use Rattle.fb_tape.specs.Tapes.{MeansRoot};
-ghost use Rattle.fb_build.specs.Covered.{Covered, EndsAligned};
+ghost use Rattle.fb_build.specs.Covered.{Covered, CoveredFramed, EndsAligned, EndsAlignedFramed};
 ghost use Rattle.fb_build.specs.TapeLaid.{SomeRoot};
 
 use crate::laying::Laying;
@@ -19,16 +19,18 @@ use crate::taped_lengths::buffer_end;
 use crate::taped_ops::lay_tape;
 use fb_layout::Layout;
 use fb_tape::Tape;
-use fb_value::Value;
+use fb_value::{Value, front_of};
 use std::alloc::{AllocError, Global};
 use std::marker::Model;
 
 /// A tape that means a value of the root table, with all the memory that laying its buffer takes: a block as long as
-/// that, a count for each part that waits, and a place for each vtable.
+/// that, a count for each part that waits, and a place for each vtable. A `prefixed` buffer has the count of its bytes
+/// in front.
 #[derive(Drop)]
 pub(crate) struct TapePlan<'l> {
     layout: &'l Layout,
     tape: Tape<'l>,
+    prefixed: bool,
     block: Vec<u8>,
     waiting: Vec<u32>,
     places: Vec<u32>,
@@ -52,14 +54,16 @@ impl<'l> TapePlan<'l> {
         alloc: Global,
         layout: &'l Layout,
         tape: Tape<'l>,
+        prefixed: bool,
     ) -> Result<TapePlan<'l>, AllocError>
         requires layout { tape.layout ≡ layout.now }
         requires means { SomeRoot tape }
-        requires room { tape.room + (8 + (greatest layout.now - 1)) ≤ 2147483647 }
+        requires room { front_of prefixed + (tape.room + (8 + (greatest layout.now - 1))) ≤ 2147483647 }
         ensures layout { IfOk result (λ p. p.layout ≡ layout.now) }
         ensures tape { IfOk result (λ p. p.tape ≡ tape.entry) }
+        ensures prefixed { IfOk result (λ p. p.prefixed ≡ prefixed) }
     {
-        let block = vec![in alloc; 0u8; buffer_end(layout, &tape)]?;
+        let block = vec![in alloc; 0u8; buffer_end(layout, &tape, front_of(prefixed))]?;
         let mut waiting: Vec<u32> = Vec::new(alloc);
         waiting.reserve(tape.ops().len())?;
         let mut places: Vec<u32> = Vec::new(alloc);
@@ -67,6 +71,7 @@ impl<'l> TapePlan<'l> {
         Ok(TapePlan {
             layout,
             tape,
+            prefixed,
             block,
             waiting,
             places,
@@ -78,15 +83,18 @@ impl<'l> TapePlan<'l> {
         ensures holds { (xs : List (Option Datum)) (most : Bounds) (raw : Bool) → MeansRoot self.entry.tape xs
             → depth (a_table self.entry.layout.schema.root (entries_in xs)) ≤ most.depth
             → cells (a_table self.entry.layout.schema.root (entries_in xs)) ≤ most.cells
-            → Holds self.entry.layout most raw result.items (a_table self.entry.layout.schema.root (entries_in xs)) }
-        ensures old_slots { OnlyOld self.entry.layout result.items }
-        ensures covered { Covered self.entry.layout result.items }
-        ensures aligned { EndsAligned self.entry.layout result.items }
-        ensures short { length result.items ≤ self.entry.tape.room + (8 + (greatest self.entry.layout - 1)) }
+            → HoldsFramed self.entry.prefixed self.entry.layout most raw result.items
+            (a_table self.entry.layout.schema.root (entries_in xs)) }
+        ensures old_slots { OnlyOldBehind (front_of self.entry.prefixed) self.entry.layout result.items }
+        ensures covered { CoveredFramed self.entry.prefixed self.entry.layout result.items }
+        ensures aligned { EndsAlignedFramed self.entry.prefixed self.entry.layout result.items }
+        ensures short { length result.items
+            ≤ front_of self.entry.prefixed + (self.entry.tape.room + (8 + (greatest self.entry.layout - 1))) }
     {
         let TapePlan {
             layout,
             tape,
+            prefixed,
             block,
             waiting,
             places,
@@ -98,7 +106,7 @@ impl<'l> TapePlan<'l> {
         };
         lay_tape(&mut laying, layout, &tape);
         let place = laying.waiting[0];
-        close_tail(layout, laying.tail, place).into_bytes()
+        close_tail(layout, laying.tail, place, prefixed).into_bytes()
     }
 }
 

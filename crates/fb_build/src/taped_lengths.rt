@@ -126,20 +126,21 @@ fn tape_most(tape: &Tape) -> usize
     most
 }
 
-/// How long the buffer of a tape is.
-pub(crate) fn buffer_end(layout: &Layout, tape: &Tape) -> usize
+/// How long the buffer of a tape is, with so many bytes before it.
+pub(crate) fn buffer_end(layout: &Layout, tape: &Tape, front: usize) -> usize
+    requires low { front ≤ 4 }
     requires layout { tape.now.layout ≡ layout.now }
     requires means { SomeLay tape.now }
     requires short { tape.now.room ≤ 2147483647 }
-    ensures exact { result ≡ buffer_end layout.now tape.now }
-    ensures bound { result ≤ tape.now.room + (8 + (greatest layout.now - 1)) }
+    ensures exact { result ≡ buffer_end front layout.now tape.now }
+    ensures bound { result ≤ front + (tape.now.room + (8 + (greatest layout.now - 1))) }
 {
     let _schema = layout.schema(); // its contract: the layout is well made
     let most = tape_most(tape);
     let laid = tape_end(layout, tape);
     let header = match layout.schema().identifier() {
-        Some(_) => 8,
-        None => 4,
+        Some(_) => 8 + front,
+        None => 4 + front,
     };
     laid + (zeros_to(most, laid + header) + header)
 }

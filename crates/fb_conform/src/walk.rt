@@ -9,9 +9,9 @@ ghost use Rattle.fb_conform.specs.Twins.{SameName, Twins, TableTwins, TableSlot}
 
 use crate::bodies::body_of;
 use crate::breaches::Breach;
+use crate::kept_fields::{is_required, same_default, same_required, same_type, stays_deprecated};
 use crate::members::{has_values, keeps_codes, same_numbers};
 use crate::sinks::Sink;
-use crate::slots::{is_required, same_default, same_required, same_type, stays_deprecated};
 use crate::structs::same_struct;
 use crate::twins::{same_name, twin_of};
 use fb_layout::Layout;

@@ -22,7 +22,7 @@ use Rattle.fb_schema.specs.declared.kinds.TypeId.{TypeId}
 use Rattle.fb_schema.specs.declared.kinds.Kind.TheVariants.{Scalar, Enum, Union, Code}
 use Rattle.fb_resolve.specs.Outline.{TypeRead}
 use Rattle.fb_schema.specs.Ranges.{holds}
-use Rattle.fb_resolve.specs.EnumsRead.{underlying_at, value_at}
+use Rattle.fb_resolve.specs.EnumValues.{underlying_at, value_at}
 use Rattle.fb_resolve.specs.Defaults.{number_within, null_or_wrong, scalar_named, enum_named, given_to, given_by}
 use Rattle.fb_resolve.specs.SlotsRead.{number_given, is_null, union_of, shape_of, value_slot, slots_read, AreInPlace}
 use Rattle.fb_resolve.specs.SlotsRead.{are_ids_wrong, union_in, slots_by_union, slots_of_field, slots_in_order}

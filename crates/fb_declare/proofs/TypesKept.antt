@@ -21,8 +21,8 @@ use Rattle.fb_resolve.specs.Outline.{TypeRead, Outline, full_name, name_of_type}
 use Rattle.fb_resolve.specs.Attributes.{has_attribute, number_called}
 use Rattle.fb_resolve.specs.BasicTypes.{basic_type}
 use Rattle.fb_resolve.specs.Defaults.{given_by}
-use Rattle.fb_resolve.specs.EnumsRead.{has_flags, underlying_at, value_at, number_named, value_named, behind}
-use Rattle.fb_resolve.specs.EnumsRead.{enum_values, enum_values_of, value_in, value_of_read, values_read}
+use Rattle.fb_resolve.specs.EnumValues.{has_flags, underlying_at, value_at, number_named, value_named, behind}
+use Rattle.fb_resolve.specs.EnumValues.{enum_values, enum_values_of, value_in, value_of_read, values_read}
 use Rattle.fb_resolve.specs.Meaning.{use_of, use_of_read, use_of_type, basic_or, meaning_of, type_name, type_meant}
 use Rattle.fb_resolve.specs.MembersRead.{table_of}
 use Rattle.fb_resolve.specs.ResolvedFields.{ResolvedField}

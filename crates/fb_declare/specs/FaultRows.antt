@@ -16,7 +16,7 @@ use Rattle.fb_schema.specs.Schema.{Name}
 use Rattle.fb_resolve.specs.Outline.{RootRead}
 use Rattle.fb_resolve.specs.RepeatedNames.{is_again}
 use Rattle.fb_resolve.specs.Meaning.{type_name}
-use Rattle.fb_resolve.specs.EnumsRead.{may_be_written, integer_type, name_of_value}
+use Rattle.fb_resolve.specs.EnumValues.{may_be_written, integer_type, name_of_value}
 use Rattle.fb_resolve.specs.MembersRead.{table_of}
 use Rattle.fb_resolve.specs.ResolvedFields.{ResolvedMember, ResolvedValue}
 use Rattle.fb_schema.specs.declared.kinds.Base.{Base}

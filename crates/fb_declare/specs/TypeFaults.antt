@@ -13,7 +13,7 @@ use Rattle.fb_resolve.specs.Resolved.{resolved_types, meaning_of_root}
 use Rattle.fb_resolve.specs.declared.resolved.ResolvedDecl.{ResolvedDecl}
 use Rattle.fb_resolve.specs.declared.resolved.ResolvedDecl.TheVariants as resolved
 use Rattle.fb_declare.specs.AttributeFaults.{metadata_faults}
-use Rattle.fb_resolve.specs.EnumsRead.{integer_type}
+use Rattle.fb_resolve.specs.EnumValues.{integer_type}
 use Rattle.fb_resolve.specs.SlotsRead.{slots_of_field, are_ids_wrong}
 use Rattle.fb_resolve.specs.StructsRead.{natural_align, align_of_type}
 use Rattle.fb_declare.specs.FaultRows.{when, faults_behind, faults_in_turn, is_among, name_again, field_type}

@@ -1,38 +1,42 @@
 -- What bytes a tree of JSON gives.
 -- From the FlatBuffers documentation, "Using the schema compiler": `--binary`.
-use Rattle.std.specs.Prelude.{◌≤◌, ◌<◌, Bool, length}
+use Rattle.std.specs.Prelude.{◌≤◌, ◌<◌, Bool, false, length}
 use Rattle.serde_json.specs.Data.{Data}
 use Rattle.fb_layout.specs.Laid.{LaidSchema}
 use Rattle.fb_value.specs.Bounds.{Bounds}
 use Rattle.fb_value.specs.Counts.{cells, depth}
 use Rattle.fb_value.specs.Datum.{Datum}
 use Rattle.fb_value.specs.Fits.{FitsRoot}
-use Rattle.fb_value.specs.Holds.{Holds}
+use Rattle.fb_value.specs.Holds.{HoldsFramed, front_of}
 use Rattle.fb_value.specs.Num.{Bytes}
-use Rattle.fb_value.specs.OldSlots.{OnlyOld}
-use Rattle.fb_value.specs.Room.{room_of}
+use Rattle.fb_value.specs.OldSlots.{OnlyOldBehind}
 use Rattle.fb_json.specs.Means.{Means}
 use Rattle.fb_json.specs.Refuses as trees
 use Rattle.fb_json.specs.declared.faults.JsonFault.{JsonFault}
 use Rattle.fb_json.specs.declared.faults.JsonFault.TheVariants as the_json
-use Rattle.fb_build.specs.Covered.{Covered, EndsAligned}
+use Rattle.fb_build.specs.Covered.{CoveredFramed, EndsAlignedFramed}
+use Rattle.fb_build.specs.FramedRoom.{framed_room}
 use Rattle.fb_build.specs.declared.faults.BuildFault.TheVariants as the_build
 use Rattle.fb_encode.specs.declared.faults.EncodeFault.{EncodeFault}
 use Rattle.fb_encode.specs.declared.faults.EncodeFault.TheVariants.{Json, Build}
 
 -- Exactly the value that the tree means lies in the bytes, only slots in use have something, each byte belongs to the
--- value or is one of few zeros, and they are no longer than its room.
-pub record IsEncoded (L : LaidSchema) (most : Bounds) (unknown : Bool) (t : Data) (b : Bytes) : Type 0 where
+-- value or is one of few zeros, or to the count in front of a prefixed buffer, and they are no longer than its room.
+pub record IsEncodedFramed (prefixed : Bool) (L : LaidSchema) (most : Bounds) (unknown : Bool) (t : Data) (b : Bytes)
+    : Type 0 where
   pub value : Datum
   pub means : Means L most unknown t value
   pub fits : FitsRoot L value
-  pub small : room_of L value ≤ 2147483647
+  pub small : framed_room prefixed L value ≤ 2147483647
   pub holds : (bounds : Bounds) (raw : Bool) → depth value ≤ bounds.depth → cells value ≤ bounds.cells
-      → Holds L bounds raw b value
-  pub old_slots : OnlyOld L b
-  pub covered : Covered L b
-  pub aligned : EndsAligned L b
-  pub short : length b ≤ room_of L value
+      → HoldsFramed prefixed L bounds raw b value
+  pub old_slots : OnlyOldBehind (front_of prefixed) L b
+  pub covered : CoveredFramed prefixed L b
+  pub aligned : EndsAlignedFramed prefixed L b
+  pub short : length b ≤ framed_room prefixed L value
+
+abbrev pub IsEncoded : LaidSchema → Bounds → Bool → Data → Bytes → Type 0
+IsEncoded L most unknown t b = IsEncodedFramed false L most unknown t b
 
 -- what is refused for a rule that the tree breaks
 pub record BreaksARule (L : LaidSchema) (most : Bounds) (unknown : Bool) (t : Data) (f : JsonFault) : Type 0 where
@@ -46,9 +50,12 @@ TreeRefused L most unknown t f = BreaksARule L most unknown t f
 
 -- The tree's first fault; or what it means is too big; or memory ran out, while the tree was read, or later, where it
 -- means a value that isn't too big.
+abbrev pub EncodeRefusedFramed : Bool → LaidSchema → Bounds → Bool → Data → EncodeFault → Type 0
+EncodeRefusedFramed prefixed L most unknown t (Json f) = TreeRefused L most unknown t f
+EncodeRefusedFramed prefixed L most unknown t (Build the_build.TooBig) =
+    (d : Datum) × Means L most unknown t d × (2147483647 < framed_room prefixed L d)
+EncodeRefusedFramed prefixed L most unknown t (Build the_build.Memory) =
+    (d : Datum) × Means L most unknown t d × (framed_room prefixed L d ≤ 2147483647)
+
 abbrev pub EncodeRefused : LaidSchema → Bounds → Bool → Data → EncodeFault → Type 0
-EncodeRefused L most unknown t (Json f) = TreeRefused L most unknown t f
-EncodeRefused L most unknown t (Build the_build.TooBig) =
-    (d : Datum) × Means L most unknown t d × (2147483647 < room_of L d)
-EncodeRefused L most unknown t (Build the_build.Memory) =
-    (d : Datum) × Means L most unknown t d × (room_of L d ≤ 2147483647)
+EncodeRefused L most unknown t f = EncodeRefusedFramed false L most unknown t f

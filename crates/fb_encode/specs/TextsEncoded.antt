@@ -8,7 +8,7 @@ use Rattle.fb_value.specs.Num.{Bytes}
 use Rattle.fb_tape.specs.Tapes.{Taped}
 use Rattle.fb_json.specs.declared.faults.JsonFault.{JsonFault}
 use Rattle.fb_json.specs.declared.faults.JsonFault.TheVariants as the_json
-use Rattle.fb_encode.specs.Encoded.{EncodeRefused, IsEncoded}
+use Rattle.fb_encode.specs.Encoded.{EncodeRefusedFramed, IsEncodedFramed}
 use Rattle.fb_encode.specs.RootsNoted.{IsRootNoted}
 use Rattle.fb_encode.specs.TextsRead.{IsRead, IsReadAs}
 use Rattle.fb_encode.specs.declared.faults.EncodeFault.TheVariants.{Json}
@@ -20,15 +20,21 @@ use Rattle.fb_encode.specs.declared.faults.TextFault.TheVariants as the_text
 abbrev pub IsJsonOf : List ℕ → Data → Type 0
 IsJsonOf json t = IsReadAs 127 json t
 
--- The bytes are a buffer of the tree that the text is read as.
-abbrev pub IsTextEncoded : LaidSchema → Bounds → Bool → List ℕ → Bytes → Type 0
-IsTextEncoded L most unknown json b = (t : Data) × IsJsonOf json t × IsEncoded L most unknown t b
+-- The bytes are a buffer of the tree that the text is read as, with a count in front or without.
+abbrev pub IsTextEncoded : Bool → LaidSchema → Bounds → Bool → List ℕ → Bytes → Type 0
+IsTextEncoded prefixed L most unknown json b =
+    (t : Data) × IsJsonOf json t × IsEncodedFramed prefixed L most unknown t b
 
 -- The text isn't JSON; or its tree is refused; or memory ran out while it was read.
-abbrev pub TextRefused : LaidSchema → Bounds → Bool → List ℕ → TextFault → Type 0
-TextRefused L most unknown json BadJson = ¬ IsRead 127 json
-TextRefused L most unknown json the_text.Memory = ⊤
-TextRefused L most unknown json (Encode f) = (t : Data) × IsJsonOf json t × EncodeRefused L most unknown t f
+abbrev pub TextRefused : Bool → LaidSchema → Bounds → Bool → List ℕ → TextFault → Type 0
+TextRefused prefixed L most unknown json BadJson = ¬ IsRead 127 json
+TextRefused prefixed L most unknown json the_text.Memory = ⊤
+TextRefused prefixed L most unknown json (Encode f) =
+    (t : Data) × IsJsonOf json t × EncodeRefusedFramed prefixed L most unknown t f
+
+-- It is refused before anything is laid, with a count in front or without.
+abbrev pub IsUnread : LaidSchema → Bounds → Bool → List ℕ → TextFault → Type 0
+IsUnread L most unknown json f = (prefixed : Bool) → TextRefused prefixed L most unknown json f
 
 -- The value that the text means is noted on the tape, as the root's.
 abbrev pub IsTextNoted : LaidSchema → Bounds → Bool → List ℕ → Taped → Type 0

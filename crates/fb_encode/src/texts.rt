@@ -3,7 +3,7 @@ ghost use Rattle.std.specs.Prelude.{◌≡◌, ℕ, Bool, IfErr, IfOk, IfSome, L
 ghost use Rattle.fb_value.specs.Bounds.{Bounds};
 ghost use Rattle.fb_value.specs.Datum.{Datum};
 ghost use Rattle.fb_build.specs.NotedRoots.{NotesRoot};
-ghost use Rattle.fb_encode.specs.TextsEncoded.{IsTextEncoded, IsTextNoted, TextRefused, first_fault};
+ghost use Rattle.fb_encode.specs.TextsEncoded.{IsTextEncoded, IsTextNoted, IsUnread, TextRefused, first_fault};
 
 use crate::excerpts::{TextWalk, note_excerpt};
 use crate::faults::{EncodeFault, TextFault};
@@ -39,7 +39,7 @@ fn note_in_pieces<'l>(
     ensures noted { IfSome result (λ r. IfOk r
         (IsTextNoted source.entry.layout.now limits source.entry.unknown json.now)) }
     ensures refused { IfSome result (λ r. IfErr r
-        (TextRefused source.entry.layout.now limits source.entry.unknown json.now)) }
+        (IsUnread source.entry.layout.now limits source.entry.unknown json.now)) }
 {
     only_what_is_meant();
     first_fault_refuses();
@@ -78,7 +78,7 @@ fn note_in_pieces<'l>(
 /// The same of a text that is read at once.
 fn note_at_once<'l>(source: Source<'l>, json: &[u8], limits: Limits) -> Result<Tape<'l>, TextFault>
     ensures noted { IfOk result (IsTextNoted source.entry.layout.now limits source.entry.unknown json.now) }
-    ensures refused { IfErr result (TextRefused source.entry.layout.now limits source.entry.unknown json.now) }
+    ensures refused { IfErr result (IsUnread source.entry.layout.now limits source.entry.unknown json.now) }
 {
     first_fault_refuses();
     let tree = match Json::from_slice(source.alloc, json) {
@@ -105,7 +105,7 @@ fn note_text<'l>(
     piece: usize,
 ) -> Result<Tape<'l>, TextFault>
     ensures noted { IfOk result (IsTextNoted source.entry.layout.now limits source.entry.unknown json.now) }
-    ensures refused { IfErr result (TextRefused source.entry.layout.now limits source.entry.unknown json.now) }
+    ensures refused { IfErr result (IsUnread source.entry.layout.now limits source.entry.unknown json.now) }
 {
     if json.len() > piece {
         if let Some(noted) = note_in_pieces(source, json, limits, piece) {
@@ -120,21 +120,22 @@ fn lay_text<'l>(
     alloc: Global,
     layout: &'l Layout,
     noted: Result<Tape<'l>, TextFault>,
+    prefixed: bool,
 ) -> Result<Vec<u8>, TextFault>
     requires { IfOk noted (λ tape. (d : Datum) × NotesRoot layout.now tape d) }
     ensures encoded { (most : Bounds) (unknown : Bool) (json : List ℕ)
         → IfOk noted.entry (IsTextNoted layout.now most unknown json)
-        → IfOk result (λ b. IsTextEncoded layout.now most unknown json b.items) }
+        → IfOk result (λ b. IsTextEncoded prefixed layout.now most unknown json b.items) }
     ensures refused { (most : Bounds) (unknown : Bool) (json : List ℕ)
         → IfOk noted.entry (IsTextNoted layout.now most unknown json)
-        → IfErr noted.entry (TextRefused layout.now most unknown json)
-        → IfErr result (TextRefused layout.now most unknown json) }
+        → IfErr noted.entry (IsUnread layout.now most unknown json)
+        → IfErr result (TextRefused prefixed layout.now most unknown json) }
 {
     let tape = match noted {
         Ok(tape) => tape,
         Err(fault) => return Err(fault),
     };
-    match lay_noted(alloc, layout, tape) {
+    match lay_noted(alloc, layout, tape, prefixed) {
         Ok(bytes) => Ok(bytes),
         Err(fault) => Err(TextFault::Encode(fault)),
     }
@@ -144,7 +145,7 @@ fn lay_text<'l>(
 ///
 /// A text of more than `piece` bytes is read in pieces of some `piece` bytes, and each is dropped before the next is
 /// read. Which they are changes nothing of the result. The error is that of the text, then that of its first fault, and
-/// then that of the value's size.
+/// then that of the value's size. A `prefixed` buffer has the count of its bytes in front.
 pub fn encode_text(
     alloc: Global,
     layout: &Layout,
@@ -152,16 +153,18 @@ pub fn encode_text(
     limits: Limits,
     unknown: bool,
     piece: usize,
+    prefixed: bool,
 ) -> Result<Vec<u8>, TextFault>
-    ensures encoded { IfOk result (λ b. IsTextEncoded layout.now limits unknown json.now b.items) }
-    ensures refused { IfErr result (TextRefused layout.now limits unknown json.now) }
+    ensures encoded { IfOk result (λ b. IsTextEncoded prefixed layout.now limits unknown json.now b.items) }
+    ensures refused { IfErr result (TextRefused prefixed layout.now limits unknown json.now) }
 {
     let source = Source {
         alloc,
         layout,
         unknown,
     };
-    lay_text(alloc, layout, note_text(source, json, limits, piece))
+    let noted = note_text(source, json, limits, piece);
+    lay_text(alloc, layout, noted, prefixed)
 }
 
 /// The same of a JSON text that is given away, and dropped before memory for the buffer is taken.
@@ -172,9 +175,10 @@ pub fn encode_owned_text(
     limits: Limits,
     unknown: bool,
     piece: usize,
+    prefixed: bool,
 ) -> Result<Vec<u8>, TextFault>
-    ensures encoded { IfOk result (λ b. IsTextEncoded layout.now limits unknown json.items b.items) }
-    ensures refused { IfErr result (TextRefused layout.now limits unknown json.items) }
+    ensures encoded { IfOk result (λ b. IsTextEncoded prefixed layout.now limits unknown json.items b.items) }
+    ensures refused { IfErr result (TextRefused prefixed layout.now limits unknown json.items) }
 {
     let source = Source {
         alloc,
@@ -183,5 +187,5 @@ pub fn encode_owned_text(
     };
     let noted = note_text(source, json.as_slice(), limits, piece);
     drop(json);
-    lay_text(alloc, layout, noted)
+    lay_text(alloc, layout, noted, prefixed)
 }

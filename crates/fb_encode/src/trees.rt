@@ -7,7 +7,7 @@ ghost use Rattle.fb_value.specs.Bounds.{Bounds};
 ghost use Rattle.fb_value.specs.Datum.{Datum};
 ghost use Rattle.fb_json.specs.Refuses.{IsFirst, MayLackMemory};
 ghost use Rattle.fb_build.specs.NotedRoots.{NotesRoot};
-ghost use Rattle.fb_encode.specs.Encoded.{EncodeRefused, IsEncoded};
+ghost use Rattle.fb_encode.specs.Encoded.{EncodeRefused, EncodeRefusedFramed, IsEncoded, IsEncodedFramed};
 ghost use Rattle.fb_encode.specs.RootsNoted.{IsRootNoted};
 
 use crate::faults::EncodeFault;
@@ -46,19 +46,20 @@ pub(crate) fn note_root<'l>(
     Ok(tape)
 }
 
-/// The bytes of the value that is noted on a tape, as the root's.
+/// The bytes of the value that is noted on a tape, as the root's; the count of those of a `prefixed` buffer is in front.
 pub(crate) fn lay_noted<'l>(
     alloc: Global,
     layout: &'l Layout,
     tape: Tape<'l>,
+    prefixed: bool,
 ) -> Result<Vec<u8>, EncodeFault>
     requires { (d : Datum) × NotesRoot layout.now tape d }
     ensures encoded { (most : Bounds) (unknown : Bool) (t : Data) → IsRootNoted layout.now most unknown t tape.entry
-        → IfOk result (λ b. IsEncoded layout.now most unknown t b.items) }
+        → IfOk result (λ b. IsEncodedFramed prefixed layout.now most unknown t b.items) }
     ensures refused { (most : Bounds) (unknown : Bool) (t : Data) → IsRootNoted layout.now most unknown t tape.entry
-        → IfErr result (EncodeRefused layout.now most unknown t) }
+        → IfErr result (EncodeRefusedFramed prefixed layout.now most unknown t) }
 {
-    match lay_root(alloc, layout, tape) {
+    match lay_root(alloc, layout, tape, prefixed) {
         Ok(bytes) => Ok(bytes),
         Err(fault) => Err(EncodeFault::Build(fault)),
     }
@@ -90,5 +91,5 @@ pub fn encode_tree(
         Err(fault) => return Err(EncodeFault::Json(fault)),
     };
     drop(tree);
-    lay_noted(alloc, layout, tape)
+    lay_noted(alloc, layout, tape, false)
 }

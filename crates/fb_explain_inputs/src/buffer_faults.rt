@@ -1,11 +1,12 @@
 //! What is wrong with a buffer.
 use crate::buffer_paths::push_path;
+use crate::prefixes::{push_count, push_other_framing};
 use crate::sources::Sources;
 use fb_explain_pages::{Page, push_dump};
 use fb_explain_words::{FileKind, kind_of_file};
 use fb_layout::Layout;
 use fb_read::{Step, fault_path};
-use fb_value::{Limits, ReadFault};
+use fb_value::{Limits, ReadFault, front_of};
 
 /// The bytes of a number at an offset.
 fn word_at(bytes: &[u8], offset: usize) -> Option<[u8; 4]> {
@@ -64,9 +65,10 @@ fn push_vtable(page: &mut Page, bytes: &[u8], offset: u64) {
     }
 }
 
-fn push_identifiers(page: &mut Page, layout: &Layout, bytes: &[u8]) {
+fn push_identifiers(page: &mut Page, layout: &Layout, bytes: &[u8], offset: u64) {
+    let start = offset.min(8) as usize;
     page.push_str("the file identifier is ");
-    page.push_name(bytes.get(4..8).unwrap_or(&[]));
+    page.push_name(bytes.get(start..start + 4).unwrap_or(&[]));
     if let Some(identifier) = layout.schema().identifier() {
         page.push_str(", the schema's is ");
         page.push_name(&identifier);
@@ -97,7 +99,7 @@ fn push_rule(page: &mut Page, layout: &Layout, limits: Limits, bytes: &[u8], fau
         ReadFault::TooLong(most) => {
             push_sentence(page, &[("the buffer is longer than ", most)], " bytes")
         }
-        ReadFault::WrongIdentifier(_) => push_identifiers(page, layout, bytes),
+        ReadFault::WrongIdentifier(at) => push_identifiers(page, layout, bytes, at),
         ReadFault::Misaligned(at) => push_sentence(
             page,
             &[("what is stored at ", at)],
@@ -163,6 +165,7 @@ fn push_fault_path(page: &mut Page, layout: &Layout, sources: &Sources<'_>) -> b
         sources.input.bytes,
         sources.limits,
         sources.raw_binary,
+        sources.size_prefixed,
     );
     let Some(Some(steps)) = page.keep(steps) else {
         return false;
@@ -172,21 +175,21 @@ fn push_fault_path(page: &mut Page, layout: &Layout, sources: &Sources<'_>) -> b
     steps.iter().all(|step| matches!(step, Step::Reference))
 }
 
-/// Adds what is wrong with the offset of the root, which a buffer's first bytes have.
-fn push_root_offset(page: &mut Page, bytes: &[u8], fault: ReadFault) -> bool {
+/// Adds what is wrong with the offset of the root, which a buffer's first bytes have behind their count.
+fn push_root_offset(page: &mut Page, bytes: &[u8], prefixed: bool, fault: ReadFault) -> bool {
     let len = bytes.len() as u64;
+    let says = if prefixed {
+        "bytes 4 to 7 say that it is at "
+    } else {
+        "bytes 0 to 3 say that it is at "
+    };
     match fault {
-        ReadFault::Misaligned(at) if at < len => push_sentence(
-            page,
-            &[("bytes 0 to 3 say that it is at ", at)],
-            ", which isn't a multiple of 4",
-        ),
+        ReadFault::Misaligned(at) if at < len => {
+            push_sentence(page, &[(says, at)], ", which isn't a multiple of 4")
+        }
         ReadFault::OutOfBounds(at) | ReadFault::Misaligned(at) => push_sentence(
             page,
-            &[
-                ("bytes 0 to 3 say that it is at ", at),
-                (", and the buffer has ", len),
-            ],
+            &[(says, at), (", and the buffer has ", len)],
             " bytes",
         ),
         _ => return false,
@@ -217,13 +220,17 @@ pub fn push_buffer_fault(
     if push_another_kind(page, source.bytes) {
         return;
     }
+    let prefixed = sources.size_prefixed;
     let is_root = push_fault_path(page, layout, sources);
-    if is_root && push_root_offset(page, source.bytes, fault) {
-        push_dump(page, source.bytes, 0);
-        return;
+    if is_root && push_root_offset(page, source.bytes, prefixed, fault) {
+        push_dump(page, source.bytes, front_of(prefixed));
+    } else {
+        if !(prefixed && push_count(page, source.bytes, fault)) {
+            push_rule(page, layout, sources.limits, source.bytes, fault);
+        }
+        if let Some(offset) = fault.offset() {
+            push_dump(page, source.bytes, offset as usize);
+        }
     }
-    push_rule(page, layout, sources.limits, source.bytes, fault);
-    if let Some(offset) = fault.offset() {
-        push_dump(page, source.bytes, offset as usize);
-    }
+    push_other_framing(page, layout, sources);
 }

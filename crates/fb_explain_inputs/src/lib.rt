@@ -11,6 +11,7 @@ mod json_places;
 mod json_rules;
 mod json_syntax;
 mod json_tokens;
+mod prefixes;
 mod sources;
 mod union_codes;
 mod union_paths;

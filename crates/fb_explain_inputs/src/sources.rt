@@ -32,6 +32,8 @@ pub struct Sources<'a> {
     pub unknown_json: bool,
     /// Whether the file identifier check is skipped.
     pub raw_binary: bool,
+    /// Whether the count of the buffer's bytes is in front of it.
+    pub size_prefixed: bool,
     /// How many columns lines take at most: 48 or more, and 120 or less.
     pub columns: usize,
     /// The file that can't be read or written, or standard output.

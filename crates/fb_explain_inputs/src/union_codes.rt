@@ -7,7 +7,7 @@ use fb_explain_pages::{Page, push_names};
 use fb_explain_words::shapes::{field_at, members_of, type_name};
 use fb_json::Place;
 use fb_layout::Layout;
-use fb_read::{Entries, read};
+use fb_read::{Entries, read_framed};
 use fb_schema::{Kind, Shape};
 use fb_value::ReadFault;
 use std::alloc::{AllocError, Global};
@@ -18,12 +18,13 @@ fn unnamed_in(
     layout: &Layout,
     sources: &Sources<'_>,
 ) -> Result<Option<Unnamed>, AllocError> {
-    let value = read(
+    let value = read_framed(
         alloc,
         layout,
         sources.input.bytes,
         sources.limits,
         sources.raw_binary,
+        sources.size_prefixed,
         &mut Entries::new(),
     );
     match value {

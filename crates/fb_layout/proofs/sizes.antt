@@ -1,4 +1,4 @@
 -- Sizes and alignments.
 pub mod AlignmentsArePowersOfTwo
 pub mod EachFieldTakesAByte
-pub mod ExactSizesAreRight
+pub mod StructsAreDeclared

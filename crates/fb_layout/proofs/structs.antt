@@ -1,4 +1,5 @@
 -- What the proofs of src/structs.rt use.
+pub mod FieldsStandAtLeastMultiples
 pub mod KindsTakeTheirExactSizes
 pub mod OneStepMore
 pub mod SmallStructsAreKnown

@@ -7,8 +7,6 @@ mod cuts;
 mod cutter;
 mod laws;
 mod strings;
-#[cfg(test)]
-mod tests;
 mod walk;
 
 pub use blanks::leading_blanks;

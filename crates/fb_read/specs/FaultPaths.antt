@@ -10,7 +10,7 @@ use Rattle.fb_value.specs.Places.{table_part, member_part, vector_part, Sort, re
 use Rattle.fb_value.specs.Places.{Place}
 use Rattle.fb_value.specs.Reached.{Path, Names, ComesBefore}
 use Rattle.fb_value.specs.Faults.{FaultFrom}
-use Rattle.fb_value.specs.Holds.{header_fault, checked_identifier, root_place}
+use Rattle.fb_value.specs.Holds.{front_of, front_fault, checked_identifier, root_at}
 use Rattle.fb_read.specs.declared.step.Step.{Step}
 use Rattle.fb_read.specs.declared.step.Step.TheVariants.{Reference, Slot, Element}
 use Rattle.fb_read.specs.declared.buffer.Buffer.{Buffer}
@@ -42,12 +42,16 @@ abbrev pub LeastAt : LaidSchema → Bytes → Bounds → Place → ℕ → ℕ �
 LeastAt L b most x tables spent path f = FaultFrom L b most x tables spent path f
     × ((other : Path) (g : ReadFault) → ComesBefore other path → FaultFrom L b most x tables spent other g → ⊥)
 
--- The header keeps its rules, and the least fault behind it is at the end of these steps from the root.
-pub record IsFaultPath (L : LaidSchema) (most : Bounds) (raw : Bool) (b : Bytes) (steps : List Step) (f : ReadFault)
-    : Type 0 where
-  pub header : header_fault b (checked_identifier L raw) ≡ None
-  pub least : LeastAt L b most (root_place L) 0 0 (map number_of steps) f
-  pub each : AreStepsFrom L b (root_place L) steps
+-- The front keeps its rules, and the least fault behind it is at the end of these steps from the root's reference.
+pub record IsFaultPathBehind (front : ℕ) (fault : Option ReadFault) (L : LaidSchema) (most : Bounds) (b : Bytes)
+    (steps : List Step) (f : ReadFault) : Type 0 where
+  pub header : fault ≡ None
+  pub least : LeastAt L b most (root_at L front) 0 0 (map number_of steps) f
+  pub each : AreStepsFrom L b (root_at L front) steps
+
+abbrev pub IsFaultPathFramed : Bool → LaidSchema → Bounds → Bool → Bytes → List Step → ReadFault → Type 0
+IsFaultPathFramed prefixed L most raw b steps f =
+    IsFaultPathBehind (front_of prefixed) (front_fault prefixed b (checked_identifier L raw)) L most b steps f
 
 -- The least fault from a place, if there is one, is at the end of these steps.
 abbrev pub LeadsToLeast : LaidSchema → Bytes → Bounds → Option Place → ℕ → ℕ → List Step → ReadFault → Type 0

@@ -1,49 +1,98 @@
-//! The rules of a buffer's header.
-ghost use Rattle.std.specs.Prelude.{◌≡◌, ◌≤◌, ◌<◌, ◌^◌, length, MatchResult, OnOk, None, Some, Err};
-ghost use Rattle.fb_value.specs.Holds.{header_fault, checked_identifier};
+//! The rules of a buffer's front: its count, if it has one, and its header.
+ghost use Rattle.std.specs.Prelude.{◌≡◌, ◌≤◌, ◌<◌, ◌+◌, ◌^◌, List, length, MatchResult, OnOk, None, Some, Err};
+ghost use Rattle.fb_value.specs.Rules.{Rule, first_failing};
+ghost use Rattle.fb_value.specs.Holds.{header_rules, count_rules, front_of, front_fault, checked_identifier};
 
+use crate::numbers::u32_at;
 use fb_layout::Layout;
 use fb_value::ReadFault;
 
 // The maximum length of a buffer.
 const MOST_BYTES: usize = 2_147_483_647;
 
-#[tactic(auto, unfolding(fb_value::specs::Holds::header_fault, fb_value::specs::Rules::first_failing))]
-fn check_identified(bytes: &[u8], identifier: [u8; 4]) -> Result<(), ReadFault>
+#[tactic(auto, unfolding(fb_value::specs::Rules::first_failing))]
+fn check_identified(bytes: &[u8], front: usize, identifier: [u8; 4]) -> Result<(), ReadFault>
+    requires low { front ≤ 4 }
     ensures rules { MatchResult result
-        (λ _. header_fault bytes.now (Some identifier) ≡ None)
-        (λ f. header_fault bytes.now (Some identifier) ≡ Some f) }
+        (λ _. first_failing (header_rules front bytes.now (Some identifier)) ≡ None)
+        (λ f. first_failing (header_rules front bytes.now (Some identifier)) ≡ Some f) }
     ensures short { OnOk result (length bytes.now < 2 ^ 31) }
-    ensures long { OnOk result (4 ≤ length bytes.now) }
+    ensures long { OnOk result (front + 4 ≤ length bytes.now) }
     ensures rule { result ≡ Err ReadFault.Memory → ⊥ }
 {
-    if bytes.len() < 8 {
+    let at = front + 4;
+    if bytes.len() < front + 8 {
         return Err(ReadFault::Short(bytes.len() as u64));
     }
     if bytes.len() > MOST_BYTES {
         return Err(ReadFault::TooLong(MOST_BYTES as u64));
     }
-    if &bytes[4..8] != identifier.as_slice() {
-        return Err(ReadFault::WrongIdentifier(4));
+    if &bytes[at..at + 4] != identifier.as_slice() {
+        return Err(ReadFault::WrongIdentifier(at as u64));
     }
     Ok(())
 }
 
-/// Checks the rules of a header.
-#[tactic(auto, unfolding(fb_value::specs::Holds::header_fault, fb_value::specs::Rules::first_failing))]
-pub fn check_front(bytes: &[u8], identifier: Option<[u8; 4]>) -> Result<(), ReadFault>
+/// Checks the rules of a header from a position on.
+#[tactic(auto, unfolding(fb_value::specs::Rules::first_failing))]
+fn check_header(bytes: &[u8], front: usize, identifier: Option<[u8; 4]>) -> Result<(), ReadFault>
+    requires low { front ≤ 4 }
     ensures rules { MatchResult result
-        (λ _. header_fault bytes.now identifier ≡ None)
-        (λ f. header_fault bytes.now identifier ≡ Some f) }
+        (λ _. first_failing (header_rules front bytes.now identifier) ≡ None)
+        (λ f. first_failing (header_rules front bytes.now identifier) ≡ Some f) }
     ensures short { OnOk result (length bytes.now < 2 ^ 31) }
-    ensures long { OnOk result (4 ≤ length bytes.now) }
+    ensures long { OnOk result (front + 4 ≤ length bytes.now) }
     ensures rule { result ≡ Err ReadFault.Memory → ⊥ }
 {
     match identifier {
-        Some(identifier) => check_identified(bytes, identifier),
-        None if bytes.len() < 4 => Err(ReadFault::Short(bytes.len() as u64)),
+        Some(identifier) => check_identified(bytes, front, identifier),
+        None if bytes.len() < front + 4 => Err(ReadFault::Short(bytes.len() as u64)),
         None if bytes.len() > MOST_BYTES => Err(ReadFault::TooLong(MOST_BYTES as u64)),
         None => Ok(()),
+    }
+}
+
+/// Checks that a count in front is the length of what follows it, before other rules are.
+#[tactic(auto, unfolding(fb_value::specs::Rules::first_failing))]
+fn check_count(bytes: &[u8]) -> Result<(), ReadFault>
+    ensures rules { MatchResult result
+        (λ _. (others : List Rule) → first_failing (count_rules bytes.now others) ≡ first_failing others)
+        (λ f. (others : List Rule) → first_failing (count_rules bytes.now others) ≡ Some f) }
+    ensures rule { result ≡ Err ReadFault.Memory → ⊥ }
+{
+    if bytes.len() < 4 {
+        return Err(ReadFault::Short(bytes.len() as u64));
+    }
+    let end = 4 + u32_at(bytes, 0) as usize;
+    if bytes.len() < end {
+        return Err(ReadFault::OutOfBounds(0));
+    }
+    if bytes.len() > end {
+        return Err(ReadFault::OutOfBounds(end as u64));
+    }
+    Ok(())
+}
+
+/// Checks the rules of a buffer's front.
+#[tactic(auto, unfolding(fb_value::specs::Holds::header_fault, fb_value::specs::Holds::prefixed_fault))]
+pub fn check_front(
+    bytes: &[u8],
+    identifier: Option<[u8; 4]>,
+    prefixed: bool,
+) -> Result<(), ReadFault>
+    ensures rules { MatchResult result
+        (λ _. front_fault prefixed bytes.now identifier ≡ None)
+        (λ f. front_fault prefixed bytes.now identifier ≡ Some f) }
+    ensures short { OnOk result (length bytes.now < 2 ^ 31) }
+    ensures long { OnOk result (front_of prefixed + 4 ≤ length bytes.now) }
+    ensures rule { result ≡ Err ReadFault.Memory → ⊥ }
+{
+    if !prefixed {
+        return check_header(bytes, 0, identifier);
+    }
+    match check_count(bytes) {
+        Ok(()) => check_header(bytes, 4, identifier),
+        Err(fault) => Err(fault),
     }
 }
 

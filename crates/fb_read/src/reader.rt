@@ -1,11 +1,12 @@
-//! The two calls that read a buffer.
+//! The calls that read a buffer: as a value, or in place once it is verified.
 ghost use Rattle.std.specs.Prelude.{◌≡◌, ◌≢◌, ◌+◌, ◌≤◌, OnOk, IfOk, IfErr, Err};
 ghost use Rattle.fb_value.specs.Datum.{Datum};
 ghost use Rattle.fb_value.specs.View.{view};
 ghost use Rattle.fb_value.specs.Counts.{depth, entered, nesting};
 ghost use Rattle.fb_value.specs.Fits.{FitsRoot};
 ghost use Rattle.fb_value.specs.Holds.{Holds, RootKeeps, Refuses};
-ghost use Rattle.fb_read.specs.Memory.{PartIsReached};
+ghost use Rattle.fb_value.specs.Holds.{HoldsFramed, RootKeepsFramed, RefusesFramed};
+ghost use Rattle.fb_read.specs.Memory.{PartIsReached, PartIsReachedFramed};
 ghost use Rattle.fb_read.specs.Shows.{Shows};
 
 pub(crate) mod paths;
@@ -21,7 +22,7 @@ use crate::view::View;
 use crate::visit_tables::visit_table_behind;
 use crate::walk::Walk;
 use fb_layout::Layout;
-use fb_value::{Limits, ReadFault, Value};
+use fb_value::{Limits, ReadFault, Value, front_of};
 use std::alloc::Global;
 use ticks::Ticks;
 
@@ -35,7 +36,6 @@ use ticks::Ticks;
 /// the limits, with no fault at or before it: it may be reported in place of a later fault.
 ///
 /// A struct takes some 0.4 KiB of stack for each level of its nesting, and so does its drop.
-#[tactic(auto, using(crate::proofs::buffer::AlignmentsArePositive::layout_sizes))]
 pub fn read<'a>(
     alloc: Global,
     layout: &'a Layout,
@@ -58,8 +58,37 @@ pub fn read<'a>(
     ensures counted { entries.new.count ≤ entries.old.count + (limits.cells + 1) }
     ensures each { IfOk result (λ v. entries.new.count ≡ entries.old.count + entered (view v)) }
 {
+    read_framed(alloc, layout, bytes, limits, raw, false, entries)
+}
+
+/// The same of a buffer that may be `prefixed`: with the count of its bytes in front, from which positions and alignment
+/// count.
+#[tactic(auto, using(crate::proofs::buffer::AlignmentsArePositive::layout_sizes))]
+pub fn read_framed<'a>(
+    alloc: Global,
+    layout: &'a Layout,
+    bytes: &'a [u8],
+    limits: Limits,
+    raw: bool,
+    prefixed: bool,
+    entries: &mut Entries,
+) -> Result<Value, ReadFault>
+    ensures value { IfOk result (λ v. HoldsFramed prefixed layout.now limits raw bytes.now (view v)) }
+    ensures fits { IfOk result (λ v. FitsRoot layout.now (view v)) }
+    ensures deep { IfOk result (λ v. depth (view v) ≤ 127) }
+    ensures nests { IfOk result (λ v. nesting (view v) ≤ 300) }
+    ensures fault { IfErr result
+        (λ f. f ≢ ReadFault.Memory → RefusesFramed prefixed layout.now limits raw bytes.now f) }
+    ensures memory { result ≡ Err ReadFault.Memory →
+        RootKeepsFramed prefixed layout.now limits raw bytes.now }
+    ensures reached { result ≡ Err ReadFault.Memory →
+        PartIsReachedFramed prefixed layout.now limits raw bytes.now }
+    ensures rises { entries.old.count ≤ entries.new.count }
+    ensures counted { entries.new.count ≤ entries.old.count + (limits.cells + 1) }
+    ensures each { IfOk result (λ v. entries.new.count ≡ entries.old.count + entered (view v)) }
+{
     let schema = layout.schema();
-    check_front(bytes, identifier_of(layout, raw))?;
+    check_front(bytes, identifier_of(layout, raw), prefixed)?;
     let most_depth = limits.most_depth();
     let most_cells = limits.most_cells();
     let buffer = Buffer {
@@ -73,7 +102,7 @@ pub fn read<'a>(
         ticks: Ticks::new(),
         visitor: Values { alloc },
     };
-    let value = visit_table_behind(&buffer, &mut walk, schema.root(), 0, 0);
+    let value = visit_table_behind(&buffer, &mut walk, schema.root(), front_of(prefixed), 0);
     walk.ticks.add_to(entries);
     value
 }
@@ -82,7 +111,6 @@ pub fn read<'a>(
 ///
 /// `raw` skips the file identifier check. `entries` rises by one for each table, vector
 /// and text that is entered. Nothing is allocated.
-#[tactic(auto, using(crate::proofs::buffer::AlignmentsArePositive::layout_sizes))]
 pub fn verify<'a>(
     layout: &'a Layout,
     bytes: &'a [u8],
@@ -101,8 +129,34 @@ pub fn verify<'a>(
     ensures each { OnOk result ((v : Datum) → Holds layout.now limits raw bytes.now v
         → entries.new.count ≡ entries.old.count + entered v) }
 {
+    verify_framed(layout, bytes, limits, raw, false, entries)
+}
+
+/// The same of a buffer that may be `prefixed`: with the count of its bytes in front, from which positions and alignment
+/// count.
+#[tactic(auto, using(crate::proofs::buffer::AlignmentsArePositive::layout_sizes))]
+pub fn verify_framed<'a>(
+    layout: &'a Layout,
+    bytes: &'a [u8],
+    limits: Limits,
+    raw: bool,
+    prefixed: bool,
+    entries: &mut Entries,
+) -> Result<View<'a>, ReadFault>
+    ensures held { OnOk result ((v : Datum) × HoldsFramed prefixed layout.now limits raw bytes.now v) }
+    ensures root { IfOk result (λ view. (view.layout.now ≡ layout.now)
+        × (view.table.0 ≡ layout.now.schema.root)) }
+    ensures stands { IfOk result (λ view. (v : Datum) → HoldsFramed prefixed layout.now limits raw bytes.now v
+        → Shows view v) }
+    ensures fault { IfErr result (RefusesFramed prefixed layout.now limits raw bytes.now) }
+    ensures rises { entries.old.count ≤ entries.new.count }
+    ensures counted { entries.new.count ≤ entries.old.count + (limits.cells + 1) }
+    ensures each { OnOk result ((v : Datum) → HoldsFramed prefixed layout.now limits raw bytes.now v
+        → entries.new.count ≡ entries.old.count + entered v) }
+{
     let schema = layout.schema();
-    check_front(bytes, identifier_of(layout, raw))?;
+    check_front(bytes, identifier_of(layout, raw), prefixed)?;
+    let front = front_of(prefixed);
     let most_depth = limits.most_depth();
     let most_cells = limits.most_cells();
     let buffer = Buffer {
@@ -116,10 +170,10 @@ pub fn verify<'a>(
         ticks: Ticks::new(),
         visitor: Verdict { hearer: Nobody },
     };
-    let visited = visit_table_behind(&buffer, &mut walk, schema.root(), 0, 0);
+    let visited = visit_table_behind(&buffer, &mut walk, schema.root(), front, 0);
     walk.ticks.add_to(entries);
     visited?;
-    let at = u32_at(bytes, 0) as usize;
+    let at = front + u32_at(bytes, front) as usize;
     Ok(View {
         layout,
         bytes,

@@ -4,7 +4,7 @@ use Rattle.std.specs.Option.{option_and_then}
 use Rattle.std.proofs.lemmas.Bool.Decides.{nat_tests}
 use Rattle.fb_syntax.specs.Signs.{dot}
 use Rattle.fb_schema.specs.Schema.{Name}
-use Rattle.fb_resolve.specs.EnumsRead.{behind}
+use Rattle.fb_resolve.specs.EnumValues.{behind}
 
 behind-cons : (a : ℕ) (prefix : Name) (c : ℕ) (name : Name)
     → behind (a ∷ prefix) (c ∷ name) ≡ (if a == c then behind prefix name else None)

@@ -9,7 +9,7 @@ use Rattle.fb_syntax.specs.declared.declarations.DefaultValue.TheVariants.{Integ
 use Rattle.fb_schema.specs.Schema.{Name}
 use Rattle.fb_resolve.specs.Outline.{TypeRead}
 use Rattle.fb_schema.specs.Ranges.{holds}
-use Rattle.fb_resolve.specs.EnumsRead.{underlying_at, value_at}
+use Rattle.fb_resolve.specs.EnumValues.{underlying_at, value_at}
 use Rattle.fb_schema.specs.declared.kinds.Base.{Base}
 use Rattle.fb_schema.specs.declared.kinds.Base.TheVariants.{Bool as Boolean}
 use Rattle.fb_schema.specs.declared.kinds.Kind.TheVariants.{Scalar, Enum}

@@ -5,7 +5,7 @@ pub mod ResolvedFields
 pub mod ResolvedType
 pub mod Resolved
 pub mod Attributes
-pub mod EnumsRead
+pub mod EnumValues
 pub mod Defaults
 pub mod SlotsRead
 pub mod StructsRead

@@ -9,7 +9,7 @@ use Rattle.fb_scopes.specs.Scopes.{tree_of, names_of, AreScopes, IsUse}
 use Rattle.fb_scopes.specs.declared.path_tree.PathTree.{PathTree}
 use Rattle.fb_resolve.specs.Outline.{TypeRead, RootRead, WalkRead, name_of_type}
 use Rattle.fb_resolve.specs.RepeatedNames.{repeated_names}
-use Rattle.fb_resolve.specs.EnumsRead.{enum_values_of}
+use Rattle.fb_resolve.specs.EnumValues.{enum_values_of}
 use Rattle.fb_resolve.specs.declared.outline.Names.{Names}
 use Rattle.fb_resolve.specs.declared.outline.TypeNotes.{TypeNotes}
 use Rattle.fb_resolve.specs.declared.walk.Walk.{Walk}

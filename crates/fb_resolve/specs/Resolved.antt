@@ -10,7 +10,7 @@ use Rattle.fb_schema.specs.Schema.{Name}
 use Rattle.fb_resolve.specs.Outline.{TypeRead, RootRead}
 use Rattle.fb_resolve.specs.Meaning.{type_name, meaning_of}
 use Rattle.fb_resolve.specs.Attributes.{number_called, field_attributes}
-use Rattle.fb_resolve.specs.EnumsRead.{has_flags, resolved_values}
+use Rattle.fb_resolve.specs.EnumValues.{has_flags, resolved_values}
 use Rattle.fb_resolve.specs.Defaults.{given_by}
 use Rattle.fb_resolve.specs.MembersRead.{member_name}
 use Rattle.fb_resolve.specs.ResolvedFields.{ResolvedField, ResolvedTable, ResolvedEnum, ResolvedMember}

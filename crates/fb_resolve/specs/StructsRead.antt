@@ -14,7 +14,7 @@ use Rattle.fb_resolve.specs.ResolvedType.{ResolvedType}
 use Rattle.fb_resolve.specs.declared.resolved.ResolvedDecl.{ResolvedDecl}
 use Rattle.fb_resolve.specs.declared.resolved.ResolvedDecl.TheVariants as resolved
 use Rattle.fb_resolve.specs.Attributes.{is_alignment}
-use Rattle.fb_resolve.specs.EnumsRead.{underlying_at}
+use Rattle.fb_resolve.specs.EnumValues.{underlying_at}
 use Rattle.fb_resolve.specs.SlotsRead.{shape_of}
 use Rattle.fb_schema.specs.declared.kinds.Kind.TheVariants.{Scalar, Enum, Struct}
 use Rattle.fb_resolve.specs.declared.meanings.Meaning.{Meaning}

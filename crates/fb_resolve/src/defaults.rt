@@ -4,7 +4,7 @@ ghost use Rattle.std.specs.Option.{option_copied};
 ghost use Rattle.fb_resolve.specs.Defaults.{number_within, null_or_wrong, given_to, given_by};
 
 use crate::meanings::Meaning;
-use crate::scope::Scope;
+use crate::type_uses::Scope;
 use crate::value_names::value_at;
 use fb_schema::{Base, Kind};
 use fb_syntax::{DefaultValue, FieldType};

@@ -1,23 +1,28 @@
 //! Enums' values with their numbers, and these by their names.
-ghost use Rattle.std.specs.Prelude.{◌≡◌, List, Option, None, Some, IfOk, OnOk, if◌then◌else◌, map};
+ghost use Rattle.std.specs.Prelude.{◌≡◌, ◌≤◌, ◌+◌, ◌*◌, ℕ, List, Option, None, Some, IfOk, OnOk, if◌then◌else◌, map};
+ghost use Rattle.std.specs.Prelude.{string_bytes};
+ghost use Rattle.std.specs.Int.RustNames.{unsigned_abs};
 ghost use Rattle.std.specs.Option.{option_and_then, option_copied, option_or, is_some};
 ghost use Rattle.std.specs.Str.{bytes_eq};
+ghost use Rattle.fb_syntax.specs.Integers.{greatest_magnitude};
+ghost use Rattle.fb_schema.specs.Alignments.{base_size};
 ghost use Rattle.fb_schema.specs.Schema.{Name};
 ghost use Rattle.fb_resolve.specs.Outline.{TypeRead};
 ghost use Rattle.fb_scopes.specs.declared.path_tree.PathTree.{PathTree};
 ghost use Rattle.fb_resolve.specs.Meaning.{meaning_of};
 ghost use Rattle.fb_resolve.specs.Paths.{names_used, IsNoted, AreUses};
-ghost use Rattle.fb_resolve.specs.EnumsRead.{integer_type, enum_values, name_of_value, value_over};
+ghost use Rattle.fb_resolve.specs.EnumValues.{integer_type, enum_values, name_of_value, value_over};
 ghost use Rattle.fb_resolve.specs.RepeatedNames.{repeated_names};
-ghost use Rattle.fb_resolve.specs.EnumsRead.{values_over, number_named, number_of, IndexesValues};
+ghost use Rattle.fb_resolve.specs.EnumValues.{values_over, number_named, number_of, IndexesValues};
+ghost use Rattle.fb_resolve.specs.EnumValues.{value_number, may_be_written, written_number, resolved_values};
 
 use crate::attributes::has_attribute;
-use crate::enums::{integer_type, resolved_values, value_number};
+use crate::meanings::Meaning;
 use crate::outline::TypeUse;
 use crate::resolved::ResolvedValue;
 use fb_index::HashKey;
-use fb_schema::Base;
-use fb_syntax::{BuiltInAttribute, TypeDecl};
+use fb_schema::{Base, Kind};
+use fb_syntax::{BuiltInAttribute, EnumValue, TypeDecl};
 use indexmap::IndexMap;
 use std::alloc::{AllocError, Global};
 use std::marker::Model;
@@ -38,7 +43,7 @@ pub struct EnumValues<'d, 's> {
 impl<'d, 's> Model for EnumValues<'d, 's> {
     ghost use Rattle.std.specs.Prelude.{◌≡◌};
     ghost use Rattle.fb_resolve.specs.ResolvedFields.{EnumValues as Values};
-    ghost use Rattle.fb_resolve.specs.EnumsRead.{name_of_value, values_over, IndexesValues};
+    ghost use Rattle.fb_resolve.specs.EnumValues.{name_of_value, values_over, IndexesValues};
     ghost use Rattle.fb_resolve.specs.RepeatedNames.{repeated_names};
 
     ghost Value = { Values };
@@ -127,7 +132,7 @@ fn note_number<'s>(
 
 /// Of each value whether one before it has its name, and the numbers that they have in an enum over
 /// a type, by their names, of which the first stands.
-#[tactic(auto, unfolding(crate::specs::EnumsRead::number_named))]
+#[tactic(auto, unfolding(crate::specs::EnumValues::number_named))]
 fn numbers_over<'s>(
     alloc: Global,
     key: HashKey,
@@ -147,4 +152,110 @@ fn numbers_over<'s>(
         repeats.push_reserved(note_number(&mut numbers, value.name.text, number)?);
     }
     Ok((repeats, numbers))
+}
+
+/// An integer type, which a `bool` isn't.
+pub fn integer_type(meaning: Meaning) -> Option<Base>
+    ensures { result ≡ integer_type meaning }
+{
+    match meaning {
+        Meaning::Known(Kind::Scalar(Base::Bool)) => None,
+        Meaning::Known(Kind::Scalar(base)) => Some(base),
+        _ => None,
+    }
+}
+
+fn bits_of(base: Base) -> u8
+    ensures bits { result ≡ 8 * base_size base }
+    ensures few { result ≤ 64 }
+{
+    match base {
+        Base::Bool | Base::I8 | Base::U8 => 8,
+        Base::I16 | Base::U16 => 16,
+        Base::I32 | Base::U32 => 32,
+        Base::I64 | Base::U64 => 64,
+    }
+}
+
+/// The number that a value has where this one is written.
+pub(crate) fn value_number(base: Base, flags: bool, number: i128) -> i128
+    ensures { result ≡ value_number base flags number }
+{
+    match u128::try_from(number) {
+        Ok(bit) if flags && bit < u128::from(bits_of(base)) => 1 << bit,
+        _ => number,
+    }
+}
+
+/// Whether a number may be written in an enum over a type.
+pub fn may_be_written(base: Base, flags: bool, number: i128) -> bool
+    ensures { result ≡ may_be_written base flags number }
+{
+    if flags {
+        number >= 0 && number < i128::from(bits_of(base))
+    } else {
+        base.holds(number)
+    }
+}
+
+/// The number that is written for a value, or else the next one.
+fn written_number(next: i128, value: &EnumValue<'_>) -> i128
+    ensures number { result ≡ written_number next value.now }
+    ensures near { (past : ℕ) → unsigned_abs next ≤ greatest_magnitude + past
+        → unsigned_abs result ≤ greatest_magnitude + past }
+{
+    match &value.number {
+        Some(number) => number.value(),
+        None => next,
+    }
+}
+
+/// The values of an enum with their numbers. The only error is a refused allocation.
+#[tactic(auto, unfolding(crate::specs::EnumValues::values_from))]
+pub(crate) fn resolved_values<'d, 's>(
+    alloc: Global,
+    values: &'d [EnumValue<'s>],
+) -> Result<Vec<ResolvedValue<'d, 's>>, AllocError>
+    ensures { IfOk result (λ r. r.items ≡ resolved_values values.now) }
+{
+    let mut resolved = Vec::with_capacity(alloc, values.len())?;
+    let mut next = 0;
+    for value in values {
+        let number = written_number(next, value);
+        resolved.push_reserved(ResolvedValue { value, number });
+        next = number + 1;
+    }
+    Ok(resolved)
+}
+
+fn value_over(
+    alloc: Global,
+    base: Base,
+    flags: bool,
+    resolved: &ResolvedValue<'_, '_>,
+) -> Result<(String, i128), AllocError>
+    ensures { IfOk result (λ v. (string_bytes v.0, v.1) ≡ value_over base flags resolved.now) }
+{
+    let value = resolved.value;
+    let name = String::from_str(alloc, value.name.text)?;
+    Ok((name, value_number(base, flags, resolved.number)))
+}
+
+/// The names and numbers that these values have in an enum over a type, with `bit_flags` or
+/// without. The only error is a refused allocation.
+pub fn values_over(
+    alloc: Global,
+    base: Option<Base>,
+    flags: bool,
+    values: &[ResolvedValue<'_, '_>],
+) -> Result<Vec<(String, i128)>, AllocError>
+    ensures { IfOk result
+        (λ r. map (λ v. (string_bytes v.0, v.1)) r.items ≡ values_over base flags values.now) }
+{
+    let base = base.unwrap_or(Base::U8);
+    let mut read = Vec::with_capacity(alloc, values.len())?;
+    for resolved in values {
+        read.push_reserved(value_over(alloc, base, flags, resolved)?);
+    }
+    Ok(read)
 }

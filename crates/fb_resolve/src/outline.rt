@@ -1,7 +1,7 @@
 //! What a schema text declares, each type with the namespace that it stands in.
 ghost use Rattle.std.specs.Prelude.{◌≡◌, List, IfOk, map, string_bytes};
 ghost use Rattle.fb_resolve.specs.Outline.{TypeRead as Read, outline_of, word_of, name_of_type};
-ghost use Rattle.fb_resolve.specs.EnumsRead.{enum_values_of, underlying_at};
+ghost use Rattle.fb_resolve.specs.EnumValues.{enum_values_of, underlying_at};
 
 use crate::basic_types::BasicType;
 use crate::enum_values::EnumValues;

@@ -6,7 +6,7 @@ ghost use Rattle.fb_resolve.specs.Meaning.{paths_of_types};
 ghost use Rattle.fb_resolve.specs.Outline.{name_of_type};
 ghost use Rattle.fb_resolve.specs.Paths.{types_used, tables_used, names_used, IsRootPlaced, AreUses, AreNames};
 ghost use Rattle.fb_resolve.specs.RepeatedNames.{repeated_names};
-ghost use Rattle.fb_resolve.specs.EnumsRead.{enum_values};
+ghost use Rattle.fb_resolve.specs.EnumValues.{enum_values};
 ghost use Rattle.fb_syntax.specs.declared.declarations.TypeDecl.TheVariants.{Enum};
 ghost use Rattle.fb_resolve.specs.Resolved.{resolved_fields, resolved_enum, resolved_member};
 ghost use Rattle.fb_resolve.specs.Resolved.{resolved_declaration, resolved_types, meaning_of_root};
@@ -22,8 +22,8 @@ use crate::resolved::{
     ResolvedDecl, ResolvedEnum, ResolvedField, ResolvedMember, ResolvedStruct, ResolvedTable,
     ResolvedType, ResolvedUnion,
 };
-use crate::scope::Scope;
 use crate::slots::code_of;
+use crate::type_uses::Scope;
 use fb_syntax::{BuiltInAttribute, EnumDecl, Field, TypeDecl, UnionMember};
 use std::alloc::{AllocError, Global};
 

@@ -114,7 +114,7 @@ pub struct ResolvedEnum<'t, 'd, 's> {
 
 impl<'t, 'd, 's> Model for ResolvedEnum<'t, 'd, 's> {
     ghost use Rattle.std.specs.Prelude.{◌≡◌};
-    ghost use Rattle.fb_resolve.specs.EnumsRead.{integer_type};
+    ghost use Rattle.fb_resolve.specs.EnumValues.{integer_type};
     ghost use Rattle.fb_resolve.specs.ResolvedFields.{ResolvedEnum as Resolved};
 
     ghost Value = { Resolved };

@@ -2,13 +2,13 @@
 ghost use Rattle.std.specs.Prelude.{◌≡◌};
 ghost use Rattle.std.specs.Option.{option_copied};
 ghost use Rattle.fb_resolve.specs.Outline.{full_name};
-ghost use Rattle.fb_resolve.specs.EnumsRead.{behind, value_at};
+ghost use Rattle.fb_resolve.specs.EnumValues.{behind, value_at};
 
-use crate::scope::Scope;
+use crate::type_uses::Scope;
 use fb_syntax::TypeDecl;
 
 /// What stands behind a name and a dot.
-#[tactic(auto, unfolding(crate::specs::EnumsRead::behind))]
+#[tactic(auto, unfolding(crate::specs::EnumValues::behind))]
 fn behind<'n>(prefix: &str, name: &'n str) -> Option<&'n str>
     ensures { option_copied result ≡ behind prefix.now name.now }
 {
@@ -28,7 +28,7 @@ fn behind_full_name<'n>(scope: Option<&str>, declared: &str, name: &'n str) -> O
 }
 
 /// The number of the value that a name means in the enum of a number.
-#[tactic(auto, unfolding(crate::specs::EnumsRead::value_at))]
+#[tactic(auto, unfolding(crate::specs::EnumValues::value_at))]
 pub(crate) fn value_at(scope: Scope<'_, '_, '_>, number: usize, name: &str) -> Option<i128>
     ensures { result ≡ value_at scope.entry.types.now number name.now }
 {

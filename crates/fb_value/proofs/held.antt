@@ -3,4 +3,5 @@ pub mod BytesHoldAValueOrAFault
 pub mod EachPartLiesInItsPlace
 pub mod HeldValueFitsTheRoot
 pub mod LyingValueIsComputed
+pub mod MessagesAreTold
 pub mod NumbersAreInTheirRange

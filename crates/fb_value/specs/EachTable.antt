@@ -9,8 +9,8 @@ use Rattle.fb_value.specs.Places.{Target, table_part, member_part, vector_part, 
 use Rattle.fb_value.specs.Places.{named_slots, slot_number, target_of}
 use Rattle.fb_value.specs.Lies.{LiesAt}
 use Rattle.fb_value.specs.Reached.{Path, Leads}
-use Rattle.fb_value.specs.Holds.{root_place}
-use Rattle.fb_value.specs.OldSlots.{table_of, is_in_use, OnlyOld}
+use Rattle.fb_value.specs.Holds.{root_at}
+use Rattle.fb_value.specs.OldSlots.{table_of, is_in_use, OnlyOldBehind}
 
 -- behind a reference; what stands in its place has no tables
 abbrev pub EachBehind : Bytes → Sort → ℕ → (Sort → ℕ → Type 0) → Type 0
@@ -63,6 +63,7 @@ EachTableReached = (L : LaidSchema) (b : Bytes) (test : ℕ → ℕ → Bool) (d
 
 -- Where each table of the root's value has only slots in use, so has each that is reached.
 abbrev pub OnlyOldByTables : Type 0
-OnlyOldByTables = (L : LaidSchema) (b : Bytes) (d : Datum)
-    → LiesAt L b (root_place L).sort 0 d → EachTableAt L b (λ t p. IsOldTable L b t p) (root_place L).sort 0 d
-    → OnlyOld L b
+OnlyOldByTables = (L : LaidSchema) (b : Bytes) (start : ℕ) (d : Datum)
+    → LiesAt L b (root_at L start).sort start d
+    → EachTableAt L b (λ t p. IsOldTable L b t p) (root_at L start).sort start d
+    → OnlyOldBehind start L b

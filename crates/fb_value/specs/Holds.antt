@@ -1,12 +1,13 @@
 -- The value that bytes hold, or the least of their faults.
 -- From the FlatBuffers documentation, "FlatBuffer Internals" and "File identification": the root's reference, and the
--- identifier behind it.
-use Rattle.std.specs.Prelude.{ℕ, ◌+◌, ◌≡◌, ◌≤◌, ◌⊎◌, List, [], ◌∷◌, length, take, drop, nat_le, Bool, Option, None}
-use Rattle.std.specs.Prelude.{Some, if◌then◌else◌}
+-- identifier behind it. From "Storing multiple FlatBuffers" (C++ guide, size-prefixed buffers): a count of the bytes
+-- that follow may be in front. Positions and alignment count from the count's first byte then.
+use Rattle.std.specs.Prelude.{ℕ, ◌+◌, ◌≡◌, ◌≤◌, ◌⊎◌, List, [], ◌∷◌, length, take, drop, nat_le, Bool, true, false}
+use Rattle.std.specs.Prelude.{Option, None, Some, if◌then◌else◌}
 use Rattle.std.specs.Str.{bytes_eq}
 use Rattle.fb_layout.specs.Laid.{LaidSchema}
 use Rattle.fb_value.specs.declared.faults.ReadFault.{ReadFault}
-use Rattle.fb_value.specs.declared.faults.ReadFault.TheVariants.{Short, TooLong, WrongIdentifier}
+use Rattle.fb_value.specs.declared.faults.ReadFault.TheVariants.{Short, TooLong, WrongIdentifier, OutOfBounds}
 use Rattle.fb_value.specs.Bounds.{Bounds}
 use Rattle.fb_value.specs.Datum.{Datum}
 use Rattle.fb_value.specs.Counts.{cells, depth}
@@ -17,55 +18,121 @@ use Rattle.fb_value.specs.Lies.{LiesAt}
 use Rattle.fb_value.specs.Reached.{Path}
 use Rattle.fb_value.specs.Faults.{FaultFrom, LeastFrom, or_else, fault_from}
 
--- the place of the reference at the front
+-- where a buffer begins: behind the count, if it has one
+abbrev pub front_of : Bool → ℕ
+front_of false = 0
+front_of true = 4
+
+-- the place of the root's reference, at a position
+abbrev pub root_at : LaidSchema → ℕ → Place
+root_at L p = record { sort = ref_place (table_part L.schema.root); at = p }
+
+-- the same at the front
 abbrev pub root_place : LaidSchema → Place
-root_place L = record { sort = ref_place (table_part L.schema.root); at = 0 }
+root_place L = root_at L 0
 
 -- the identifier that is checked: raw bytes need have none
 abbrev pub checked_identifier : LaidSchema → Bool → Option (List ℕ)
 checked_identifier L raw = if raw then None else L.schema.identifier
 
--- The header's rules. A checked identifier stands behind the root's reference.
-abbrev pub header_rules : Bytes → Option (List ℕ) → List Rule
-header_rules b None = (Short (length b), nat_le 4 (length b)) ∷ (TooLong 2147483647, nat_le (length b) 2147483647) ∷ []
-header_rules b (Some id) = (Short (length b), nat_le 8 (length b)) ∷ (TooLong 2147483647, nat_le (length b) 2147483647)
-    ∷ (WrongIdentifier 4, bytes_eq (take 4 (drop 4 b)) id) ∷ []
+-- The header's rules, from a position on. A checked identifier stands behind the root's reference.
+abbrev pub header_rules : ℕ → Bytes → Option (List ℕ) → List Rule
+header_rules p b None =
+    (Short (length b), nat_le (p + 4) (length b)) ∷ (TooLong 2147483647, nat_le (length b) 2147483647) ∷ []
+header_rules p b (Some id) =
+    (Short (length b), nat_le (p + 8) (length b)) ∷ (TooLong 2147483647, nat_le (length b) 2147483647)
+    ∷ (WrongIdentifier (p + 4), bytes_eq (take 4 (drop (p + 4) b)) id) ∷ []
 
+-- The rules of a count in front, before others: it is the length of what follows.
+abbrev pub count_rules : Bytes → List Rule → List Rule
+count_rules b others = (Short (length b), nat_le 4 (length b)) ∷ (OutOfBounds 0, nat_le (4 + num b 0 4) (length b))
+    ∷ (OutOfBounds (4 + num b 0 4), nat_le (length b) (4 + num b 0 4)) ∷ others
+
+-- the first fault of a header at the front
 unfoldable pub header_fault : Bytes → Option (List ℕ) → Option ReadFault
-header_fault b id = first_failing (header_rules b id)
+header_fault b id = first_failing (header_rules 0 b id)
 
--- The bytes hold a value: the header's rules hold, it lies behind the root's reference, and it is within the limits.
-pub record Holds (L : LaidSchema) (most : Bounds) (raw : Bool) (b : Bytes) (v : Datum) : Type 0 where
-  pub header : header_fault b (checked_identifier L raw) ≡ None
-  pub lies : LiesAt L b (ref_place (table_part L.schema.root)) 0 v
+-- the same behind a count
+unfoldable pub prefixed_fault : Bytes → Option (List ℕ) → Option ReadFault
+prefixed_fault b id = first_failing (count_rules b (header_rules 4 b id))
+
+-- with a count or without
+abbrev pub front_fault : Bool → Bytes → Option (List ℕ) → Option ReadFault
+front_fault false b id = header_fault b id
+front_fault true b id = prefixed_fault b id
+
+-- The bytes hold a value: the front has no fault, the value lies behind the root's reference at a position, and it is
+-- within the limits.
+pub record HoldsBehind (p : ℕ) (fault : Option ReadFault) (L : LaidSchema) (most : Bounds) (b : Bytes) (v : Datum)
+    : Type 0 where
+  pub header : fault ≡ None
+  pub lies : LiesAt L b (ref_place (table_part L.schema.root)) p v
   pub deep : depth v ≤ most.depth
   pub small : cells v ≤ most.cells
 
--- The root table may be entered: the header and the way to it keep their rules, and it is within the limits.
-pub record RootKeeps (L : LaidSchema) (most : Bounds) (raw : Bool) (b : Bytes) : Type 0 where
-  pub header : header_fault b (checked_identifier L raw) ≡ None
-  pub reference : Keeps L b (ref_place (table_part L.schema.root)) 0
-  pub table : Keeps L b (part_place (table_part L.schema.root)) (0 + num b 0 4)
+-- with a count in front or without
+abbrev pub HoldsFramed : Bool → LaidSchema → Bounds → Bool → Bytes → Datum → Type 0
+HoldsFramed prefixed L most raw b v =
+    HoldsBehind (front_of prefixed) (front_fault prefixed b (checked_identifier L raw)) L most b v
+
+-- a buffer alone
+abbrev pub Holds : LaidSchema → Bounds → Bool → Bytes → Datum → Type 0
+Holds L most raw b v = HoldsFramed false L most raw b v
+
+-- The root table may be entered: the front and the way to it keep their rules, and it is within the limits.
+pub record RootKeepsBehind (p : ℕ) (fault : Option ReadFault) (L : LaidSchema) (most : Bounds) (b : Bytes)
+    : Type 0 where
+  pub header : fault ≡ None
+  pub reference : Keeps L b (ref_place (table_part L.schema.root)) p
+  pub table : Keeps L b (part_place (table_part L.schema.root)) (p + num b p 4)
   pub deep : 1 ≤ most.depth
   pub small : 1 ≤ most.cells
 
--- the header's first fault; where it has none, the one at the least path
-abbrev pub IsLeastFault : LaidSchema → Bounds → Bool → Bytes → ReadFault → Type 0
-IsLeastFault L most raw b f =
-    (header_fault b (checked_identifier L raw) ≡ Some f)
-    ⊎ ((header_fault b (checked_identifier L raw) ≡ None) × LeastFrom L b most (root_place L) 0 0 f)
+abbrev pub RootKeepsFramed : Bool → LaidSchema → Bounds → Bool → Bytes → Type 0
+RootKeepsFramed prefixed L most raw b =
+    RootKeepsBehind (front_of prefixed) (front_fault prefixed b (checked_identifier L raw)) L most b
 
--- no fault stands, in the header or at the end of a path
+abbrev pub RootKeeps : LaidSchema → Bounds → Bool → Bytes → Type 0
+RootKeeps L most raw b = RootKeepsFramed false L most raw b
+
+-- the front's first fault; where it has none, the one at the least path from the root's reference
+abbrev pub LeastFaultBehind : ℕ → Option ReadFault → LaidSchema → Bounds → Bytes → ReadFault → Type 0
+LeastFaultBehind p fault L most b f = (fault ≡ Some f) ⊎ ((fault ≡ None) × LeastFrom L b most (root_at L p) 0 0 f)
+
+abbrev pub IsLeastFault : LaidSchema → Bounds → Bool → Bytes → ReadFault → Type 0
+IsLeastFault L most raw b f = LeastFaultBehind 0 (header_fault b (checked_identifier L raw)) L most b f
+
+-- no fault stands, in the front or at the end of a path
+abbrev pub NoFaultBehind : ℕ → Option ReadFault → LaidSchema → Bounds → Bytes → Type 0
+NoFaultBehind p fault L most b =
+    (fault ≡ None) × ((path : Path) (f : ReadFault) → FaultFrom L b most (root_at L p) 0 0 path f → ⊥)
+
+abbrev pub HasNoFaultFramed : Bool → LaidSchema → Bounds → Bool → Bytes → Type 0
+HasNoFaultFramed prefixed L most raw b =
+    NoFaultBehind (front_of prefixed) (front_fault prefixed b (checked_identifier L raw)) L most b
+
 abbrev pub HasNoFault : LaidSchema → Bounds → Bool → Bytes → Type 0
-HasNoFault L most raw b =
-    (header_fault b (checked_identifier L raw) ≡ None)
-    × ((path : Path) (f : ReadFault) → FaultFrom L b most (root_place L) 0 0 path f → ⊥)
+HasNoFault L most raw b = HasNoFaultFramed false L most raw b
 
 -- the least fault computed, if there is one: a law ties it to the definition
+abbrev pub fault_behind : ℕ → Option ReadFault → LaidSchema → Bounds → Bytes → Option ReadFault
+fault_behind p fault L most b = or_else fault (fault_from L b most (root_at L p) 0 0)
+
+abbrev pub framed_fault : Bool → LaidSchema → Bounds → Bool → Bytes → Option ReadFault
+framed_fault prefixed L most raw b =
+    fault_behind (front_of prefixed) (front_fault prefixed b (checked_identifier L raw)) L most b
+
 abbrev pub computed_fault : LaidSchema → Bounds → Bool → Bytes → Option ReadFault
-computed_fault L most raw b =
-    or_else (header_fault b (checked_identifier L raw)) (fault_from L b most (root_place L) 0 0)
+computed_fault L most raw b = framed_fault false L most raw b
 
 -- what a refusal tells: the least fault, and that the bytes hold no value
+abbrev pub RefusesBehind : ℕ → Option ReadFault → LaidSchema → Bounds → Bytes → ReadFault → Type 0
+RefusesBehind p fault L most b f =
+    LeastFaultBehind p fault L most b f × ((v : Datum) → HoldsBehind p fault L most b v → ⊥)
+
+abbrev pub RefusesFramed : Bool → LaidSchema → Bounds → Bool → Bytes → ReadFault → Type 0
+RefusesFramed prefixed L most raw b f =
+    RefusesBehind (front_of prefixed) (front_fault prefixed b (checked_identifier L raw)) L most b f
+
 abbrev pub Refuses : LaidSchema → Bounds → Bool → Bytes → ReadFault → Type 0
-Refuses L most raw b f = IsLeastFault L most raw b f × ((v : Datum) → Holds L most raw b v → ⊥)
+Refuses L most raw b f = RefusesFramed false L most raw b f

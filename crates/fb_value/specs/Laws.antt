@@ -1,5 +1,5 @@
 -- Laws of the bytes that hold a value, over every layout that is well made.
-use Rattle.std.specs.Prelude.{ℕ, ◌≡◌, ◌+◌, ◌<◌, ◌≤◌, ◌↔◌, All, Bool, Option, None, Some}
+use Rattle.std.specs.Prelude.{ℕ, ◌≡◌, ◌+◌, ◌<◌, ◌≤◌, ◌↔◌, All, Option, None, Some}
 use Rattle.fb_layout.specs.Laid.{LaidSchema, StoredKind}
 use Rattle.fb_layout.specs.WellMade.{IsWellMade}
 use Rattle.fb_value.specs.declared.faults.ReadFault.{ReadFault}
@@ -15,17 +15,17 @@ use Rattle.fb_value.specs.Reads.{value_at, inline_value, value_step, inline_step
 use Rattle.fb_value.specs.Reached.{Path, AllKeep}
 use Rattle.fb_value.specs.Faults.{own_cells, own_tables, sum_over, if_kept, or_else, limited_fault, FaultFrom}
 use Rattle.fb_value.specs.Faults.{LeastFrom, first_among, all, fault_from}
-use Rattle.fb_value.specs.Holds.{Holds, HasNoFault, IsLeastFault, Refuses, computed_fault, root_place}
+use Rattle.fb_value.specs.Holds.{HoldsBehind, NoFaultBehind, LeastFaultBehind, RefusesBehind, fault_behind, root_at}
 
 -- Bytes hold one value at most.
 abbrev pub OneValue : Type 0
-OneValue = (L : LaidSchema) (most : Bounds) (raw : Bool) (b : Bytes) (v w : Datum) → Holds L most raw b v
-    → Holds L most raw b w → v ≡ w
+OneValue = (p : ℕ) (fault : Option ReadFault) (L : LaidSchema) (most : Bounds) (b : Bytes) (v w : Datum)
+    → HoldsBehind p fault L most b v → HoldsBehind p fault L most b w → v ≡ w
 
 -- A value lies at the root exactly where all places that are reached keep their rules.
 abbrev pub ValueWhereAllKeep : Type 0
-ValueWhereAllKeep = (L : LaidSchema) (b : Bytes) → IsWellMade L
-    → ((d : Datum) × LiesAt L b (root_place L).sort 0 d) ↔ AllKeep L b (root_place L)
+ValueWhereAllKeep = (L : LaidSchema) (b : Bytes) (p : ℕ) → IsWellMade L
+    → ((d : Datum) × LiesAt L b (root_at L p).sort p d) ↔ AllKeep L b (root_at L p)
 
 -- The cells of what is reached from a place: none where a rule fails there, else its own and those of all that it
 -- names.
@@ -49,19 +49,19 @@ FaultOfLeastPath = (L : LaidSchema) (b : Bytes) (most : Bounds) (x : Place)
     → IsFirstFault L b most x (fault_from L b most x 0 0)
 
 -- what a computed outcome says: no fault stands and a value is held, or the fault is the least and none is held
-abbrev pub HeldOrFault : LaidSchema → Bounds → Bool → Bytes → Option ReadFault → Type 0
-HeldOrFault L most raw b None = HasNoFault L most raw b × ((v : Datum) × Holds L most raw b v)
-HeldOrFault L most raw b (Some f) = Refuses L most raw b f
+abbrev pub HeldOrFault : ℕ → Option ReadFault → LaidSchema → Bounds → Bytes → Option ReadFault → Type 0
+HeldOrFault p fault L most b None = NoFaultBehind p fault L most b × ((v : Datum) × HoldsBehind p fault L most b v)
+HeldOrFault p fault L most b (Some f) = RefusesBehind p fault L most b f
 
 -- A value is held exactly where no fault stands.
 abbrev pub ValueOrFault : Type 0
-ValueOrFault = (L : LaidSchema) (most : Bounds) (raw : Bool) (b : Bytes) → IsWellMade L
-    → HeldOrFault L most raw b (computed_fault L most raw b)
+ValueOrFault = (p : ℕ) (fault : Option ReadFault) (L : LaidSchema) (most : Bounds) (b : Bytes) → IsWellMade L
+    → HeldOrFault p fault L most b (fault_behind p fault L most b)
 
 -- Bytes have one least fault at most.
 abbrev pub OneLeastFault : Type 0
-OneLeastFault = (L : LaidSchema) (most : Bounds) (raw : Bool) (b : Bytes) (f g : ReadFault)
-    → IsLeastFault L most raw b f → IsLeastFault L most raw b g → f ≡ g
+OneLeastFault = (p : ℕ) (fault : Option ReadFault) (L : LaidSchema) (most : Bounds) (b : Bytes) (f g : ReadFault)
+    → LeastFaultBehind p fault L most b f → LeastFaultBehind p fault L most b g → f ≡ g
 
 -- What fits the root with at most 127 tables in one another is nested at most 300 deep.
 abbrev pub NestingOfDepth : Type 0
@@ -77,8 +77,8 @@ FaultOfPlace =
 
 -- The value that bytes hold is one that the root may have: each byte is below 256.
 abbrev pub FitsWhereHeld : Type 0
-FitsWhereHeld = (L : LaidSchema) (most : Bounds) (raw : Bool) (b : Bytes) (v : Datum) → IsWellMade L
-    → All (λ x. x < 256) b → Holds L most raw b v → FitsRoot L v
+FitsWhereHeld = (p : ℕ) (fault : Option ReadFault) (L : LaidSchema) (most : Bounds) (b : Bytes) (v : Datum)
+    → IsWellMade L → All (λ x. x < 256) b → HoldsBehind p fault L most b v → FitsRoot L v
 
 -- The value at a place, by one step; and of what stands in its place.
 abbrev pub ValueOfPlace : Type 0

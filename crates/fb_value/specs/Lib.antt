@@ -16,6 +16,7 @@ pub mod Lies
 pub mod Reached
 pub mod Faults
 pub mod Holds
+pub mod Messages
 pub mod OldSlots
 pub mod EachTable
 pub mod Tails
@@ -27,6 +28,7 @@ pub mod Laws
 pub mod ExampleLayouts
 pub mod ExampleTables
 pub mod ExampleIdentifier
+pub mod ExamplePrefixed
 pub mod ExampleTexts
 pub mod ExampleVectors
 pub mod ExampleStructs

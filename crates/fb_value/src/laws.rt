@@ -7,6 +7,7 @@ ghost use Rattle.fb_value.specs.Laws.{ValueOfPlace, ValueWhereLies};
 ghost use Rattle.fb_value.specs.Nth.{EntryLies, ElementLies, PartLies};
 ghost use Rattle.fb_value.specs.TailLaws.{KeptInFront, KeptByMultiple, LiesInWhole, OldKeptInFront};
 ghost use Rattle.fb_value.specs.EachTable.{EachTableReached, OnlyOldByTables};
+ghost use Rattle.fb_value.specs.Messages.{OneMessageInFront, MessageIsWhole, HeldIsMessage};
 ghost use Rattle.fb_value.specs.Missing.{FirstMissing};
 
 /// Bytes hold one value at most.
@@ -132,4 +133,20 @@ pub fn only_old_by_tables()
 #[tactic(auto, using(crate::proofs::rules::FirstMissingSlotIsRequired::first_shown))]
 pub fn first_missing()
     ensures { FirstMissing }
+{}
+
+/// A stream of size-prefixed buffers begins with one of them at most.
+#[tactic(auto, using(crate::proofs::held::MessagesAreTold::one_in_front_shown))]
+pub fn one_message_in_front()
+    ensures { OneMessageInFront }
+{}
+
+/// Whatever is behind a size-prefixed buffer, it can be taken from the front.
+pub fn message_is_whole()
+    ensures { MessageIsWhole }
+{}
+
+/// A size-prefixed buffer that holds a value is as long as its count says.
+pub fn held_is_message()
+    ensures { HeldIsMessage }
 {}

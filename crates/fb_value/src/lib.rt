@@ -6,6 +6,7 @@ mod counts;
 mod equality;
 mod faults;
 mod fit;
+mod framing;
 mod laws;
 mod limits;
 mod rooms;
@@ -17,12 +18,13 @@ pub use counts::{cells, depth, whole};
 pub use equality::same;
 pub use faults::ReadFault;
 pub use fit::fits;
+pub use framing::front_of;
 pub use laws::{
     cells_of_place, cells_of_value, each_table_reached, element_lies, entry_lies,
-    fault_of_least_path, fault_of_place, first_missing, fits_where_held, kept_by_multiple,
-    kept_in_front, lies_in_whole, nesting_of_depth, old_kept_in_front, one_least_fault, one_value,
-    only_old_by_tables, part_lies, value_of_place, value_or_fault, value_where_all_keep,
-    value_where_lies,
+    fault_of_least_path, fault_of_place, first_missing, fits_where_held, held_is_message,
+    kept_by_multiple, kept_in_front, lies_in_whole, message_is_whole, nesting_of_depth,
+    old_kept_in_front, one_least_fault, one_message_in_front, one_value, only_old_by_tables,
+    part_lies, value_of_place, value_or_fault, value_where_all_keep, value_where_lies,
 };
 pub use limits::Limits;
 pub use rooms::{buffer_room, room, table_room, text_room, vector_room};

@@ -72,6 +72,7 @@ fn write_buffer<'j>(
     let options = EncodeOptions {
         limits: limits(),
         unknown_json,
+        size_prefixed: false,
     };
     let json = texts.input.give(rt);
     let buffer = encode_owned(rt.alloc(), layout, json, &options)?;
@@ -95,6 +96,8 @@ fn write_text<'j>(
             limits: limits(),
             raw_binary,
             defaults_json,
+            size_prefixed: false,
+            compact: false,
         },
         fault: None,
     };

@@ -72,6 +72,7 @@ fn explanation(
         limits: limits(),
         unknown_json,
         raw_binary,
+        size_prefixed: false,
         columns: columns(rt),
         failure: file_failure(texts),
     };

@@ -75,6 +75,7 @@ fn buffer_of(
     let options = EncodeOptions {
         limits: limits(),
         unknown_json,
+        size_prefixed: false,
     };
     match schema_of(rt.alloc(), texts.schema.bytes.as_slice()) {
         Ok(layout) => encode_owned(rt.alloc(), &layout, json, &options),

@@ -18,9 +18,15 @@ raw_of o = if nat_lt o.size 11 then false else o.raw_binary
 abbrev pub defaults_of : Options → Bool
 defaults_of o = if nat_lt o.size 12 then false else o.defaults_json
 
+abbrev pub prefixed_of : Options → Bool
+prefixed_of o = if nat_lt o.size 13 then false else o.size_prefixed
+
+abbrev pub compact_of : Options → Bool
+compact_of o = if nat_lt o.size 14 then false else o.compact
+
 abbrev pub limits_of : Options → Bounds
 limits_of o = record { depth = depth_of o; cells = cells_of o }
 
 -- the size is one that the struct may have, and the depth one that limits may have
 abbrev pub AreSet : Options → Type 0
-AreSet o = (4 ≤ o.size) × (o.size ≤ 12) × (1 ≤ depth_of o) × (depth_of o ≤ 127)
+AreSet o = (4 ≤ o.size) × (o.size ≤ 16) × (1 ≤ depth_of o) × (depth_of o ≤ 127)

@@ -108,6 +108,7 @@ pub extern "C" fn flatc_explain<'a>(
         limits,
         unknown_json: options.ignores_unknown(),
         raw_binary: options.is_raw(),
+        size_prefixed: options.has_prefix(),
         columns: COLUMNS,
         failure: None,
     };

@@ -2,19 +2,19 @@
 ghost use Rattle.std.specs.Prelude.{◌≡◌, ◌≢◌, ◌≤◌, ◌⊎◌, None, Some};
 ghost use Rattle.std_alloc.specs.Arc.{arc_value};
 ghost use Rattle.fb_value.specs.Datum.{Datum};
-ghost use Rattle.fb_value.specs.Holds.{Holds, Refuses};
-ghost use Rattle.flatc_tool.specs.Jobs.{IsBinaryOf, MayBeBinaryOf, BinaryRefusedOf};
-ghost use Rattle.flatc_tool.specs.Jobs.{IsTextOf, MayBeTextOf, TextRefusedOf};
+ghost use Rattle.fb_value.specs.Holds.{HoldsFramed, RefusesFramed};
+ghost use Rattle.flatc_tool.specs.Jobs.{IsBinaryFramed, MayBeBinaryFramed, BinaryRefusedFramed};
+ghost use Rattle.flatc_tool.specs.Jobs.{IsTextFramed, MayBeTextFramed, TextRefusedFramed};
 ghost use Rattle.flatc_c.specs.Handles.{HasLayout, HasBytes, layout_of};
 ghost use Rattle.flatc_c.specs.Faults.{Told, OnReadFault};
-ghost use Rattle.flatc_c.specs.Settings.{limits_of, unknown_of, raw_of, defaults_of, AreSet};
+ghost use Rattle.flatc_c.specs.Settings.{limits_of, unknown_of, raw_of, defaults_of, prefixed_of, compact_of, AreSet};
 
 use crate::contents::{clear, give, put, take};
 use crate::faults::{Fault, told};
 use crate::handles::{Bytes, Schema};
 use crate::options::Options;
 use crate::status::{BAD_OPTIONS, NO_MEMORY, NO_SCHEMA, OK, REFUSED, status_of};
-use flatc_tool::{DecodeOptions, EncodeOptions, Entries, ToolFault, decode, encode, verify};
+use flatc_tool::{DecodeOptions, EncodeOptions, Entries, ToolFault, decode, encode, verify_framed};
 use std::alloc::Global;
 
 /// The buffer of a JSON text, as `encode` returns it.
@@ -28,11 +28,11 @@ pub extern "C" fn flatc_encode(
     fault: &mut Fault,
 ) -> u32
     ensures binary { (result ≡ 0) → HasLayout schema.old.held.value (λ L. HasBytes out.new
-        (IsBinaryOf L json.now (limits_of options.now) (unknown_of options.now))) }
+        (IsBinaryFramed (prefixed_of options.now) L json.now (limits_of options.now) (unknown_of options.now))) }
     ensures refused { (result ≡ 1) → HasLayout schema.old.held.value (λ L. Told fault.new
-        (BinaryRefusedOf L json.now (limits_of options.now) (unknown_of options.now))) }
+        (BinaryRefusedFramed (prefixed_of options.now) L json.now (limits_of options.now) (unknown_of options.now))) }
     ensures exact { (result ≡ 1) → HasLayout schema.old.held.value (λ L.
-        ¬ MayBeBinaryOf L json.now (limits_of options.now) (unknown_of options.now)) }
+        ¬ MayBeBinaryFramed (prefixed_of options.now) L json.now (limits_of options.now) (unknown_of options.now)) }
     ensures no_schema { (result ≡ 3) → layout_of schema.old.held.value ≡ None }
     ensures bad_options { (result ≡ 4) → ¬ AreSet options.now }
     ensures status { result ≤ 4 }
@@ -50,6 +50,7 @@ pub extern "C" fn flatc_encode(
     let options = EncodeOptions {
         limits,
         unknown_json: options.ignores_unknown(),
+        size_prefixed: options.has_prefix(),
     };
     let made = match kept.layout() {
         Some(layout) => Some(encode(alloc, layout, json, &options)),
@@ -80,12 +81,12 @@ pub extern "C" fn flatc_decode(
     out: &mut Bytes,
     fault: &mut Fault,
 ) -> u32
-    ensures text { (result ≡ 0) → HasLayout schema.old.held.value (λ L. HasBytes out.new (IsTextOf L
+    ensures text { (result ≡ 0) → HasLayout schema.old.held.value (λ L. HasBytes out.new (IsTextFramed (compact_of options.now) (prefixed_of options.now) L
         buffer.now (limits_of options.now) (raw_of options.now) (defaults_of options.now))) }
     ensures refused { (result ≡ 1) → HasLayout schema.old.held.value (λ L. Told fault.new
-        (TextRefusedOf L buffer.now (limits_of options.now) (raw_of options.now))) }
+        (TextRefusedFramed (prefixed_of options.now) L buffer.now (limits_of options.now) (raw_of options.now))) }
     ensures exact { (result ≡ 1) → HasLayout schema.old.held.value (λ L.
-        ¬ MayBeTextOf L buffer.now (limits_of options.now) (raw_of options.now)) }
+        ¬ MayBeTextFramed (prefixed_of options.now) L buffer.now (limits_of options.now) (raw_of options.now)) }
     ensures no_schema { (result ≡ 3) → layout_of schema.old.held.value ≡ None }
     ensures bad_options { (result ≡ 4) → ¬ AreSet options.now }
     ensures status { result ≤ 4 }
@@ -104,6 +105,8 @@ pub extern "C" fn flatc_decode(
         limits,
         raw_binary: options.is_raw(),
         defaults_json: options.has_defaults(),
+        size_prefixed: options.has_prefix(),
+        compact: options.is_compact(),
     };
     let made = match kept.layout() {
         Some(layout) => Some(decode(alloc, layout, buffer, &options)),
@@ -134,9 +137,9 @@ pub extern "C" fn flatc_verify(
     fault: &mut Fault,
 ) -> u32
     ensures held { (result ≡ 0) → HasLayout schema.old.held.value (λ L. (v : Datum)
-        × Holds L (limits_of options.now) (raw_of options.now) buffer.now v) }
+        × HoldsFramed (prefixed_of options.now) L (limits_of options.now) (raw_of options.now) buffer.now v) }
     ensures refused { (result ≡ 1) → HasLayout schema.old.held.value (λ L. Told fault.new
-        (OnReadFault (Refuses L (limits_of options.now) (raw_of options.now) buffer.now))) }
+        (OnReadFault (RefusesFramed (prefixed_of options.now) L (limits_of options.now) (raw_of options.now) buffer.now))) }
     ensures no_schema { (result ≡ 3) → layout_of schema.old.held.value ≡ None }
     ensures bad_options { (result ≡ 4) → ¬ AreSet options.now }
     ensures status { (result ≡ 0) ⊎ ((result ≡ 1) ⊎ ((result ≡ 3) ⊎ (result ≡ 4))) }
@@ -151,8 +154,9 @@ pub extern "C" fn flatc_verify(
     };
     let mut entries = Entries::new();
     let raw = options.is_raw();
+    let prefixed = options.has_prefix();
     let verified = match kept.layout() {
-        Some(layout) => match verify(layout, buffer, limits, raw, &mut entries) {
+        Some(layout) => match verify_framed(layout, buffer, limits, raw, prefixed, &mut entries) {
             Ok(_view) => Some(Ok(())),
             Err(refusal) => Some(Err(refusal)),
         },

@@ -1,6 +1,6 @@
 //! How C wants a call done.
 ghost use Rattle.std.specs.Prelude.{◌≡◌, SomeIff};
-ghost use Rattle.flatc_c.specs.Settings.{cells_of, depth_of, unknown_of, raw_of, defaults_of};
+ghost use Rattle.flatc_c.specs.Settings.{cells_of, depth_of, unknown_of, raw_of, defaults_of, prefixed_of, compact_of};
 ghost use Rattle.flatc_c.specs.Settings.{limits_of, AreSet};
 
 use flatc_tool::Limits;
@@ -17,6 +17,8 @@ pub struct Options {
     pub unknown_json: bool,
     pub raw_binary: bool,
     pub defaults_json: bool,
+    pub size_prefixed: bool,
+    pub compact: bool,
 }
 
 impl Options {
@@ -69,11 +71,29 @@ impl Options {
         }
     }
 
-    /// The limits, if the size is 4 to 12 and the depth 1 to 127.
+    /// Whether the count of a buffer's bytes is in front of it.
+    pub(crate) fn has_prefix(&self) -> bool
+        ensures { result ≡ prefixed_of self.now }
+    {
+        if self.size < 13 {
+            false
+        } else {
+            self.size_prefixed
+        }
+    }
+
+    /// Whether a text has no blanks and line feeds.
+    pub(crate) fn is_compact(&self) -> bool
+        ensures { result ≡ compact_of self.now }
+    {
+        if self.size < 14 { false } else { self.compact }
+    }
+
+    /// The limits, if the size is 4 to 16 and the depth 1 to 127.
     pub(crate) fn limits(&self) -> Option<Limits>
         ensures { SomeIff result (AreSet self.now) (limits_of self.now) }
     {
-        if self.size < 4 || self.size > 12 {
+        if self.size < 4 || self.size > 16 {
             return None;
         }
         Limits::new(self.depth(), self.cells())

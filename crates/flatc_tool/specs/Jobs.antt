@@ -1,6 +1,6 @@
 -- What the tool's jobs answer, layer by layer.
 -- From the FlatBuffers documentation, "Using the schema compiler": `--binary` and `--json`.
-use Rattle.std.specs.Prelude.{ℕ, ◌≡◌, ◌<◌, ◌≤◌, List, length, Bool, true}
+use Rattle.std.specs.Prelude.{ℕ, ◌≡◌, ◌<◌, ◌≤◌, List, length, Bool, true, false}
 use Rattle.serde_json.specs.Data.{Data}
 use Rattle.fb_layout.specs.Laid.{LaidSchema}
 use Rattle.fb_value.specs.Bounds.{Bounds}
@@ -8,16 +8,18 @@ use Rattle.fb_value.specs.Counts.{is_whole}
 use Rattle.fb_value.specs.Datum.{Datum}
 use Rattle.fb_value.specs.Fits.{FitsRoot}
 use Rattle.fb_value.specs.Num.{Bytes}
-use Rattle.fb_value.specs.Room.{room_of}
-use Rattle.fb_value.specs.Holds.{Holds, Refuses}
-use Rattle.fb_value.specs.OldSlots.{OnlyOld}
+use Rattle.fb_value.specs.Holds.{HoldsFramed, RefusesFramed, front_of}
+use Rattle.fb_value.specs.OldSlots.{OnlyOldBehind}
 use Rattle.fb_json.specs.declared.faults.JsonFault.TheVariants as the_json
 use Rattle.fb_text.specs.declared.faults.TextFault.TheVariants as the_text
 use Rattle.fb_json.specs.Means.{Means}
 use Rattle.fb_json.specs.Meant.{type_place}
-use Rattle.fb_text.specs.Texts.{json_text}
+use Rattle.fb_text.specs.Texts.{spaced_text}
+use Rattle.fb_text.specs.declared.indents.Spacing.{Spacing}
+use Rattle.fb_text.specs.declared.indents.Spacing.TheVariants.{Indented, Compact}
 use Rattle.fb_text.specs.Unnamed.{IsRefused as IsUnnamed}
-use Rattle.fb_build.specs.Covered.{Covered, EndsAligned}
+use Rattle.fb_build.specs.Covered.{CoveredFramed, EndsAlignedFramed}
+use Rattle.fb_build.specs.FramedRoom.{framed_room}
 use Rattle.fb_build.specs.declared.faults.BuildFault.TheVariants as the_build
 use Rattle.fb_encode.specs.Encoded.{TreeRefused}
 use Rattle.fb_schema_text.specs.SchemaTexts.{IsRefused, IsWant, OfLayout}
@@ -37,28 +39,38 @@ abbrev pub most_room : ℕ
 most_room = 2147483647
 
 -- The bytes of a JSON text under a layout: exactly the value that it means lies in them, only slots in use have
--- something, each byte belongs to the value or is one of few zeros, and they are no longer than its room.
-pub record IsBinaryOf (L : LaidSchema) (json : List ℕ) (most : Bounds) (unknown : Bool) (b : Bytes) : Type 0 where
+-- something, each byte belongs to the value or is one of few zeros, and they are no longer than its room. Where they are
+-- prefixed, the count of the others is in front.
+pub record IsBinaryFramed (prefixed : Bool) (L : LaidSchema) (json : List ℕ) (most : Bounds) (unknown : Bool)
+    (b : Bytes) : Type 0 where
   pub value : Datum
   pub means : JsonMeans L most unknown json value
   pub fits : FitsRoot L value
-  pub small : room_of L value ≤ most_room
-  pub holds : (raw : Bool) → Holds L most raw b value
-  pub only : (raw : Bool) (v : Datum) → Holds L most raw b v → v ≡ value
-  pub old_slots : OnlyOld L b
-  pub covered : Covered L b
-  pub aligned : EndsAligned L b
-  pub short : length b ≤ room_of L value
+  pub small : framed_room prefixed L value ≤ most_room
+  pub holds : (raw : Bool) → HoldsFramed prefixed L most raw b value
+  pub only : (raw : Bool) (v : Datum) → HoldsFramed prefixed L most raw b v → v ≡ value
+  pub old_slots : OnlyOldBehind (front_of prefixed) L b
+  pub covered : CoveredFramed prefixed L b
+  pub aligned : EndsAlignedFramed prefixed L b
+  pub short : length b ≤ framed_room prefixed L value
+
+-- a buffer alone
+abbrev pub IsBinaryOf : LaidSchema → List ℕ → Bounds → Bool → Bytes → Type 0
+IsBinaryOf L json most unknown b = IsBinaryFramed false L json most unknown b
 
 -- the bytes of a JSON text under a schema text
 abbrev pub IsBinary : List ℕ → List ℕ → Bounds → Bool → Bytes → Type 0
 IsBinary schema json most unknown b = OfLayout schema (λ L. IsBinaryOf L json most unknown b)
 
 -- the JSON means a value that isn't too big
-pub record MayBeBinaryOf (L : LaidSchema) (json : List ℕ) (most : Bounds) (unknown : Bool) : Type 0 where
+pub record MayBeBinaryFramed (prefixed : Bool) (L : LaidSchema) (json : List ℕ) (most : Bounds) (unknown : Bool)
+    : Type 0 where
   pub value : Datum
   pub means : JsonMeans L most unknown json value
-  pub small : room_of L value ≤ most_room
+  pub small : framed_room prefixed L value ≤ most_room
+
+abbrev pub MayBeBinaryOf : LaidSchema → List ℕ → Bounds → Bool → Type 0
+MayBeBinaryOf L json most unknown = MayBeBinaryFramed false L json most unknown
 
 -- an accepted schema under which it does
 abbrev pub MayBeBinary : List ℕ → List ℕ → Bounds → Bool → Type 0
@@ -67,14 +79,19 @@ MayBeBinary schema json most unknown = OfLayout schema (λ L. MayBeBinaryOf L js
 -- The refusal of the first layer that refuses, in the order JSON text, value, size; of a tree that breaks rules its
 -- first fault. Where a layer runs out of memory, the layers before it have passed; `Memory` alone is of the reading of
 -- the JSON text.
+abbrev pub BinaryRefusedFramed : Bool → LaidSchema → List ℕ → Bounds → Bool → ToolFault → Type 0
+BinaryRefusedFramed prefixed L json most unknown BadJson = (t : Data) → ¬ IsTree json t
+BinaryRefusedFramed prefixed L json most unknown (Json f) =
+    (t : Data) × IsTree json t × TreeRefused L most unknown t f
+BinaryRefusedFramed prefixed L json most unknown (Build the_build.TooBig) =
+    (v : Datum) × JsonMeans L most unknown json v × (most_room < framed_room prefixed L v)
+BinaryRefusedFramed prefixed L json most unknown (Build the_build.Memory) =
+    MayBeBinaryFramed prefixed L json most unknown
+BinaryRefusedFramed prefixed L json most unknown Memory = Unit {0}
+BinaryRefusedFramed prefixed L json most unknown _ = ⊥
+
 abbrev pub BinaryRefusedOf : LaidSchema → List ℕ → Bounds → Bool → ToolFault → Type 0
-BinaryRefusedOf L json most unknown BadJson = (t : Data) → ¬ IsTree json t
-BinaryRefusedOf L json most unknown (Json f) = (t : Data) × IsTree json t × TreeRefused L most unknown t f
-BinaryRefusedOf L json most unknown (Build the_build.TooBig) =
-    (v : Datum) × JsonMeans L most unknown json v × (most_room < room_of L v)
-BinaryRefusedOf L json most unknown (Build the_build.Memory) = MayBeBinaryOf L json most unknown
-BinaryRefusedOf L json most unknown Memory = Unit {0}
-BinaryRefusedOf L json most unknown _ = ⊥
+BinaryRefusedOf L json most unknown f = BinaryRefusedFramed false L json most unknown f
 
 -- The refusal of the schema, which is checked first, or one under its layout.
 abbrev pub BinaryRefused : List ℕ → List ℕ → Bounds → Bool → ToolFault → Type 0
@@ -83,22 +100,35 @@ BinaryRefused schema json most unknown f = OfLayout schema (λ L. BinaryRefusedO
 
 -- ---- a buffer to JSON
 
+-- compact or indented
+abbrev pub spacing_of : Bool → Spacing
+spacing_of false = Indented
+spacing_of true = Compact
+
 -- The text of the value that the bytes hold under a layout. It has no code that the schema doesn't know.
-pub record IsTextOf (L : LaidSchema) (b : Bytes) (most : Bounds) (raw defaults : Bool) (text : List ℕ) : Type 0 where
+pub record IsTextFramed (compact prefixed : Bool) (L : LaidSchema) (b : Bytes) (most : Bounds) (raw defaults : Bool)
+    (text : List ℕ) : Type 0 where
   pub value : Datum
-  pub holds : Holds L most raw b value
+  pub holds : HoldsFramed prefixed L most raw b value
   pub whole : is_whole value ≡ true
-  pub spelled : text ≡ json_text L defaults value
+  pub spelled : text ≡ spaced_text (spacing_of compact) L defaults value
+
+-- the indented text of a buffer alone
+abbrev pub IsTextOf : LaidSchema → Bytes → Bounds → Bool → Bool → List ℕ → Type 0
+IsTextOf L b most raw defaults text = IsTextFramed false false L b most raw defaults text
 
 -- the text of the value that the bytes hold under a schema text
 abbrev pub IsText : List ℕ → Bytes → Bounds → Bool → Bool → List ℕ → Type 0
 IsText schema b most raw defaults text = OfLayout schema (λ L. IsTextOf L b most raw defaults text)
 
 -- the bytes hold a value whose codes the schema knows
-pub record MayBeTextOf (L : LaidSchema) (b : Bytes) (most : Bounds) (raw : Bool) : Type 0 where
+pub record MayBeTextFramed (prefixed : Bool) (L : LaidSchema) (b : Bytes) (most : Bounds) (raw : Bool) : Type 0 where
   pub value : Datum
-  pub holds : Holds L most raw b value
+  pub holds : HoldsFramed prefixed L most raw b value
   pub whole : is_whole value ≡ true
+
+abbrev pub MayBeTextOf : LaidSchema → Bytes → Bounds → Bool → Type 0
+MayBeTextOf L b most raw = MayBeTextFramed false L b most raw
 
 -- an accepted schema under which they do
 abbrev pub MayBeText : List ℕ → Bytes → Bounds → Bool → Type 0
@@ -106,10 +136,14 @@ MayBeText schema b most raw = OfLayout schema (λ L. MayBeTextOf L b most raw)
 
 -- The least fault of the bytes, or the first code in the value that has no name.
 -- Memory is asked for only for the text of a whole value.
+abbrev pub TextRefusedFramed : Bool → LaidSchema → Bytes → Bounds → Bool → ToolFault → Type 0
+TextRefusedFramed prefixed L b most raw (Read f) = RefusesFramed prefixed L most raw b f
+TextRefusedFramed prefixed L b most raw (Text f) =
+    (v : Datum) × HoldsFramed prefixed L most raw b v × IsUnnamed (type_place L.schema.root) v f
+TextRefusedFramed prefixed L b most raw _ = ⊥
+
 abbrev pub TextRefusedOf : LaidSchema → Bytes → Bounds → Bool → ToolFault → Type 0
-TextRefusedOf L b most raw (Read f) = Refuses L most raw b f
-TextRefusedOf L b most raw (Text f) = (v : Datum) × Holds L most raw b v × IsUnnamed (type_place L.schema.root) v f
-TextRefusedOf L b most raw _ = ⊥
+TextRefusedOf L b most raw f = TextRefusedFramed false L b most raw f
 
 -- The refusal of the schema, which is checked first, or one under its layout.
 abbrev pub TextRefused : List ℕ → Bytes → Bounds → Bool → ToolFault → Type 0

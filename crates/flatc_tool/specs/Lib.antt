@@ -13,3 +13,4 @@ pub mod Prints
 pub mod Evolution
 pub mod Names
 pub mod Options
+pub mod Streams

@@ -6,21 +6,26 @@ use Rattle.fb_layout.specs.Laid.{LaidSchema}
 use Rattle.fb_value.specs.Bounds.{Bounds}
 use Rattle.fb_value.specs.Datum.{Datum}
 use Rattle.fb_value.specs.Num.{Bytes}
-use Rattle.fb_value.specs.Holds.{Holds, Refuses}
+use Rattle.fb_value.specs.Holds.{HoldsFramed, RefusesFramed}
 use Rattle.fb_text.specs.declared.faults.TextFault.TheVariants as the_text
 use Rattle.fb_json.specs.Meant.{type_place}
 use Rattle.fb_text.specs.Unnamed.{IsRefused as IsUnnamed}
 use Rattle.fb_text.specs.Writes.{counted}
 use Rattle.fb_text.specs.declared.faults.WriteFault.TheVariants.{NoMemberName, WriteFailed}
 use Rattle.fb_schema_text.specs.SchemaTexts.{IsRefused, OfLayout}
-use Rattle.flatc_tool.specs.Jobs.{IsTextOf, IsNotMemory}
+use Rattle.flatc_tool.specs.Jobs.{IsTextFramed, IsNotMemory}
 use Rattle.fb_faults.specs.declared.faults.ToolFault.{ToolFault}
 use Rattle.fb_faults.specs.declared.faults.ToolFault.TheVariants.{Schema, Read, Text, Write}
 
 -- All of the text of the bytes under a layout, which is UTF-8, was written behind the bytes of the start.
+abbrev pub IsSentFramed : Bool → Bool → LaidSchema → Bytes → Bounds → Bool → Bool → Option (List ℕ) → Option (List ℕ)
+    → Type 0
+IsSentFramed compact prefixed L b most raw defaults start known =
+    (text : List ℕ) × IsTextFramed compact prefixed L b most raw defaults text × IsUtf8 text × Appends start known text
+
+-- the indented text of a buffer alone
 abbrev pub IsSentOf : LaidSchema → Bytes → Bounds → Bool → Bool → Option (List ℕ) → Option (List ℕ) → Type 0
-IsSentOf L b most raw defaults start known = (text : List ℕ) × IsTextOf L b most raw defaults text × IsUtf8 text
-    × Appends start known text
+IsSentOf L b most raw defaults start known = IsSentFramed false false L b most raw defaults start known
 
 -- the same under a schema text
 abbrev pub IsSent : List ℕ → Bytes → Bounds → Bool → Bool → Option (List ℕ) → Option (List ℕ) → Type 0
@@ -28,15 +33,20 @@ IsSent schema b most raw defaults start known = OfLayout schema (λ L. IsSentOf 
 
 -- The least fault of the bytes, or the first union's code without a name; else a write failed behind the first bytes
 -- of the text, as many as it counts.
+abbrev pub PrintRefusedFramed : Bool → Bool → LaidSchema → Bytes → Bounds → Bool → Bool → Option (List ℕ)
+    → Option (List ℕ) → ToolFault → Type 0
+PrintRefusedFramed compact prefixed L b most raw defaults start known (Read f) = RefusesFramed prefixed L most raw b f
+PrintRefusedFramed compact prefixed L b most raw defaults start known (Write (NoMemberName at)) =
+    (v : Datum) × HoldsFramed prefixed L most raw b v
+    × IsUnnamed (type_place L.schema.root) v (the_text.NoMemberName at)
+PrintRefusedFramed compact prefixed L b most raw defaults start known (Write (WriteFailed n)) =
+    (text : List ℕ) × IsTextFramed compact prefixed L b most raw defaults text × (m : ℕ) × (m < length text)
+    × Appends start known (take m text) × (n ≡ counted m)
+PrintRefusedFramed compact prefixed L b most raw defaults start known _ = ⊥
+
 abbrev pub PrintRefusedOf : LaidSchema → Bytes → Bounds → Bool → Bool → Option (List ℕ) → Option (List ℕ) → ToolFault
     → Type 0
-PrintRefusedOf L b most raw defaults start known (Read f) = Refuses L most raw b f
-PrintRefusedOf L b most raw defaults start known (Write (NoMemberName at)) =
-    (v : Datum) × Holds L most raw b v × IsUnnamed (type_place L.schema.root) v (the_text.NoMemberName at)
-PrintRefusedOf L b most raw defaults start known (Write (WriteFailed n)) =
-    (text : List ℕ) × IsTextOf L b most raw defaults text × (m : ℕ) × (m < length text)
-    × Appends start known (take m text) × (n ≡ counted m)
-PrintRefusedOf L b most raw defaults start known _ = ⊥
+PrintRefusedOf L b most raw defaults start known f = PrintRefusedFramed false false L b most raw defaults start known f
 
 -- The refusal of the schema, which is checked first, or one under its layout.
 abbrev pub PrintRefused : List ℕ → Bytes → Bounds → Bool → Bool → Option (List ℕ) → Option (List ℕ) → ToolFault → Type 0

@@ -1,7 +1,7 @@
 //! JSON texts made buffers under a layout.
 ghost use Rattle.std.specs.Prelude.{◌≡◌, IfOk, IfErr};
 ghost use Rattle.flatc_tool.specs.Encodes.{encode_fault};
-ghost use Rattle.flatc_tool.specs.Jobs.{IsBinaryOf, MayBeBinaryOf, BinaryRefusedOf, IsNotMemory};
+ghost use Rattle.flatc_tool.specs.Jobs.{IsBinaryFramed, MayBeBinaryFramed, BinaryRefusedFramed, IsNotMemory};
 
 use crate::laws::layer_laws;
 use crate::options::EncodeOptions;
@@ -29,8 +29,8 @@ fn refused(fault: TextFault) -> ToolFault
 /// The buffer of a JSON text under a layout, which may be kept for any number of texts.
 ///
 /// The JSON text is checked first, then the value that it means, then that value's size; the error
-/// is that of the first of these that refuses. The buffer's first bytes are its header: there is no
-/// length in front of it. A long text is read in pieces, so that its tree is never whole in memory.
+/// is that of the first of these that refuses. With `size_prefixed` the count of the buffer's bytes is
+/// in front of it. A long text is read in pieces, so that its tree is never whole in memory.
 pub fn encode(
     alloc: Global,
     layout: &Layout,
@@ -38,15 +38,19 @@ pub fn encode(
     options: &EncodeOptions,
 ) -> Result<Vec<u8>, ToolFault>
     ensures binary { IfOk result
-        (λ b. IsBinaryOf layout.now json.now options.now.limits options.now.unknown_json b.items) }
+        (λ b. IsBinaryFramed options.now.size_prefixed layout.now json.now options.now.limits
+        options.now.unknown_json b.items) }
     ensures refused { IfErr result
-        (BinaryRefusedOf layout.now json.now options.now.limits options.now.unknown_json) }
+        (BinaryRefusedFramed options.now.size_prefixed layout.now json.now options.now.limits
+        options.now.unknown_json) }
     ensures exact { IfErr result (λ f. IsNotMemory f
-        → ¬ MayBeBinaryOf layout.now json.now options.now.limits options.now.unknown_json) }
+        → ¬ MayBeBinaryFramed options.now.size_prefixed layout.now json.now options.now.limits
+        options.now.unknown_json) }
 {
     layer_laws();
     let (limits, unknown) = (options.limits, options.unknown_json);
-    match encode_text(alloc, layout, json, limits, unknown, PIECE) {
+    let prefixed = options.size_prefixed;
+    match encode_text(alloc, layout, json, limits, unknown, PIECE, prefixed) {
         Ok(bytes) => Ok(bytes),
         Err(fault) => Err(refused(fault)),
     }
@@ -61,15 +65,19 @@ pub fn encode_owned(
     options: &EncodeOptions,
 ) -> Result<Vec<u8>, ToolFault>
     ensures binary { IfOk result
-        (λ b. IsBinaryOf layout.now json.items options.now.limits options.now.unknown_json b.items) }
+        (λ b. IsBinaryFramed options.now.size_prefixed layout.now json.items options.now.limits
+        options.now.unknown_json b.items) }
     ensures refused { IfErr result
-        (BinaryRefusedOf layout.now json.items options.now.limits options.now.unknown_json) }
+        (BinaryRefusedFramed options.now.size_prefixed layout.now json.items options.now.limits
+        options.now.unknown_json) }
     ensures exact { IfErr result (λ f. IsNotMemory f
-        → ¬ MayBeBinaryOf layout.now json.items options.now.limits options.now.unknown_json) }
+        → ¬ MayBeBinaryFramed options.now.size_prefixed layout.now json.items options.now.limits
+        options.now.unknown_json) }
 {
     layer_laws();
     let (limits, unknown) = (options.limits, options.unknown_json);
-    match encode_owned_text(alloc, layout, json, limits, unknown, PIECE) {
+    let prefixed = options.size_prefixed;
+    match encode_owned_text(alloc, layout, json, limits, unknown, PIECE, prefixed) {
         Ok(bytes) => Ok(bytes),
         Err(fault) => Err(refused(fault)),
     }

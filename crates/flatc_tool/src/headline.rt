@@ -2,6 +2,7 @@
 ghost use Rattle.flatc_tool.specs.Headline.{JsonIsCarried, OtherJsonIsRefused, OthersAreRefused};
 ghost use Rattle.flatc_tool.specs.Chains.{OldProgramsRead, ChainsConform, ChainsCarry};
 ghost use Rattle.flatc_tool.specs.Names.{OldTextsAreRead, OldTextsAreCarried};
+ghost use Rattle.flatc_tool.specs.Streams.{StreamsAreSplit};
 
 use crate::laws::layer_laws;
 
@@ -66,6 +67,14 @@ pub fn old_texts_are_read()
 /// means a value under the old one hold that value, carried.
 pub fn old_texts_are_carried()
     ensures { OldTextsAreCarried }
+{
+    layer_laws();
+}
+
+/// Size-prefixed buffers that `encode` returns, written one behind the other, are split by
+/// `split_prefixed` into exactly these.
+pub fn streams_are_split()
+    ensures { StreamsAreSplit }
 {
     layer_laws();
 }

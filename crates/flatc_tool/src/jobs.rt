@@ -35,6 +35,7 @@ pub fn to_binary(
     let options = EncodeOptions {
         limits,
         unknown_json: unknown,
+        size_prefixed: false,
     };
     encode(alloc, &layout, json, &options)
 }

@@ -1,17 +1,29 @@
 //! Buffers printed as JSON texts under a layout.
 ghost use Rattle.std.specs.Prelude.{◌≡◌, IfOk, IfErr, OnOk, false, string_bytes};
 ghost use Rattle.fb_text.specs.Noted.{write_failed, writer_of};
-ghost use Rattle.flatc_tool.specs.Jobs.{IsTextOf, MayBeTextOf, TextRefusedOf, IsNotMemory};
-ghost use Rattle.flatc_tool.specs.Prints.{IsSentOf, PrintRefusedOf, TellsFailure, IfUnwritten, IsOfInput, text_fault};
+ghost use Rattle.flatc_tool.specs.Jobs.{IsTextFramed, MayBeTextFramed, TextRefusedFramed, IsNotMemory, spacing_of};
+ghost use Rattle.flatc_tool.specs.Prints.{IsSentFramed, PrintRefusedFramed, TellsFailure, IfUnwritten, IsOfInput, text_fault};
 
 use crate::laws::layer_laws;
 use crate::options::DecodeOptions;
 use fb_faults::ToolFault;
 use fb_layout::Layout;
-use fb_read::{Entries, verify};
-use fb_text::{Noted, TextFault, WriteFault, texts_are_utf8, write_text};
+use fb_read::{Entries, verify_framed};
+use fb_text::{Noted, Spacing, TextFault, WriteFault, spaced_texts_are_utf8, write_spaced};
 use std::alloc::Global;
 use std::io::Write;
+
+/// How a text is spaced.
+#[inline(always)]
+fn spacing_of(compact: bool) -> Spacing
+    ensures { result ≡ spacing_of compact }
+{
+    if compact {
+        Spacing::Compact
+    } else {
+        Spacing::Indented
+    }
+}
 
 /// Writes the JSON text of the value that a buffer holds under a layout, which may be kept for any
 /// number of buffers.
@@ -26,31 +38,32 @@ pub fn decode_to<W: Write>(
     out: &mut Noted<W>,
 ) -> Result<(), ToolFault>
     requires fresh { write_failed out.old ≡ false }
-    ensures printed { OnOk result (IsSentOf layout.now bytes.now options.now.limits options.now.raw_binary
+    ensures printed { OnOk result (IsSentFramed options.now.compact options.now.size_prefixed layout.now bytes.now options.now.limits options.now.raw_binary
         options.now.defaults_json (W.contents (writer_of out.old)) (W.contents (writer_of out.new))) }
-    ensures refused { IfErr result (PrintRefusedOf layout.now bytes.now options.now.limits
+    ensures refused { IfErr result (PrintRefusedFramed options.now.compact options.now.size_prefixed layout.now bytes.now options.now.limits
         options.now.raw_binary options.now.defaults_json
         (W.contents (writer_of out.old)) (W.contents (writer_of out.new))) }
     ensures failed { TellsFailure (write_failed out.new) result }
     ensures untouched { IfUnwritten result (out.new ≡ out.old) }
     ensures exact { IfErr result (λ f. IsOfInput f
-        → ¬ MayBeTextOf layout.now bytes.now options.now.limits options.now.raw_binary) }
+        → ¬ MayBeTextFramed options.now.size_prefixed layout.now bytes.now options.now.limits options.now.raw_binary) }
 {
     layer_laws();
-    texts_are_utf8(layout);
+    spaced_texts_are_utf8(layout);
     let _schema = layout.schema(); // its contract: the layout is well made
     let mut entries = Entries::new();
-    let view = match verify(
+    let view = match verify_framed(
         layout,
         bytes,
         options.limits,
         options.raw_binary,
+        options.size_prefixed,
         &mut entries,
     ) {
         Ok(view) => view,
         Err(fault) => return Err(ToolFault::Read(fault)),
     };
-    match write_text(&view, options.defaults_json, out) {
+    match write_spaced(&view, options.defaults_json, spacing_of(options.compact), out) {
         Ok(()) => Ok(()),
         Err(fault) => Err(ToolFault::Write(fault)),
     }
@@ -79,12 +92,12 @@ pub fn decode(
     bytes: &[u8],
     options: &DecodeOptions,
 ) -> Result<String, ToolFault>
-    ensures text { IfOk result (λ s. IsTextOf layout.now bytes.now options.now.limits options.now.raw_binary
+    ensures text { IfOk result (λ s. IsTextFramed options.now.compact options.now.size_prefixed layout.now bytes.now options.now.limits options.now.raw_binary
         options.now.defaults_json (string_bytes s)) }
     ensures refused { IfErr result
-        (TextRefusedOf layout.now bytes.now options.now.limits options.now.raw_binary) }
+        (TextRefusedFramed options.now.size_prefixed layout.now bytes.now options.now.limits options.now.raw_binary) }
     ensures exact { IfErr result (λ f. IsNotMemory f
-        → ¬ MayBeTextOf layout.now bytes.now options.now.limits options.now.raw_binary) }
+        → ¬ MayBeTextFramed options.now.size_prefixed layout.now bytes.now options.now.limits options.now.raw_binary) }
 {
     let mut out = Noted::over(Vec::new(alloc));
     if let Err(fault) = decode_to(layout, bytes, options, &mut out) {

@@ -7,7 +7,10 @@ use fb_conform::{
 };
 use fb_json::{all_that_is_meant, meant_is_whole, only_what_is_meant};
 use fb_schema_text::schema_laws;
-use fb_value::{fits_where_held, one_least_fault, one_value, value_or_fault};
+use fb_value::{
+    fits_where_held, held_is_message, message_is_whole, one_least_fault, one_message_in_front,
+    one_value, value_or_fault,
+};
 
 /// What the layers promise of all texts, values and bytes. It does nothing when it runs.
 #[inline(always)]
@@ -19,6 +22,9 @@ pub(crate) fn layer_laws()
     value_or_fault();
     one_least_fault();
     fits_where_held();
+    one_message_in_front();
+    message_is_whole();
+    held_is_message();
     only_what_is_meant();
     all_that_is_meant();
     meant_is_whole();

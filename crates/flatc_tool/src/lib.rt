@@ -21,7 +21,10 @@ pub use fb_declare::SchemaFault;
 pub use fb_faults::ToolFault;
 pub use fb_json::{JsonFault, Place};
 pub use fb_layout::{Layout, LayoutFault};
-pub use fb_read::{Entries, Entry, FixedView, Items, View, read, verify};
+pub use fb_read::{
+    Entries, Entry, FixedView, Items, View, read, read_framed, split_prefixed, verify,
+    verify_framed,
+};
 pub use fb_schema::TypeId;
 pub use fb_schema_text::{SchemaTextFault, schema_of};
 pub use fb_syntax::SyntaxFault;
@@ -31,7 +34,7 @@ pub use fb_value::{
 };
 pub use headline::{
     chains_carry, chains_conform, json_is_carried, old_programs_read, old_texts_are_carried,
-    old_texts_are_read, other_json_is_refused, others_are_refused,
+    old_texts_are_read, other_json_is_refused, others_are_refused, streams_are_split,
 };
 pub use jobs::to_binary;
 pub use json_texts::{decode, decode_to};

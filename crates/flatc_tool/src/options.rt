@@ -14,25 +14,29 @@ fn usual_limits() -> Limits
     limits
 }
 
-/// How a JSON text is made a buffer. By default: within the usual limits, and an unknown JSON field
-/// is refused.
+/// How a JSON text is made a buffer. By default: within the usual limits, an unknown JSON field is
+/// refused, and the buffer's length isn't put in front of it.
 #[derive(Clone, Copy)]
 pub struct EncodeOptions {
     /// How deep tables may be nested, and how many cells there may be.
     pub limits: Limits,
     /// Ignores unknown JSON fields, as `--unknown-json` does.
     pub unknown_json: bool,
+    /// Puts the count of the buffer's bytes in front, as `--size-prefixed` does.
+    pub size_prefixed: bool,
 }
 
 impl EncodeOptions {
-    /// The usual limits, and unknown JSON fields are refused.
+    /// The usual limits, unknown JSON fields are refused, and a buffer has no count in front.
     pub fn new() -> EncodeOptions
         ensures limits { result.limits ≡ usual_limits }
         ensures unknown { result.unknown_json ≡ false }
+        ensures prefixed { result.size_prefixed ≡ false }
     {
         EncodeOptions {
             limits: usual_limits(),
             unknown_json: false,
+            size_prefixed: false,
         }
     }
 }
@@ -41,13 +45,15 @@ impl Default for EncodeOptions {
     fn default() -> EncodeOptions
         ensures limits { result.limits ≡ usual_limits }
         ensures unknown { result.unknown_json ≡ false }
+        ensures prefixed { result.size_prefixed ≡ false }
     {
         EncodeOptions::new()
     }
 }
 
 /// How a buffer is made a JSON text. By default: within the usual limits, the file identifier is
-/// checked, and scalars with their default values are left out.
+/// checked, scalars with their default values are left out, no length is in front of the buffer, and the text
+/// is indented.
 #[derive(Clone, Copy)]
 pub struct DecodeOptions {
     /// How deep tables may be nested, and how many cells there may be.
@@ -56,19 +62,28 @@ pub struct DecodeOptions {
     pub raw_binary: bool,
     /// Includes scalars with their default values, as `--defaults-json` does.
     pub defaults_json: bool,
+    /// Takes the count of the buffer's bytes in front, as `--size-prefixed` does.
+    pub size_prefixed: bool,
+    /// Leaves out blanks and line feeds outside strings, as `--compact` does.
+    pub compact: bool,
 }
 
 impl DecodeOptions {
-    /// The usual limits, the file identifier is checked, and default values are left out.
+    /// The usual limits, the file identifier is checked, default values are left out, a buffer has no
+    /// count in front, and a text is indented.
     pub fn new() -> DecodeOptions
         ensures limits { result.limits ≡ usual_limits }
         ensures raw { result.raw_binary ≡ false }
         ensures defaults { result.defaults_json ≡ false }
+        ensures prefixed { result.size_prefixed ≡ false }
+        ensures compact { result.compact ≡ false }
     {
         DecodeOptions {
             limits: usual_limits(),
             raw_binary: false,
             defaults_json: false,
+            size_prefixed: false,
+            compact: false,
         }
     }
 }
@@ -78,6 +93,8 @@ impl Default for DecodeOptions {
         ensures limits { result.limits ≡ usual_limits }
         ensures raw { result.raw_binary ≡ false }
         ensures defaults { result.defaults_json ≡ false }
+        ensures prefixed { result.size_prefixed ≡ false }
+        ensures compact { result.compact ≡ false }
     {
         DecodeOptions::new()
     }

@@ -47,6 +47,8 @@ pub fn print_to<W: Write>(
         limits,
         raw_binary: raw,
         defaults_json: defaults,
+        size_prefixed: false,
+        compact: false,
     };
     decode_to(&layout, bytes, &options, out)
 }
@@ -79,6 +81,8 @@ pub fn to_json(
         limits,
         raw_binary: raw,
         defaults_json: defaults,
+        size_prefixed: false,
+        compact: false,
     };
     decode(alloc, &layout, bytes, &options)
 }

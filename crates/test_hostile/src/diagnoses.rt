@@ -41,7 +41,7 @@ fn of_count(known: Result<usize, AllocError>, answer: Result<usize, AllocError>)
 
 /// How many steps lead to the least fault of bytes; 0 where there is none.
 fn steps_in_bytes(alloc: Global, layout: &Layout, bytes: &[u8]) -> Result<usize, AllocError> {
-    match fault_path(alloc, layout, bytes, limits(), false)? {
+    match fault_path(alloc, layout, bytes, limits(), false, false)? {
         Some(steps) => Ok(steps.len()),
         None => Ok(0),
     }
@@ -119,6 +119,7 @@ fn explained(alloc: Global, refused: &Refused<'_>) -> Result<String, AllocError>
         limits: limits(),
         unknown_json: false,
         raw_binary: false,
+        size_prefixed: false,
         columns: COLUMNS,
         failure: None,
     };

@@ -21,13 +21,15 @@ use fb_value::Limits;
 use flatc_tool::schema_of;
 use std::alloc::Global;
 
-/// What a row is tried under: its schema text and the layout that it has, and limits.
+/// What a row is tried under: its schema text and the layout that it has, limits, and whether the count of its
+/// buffers' bytes is in front of them.
 #[derive(Clone, Copy)]
 pub(crate) struct Case<'s, 'l> {
     pub(crate) alloc: Global,
     pub(crate) schema: &'s [u8],
     pub(crate) layout: &'l Layout,
     pub(crate) limits: Limits,
+    pub(crate) prefixed: bool,
 }
 
 /// A row of values: a schema text, with a JSON text, with bytes in hexadecimal or with both, and what
@@ -48,6 +50,7 @@ pub(crate) fn try_value_row(
 ) -> Result<&'static str, RowFault> {
     let depth = row.number("depth")?;
     let cells = row.number("cells")?;
+    let prefixed = row.flag("prefixed")?;
     let text = row.text("schema")?;
     let schema = text.as_bytes();
     if !are_cuts_settled(alloc, text) {
@@ -64,6 +67,7 @@ pub(crate) fn try_value_row(
         schema,
         layout: &layout,
         limits,
+        prefixed,
     };
     try_case(&case, row, line)
 }
@@ -134,6 +138,7 @@ fn try_versions(
         schema,
         layout: &layout,
         limits: case.limits,
+        prefixed: case.prefixed,
     };
     try_later(case, &later, json, line)?;
     Ok("carried")

@@ -71,6 +71,10 @@ pub struct Options {
     pub raw_binary: bool,
     /// `decode`: includes fields with default values.
     pub defaults_json: bool,
+    /// `encode`, `decode`, `verify`: a 32-bit count of the buffer's bytes is in front of it.
+    pub size_prefixed: bool,
+    /// `decode`: no blanks and line feeds outside strings.
+    pub compact: bool,
 }
 
 impl Default for Options {
@@ -81,6 +85,8 @@ impl Default for Options {
             unknown_json: false,
             raw_binary: false,
             defaults_json: false,
+            size_prefixed: false,
+            compact: false,
         }
     }
 }
@@ -94,6 +100,8 @@ impl Options {
             unknown_json: self.unknown_json,
             raw_binary: self.raw_binary,
             defaults_json: self.defaults_json,
+            size_prefixed: self.size_prefixed,
+            compact: self.compact,
         }
     }
 }

@@ -71,6 +71,11 @@ fn options() {
     let json = r#"{"name": "Orc", "hair": 1}"#;
     assert!(schema.encode(json).is_err());
     assert!(schema.encode_with(json, unknown).is_ok());
+    let prefixed = Options { size_prefixed: true, ..Options::default() };
+    let message = schema.encode_with(JSON, prefixed).unwrap();
+    assert_eq!(u32::from_le_bytes(message[..4].try_into().unwrap()) as usize, message.len() - 4);
+    assert!(schema.decode_with(&message, prefixed).is_ok());
+    assert!(schema.decode(&message).is_err());
 }
 
 #[test]

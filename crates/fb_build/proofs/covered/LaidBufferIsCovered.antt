@@ -9,8 +9,6 @@ use Rattle.fb_layout.specs.Laid.{LaidSchema}
 use Rattle.fb_value.specs.Datum.{Datum}
 use Rattle.fb_value.specs.Num.{Bytes, num, divides}
 use Rattle.fb_value.specs.Places.{table_part, part_place}
-use Rattle.fb_value.specs.Lies.{LiesAt}
-use Rattle.fb_value.specs.Holds.{root_place}
 use Rattle.fb_build.specs.Vtables.{StandsEnd}
 use Rattle.fb_build.specs.Tails.{TailSeen, LaidInTail}
 use Rattle.fb_tape.specs.KnownVtables.{EachHasOneNumber}
@@ -18,7 +16,7 @@ use Rattle.fb_build.specs.Vtables.{AreLaid, TellsItsLength}
 use Rattle.fb_build.specs.Pieces.{PartAt, reached, reached_parts, greatest_align, is_among, tables_vtables}
 use Rattle.fb_build.specs.Pieces.{whole_header, header_piece, header_size}
 use Rattle.fb_build.specs.Covered.{Chunk, piece_chunk, zeros_chunk, pieces_among, vtable_at, EqualVtablesAreOne}
-use Rattle.fb_build.specs.Covered.{Covered, EndsAligned}
+use Rattle.fb_build.specs.Covered.{IsCoveredBy}
 use Rattle.fb_build.specs.CoveredTails.{part_further, parts_in_tail}
 use Rattle.fb_build.specs.CoveredSteps.{AreDistinct, ChunksOfTail}
 use Rattle.fb_build.specs.Made.{laid_at, times_among, IsMade, LeadsEnd, identifier_bytes, HeaderFront}
@@ -115,7 +113,6 @@ pub record IsWhole (L : LaidSchema) (o d : TailSeen) (b : Bytes) (e : ℕ) (v : 
   pub four_long : length four ≡ 4
   pub bytes : b ≡ four ++ d.bytes
   pub leads : LeadsEnd b (length b) e
-  pub there : LiesAt L b (root_place L).sort 0 v
 
 module _ (L : LaidSchema) (o d : TailSeen) (b : Bytes) (e : ℕ) (v : Datum) (known : List Bytes) (places : List ℕ)
     (h : IsWhole L o d b e v known places) where
@@ -165,21 +162,16 @@ module _ (L : LaidSchema) (o d : TailSeen) (b : Bytes) (e : ℕ) (v : Datum) (kn
       ap (λ ps. greatest_align L c ps) parts ∙ ap (λ n. max 4 n) (greatest_stay L front o.bytes xs h.made.stay)
       ∙ sym h.made.widest
 
-  pub covered_buffer : Covered L b
+  pub covered_buffer : IsCoveredBy L b v
   unfolding xs
   covered_buffer =
       let s = o.bytes in
       let made = whole_shown L o.most o.most front s fs e v (laid_at s places) h.laid.lies h.made.made
       (distinct_once (laid_at s places) h.made.once) h.made.served are header root (omega (arith, greatest)) in
       let one = one_place s known places (tables_vtables s xs) h.shared h.different h.made.served in
-      let there : LiesAt L (front ++ s) (root_place L).sort 0 v =
-      subst (λ (z : Bytes). LiesAt L z (root_place L).sort 0 v) joined h.there in
-      let all : Covered L (front ++ s) =
-      covered_shown L o.most front s e v h.laid.lies h.laid.tight h.laid.inline one root made there in
-      subst (λ (z : Bytes). Covered L z) (sym joined) all
+      let all : IsCoveredBy L (front ++ s) v =
+      covered_shown L o.most front s e v h.laid.lies h.laid.tight h.laid.inline one root made in
+      subst (λ (z : Bytes). IsCoveredBy L z v) (sym joined) all
 
-  pub aligned_buffer : divides o.most (length b) ≡ true → EndsAligned L b
-  aligned_buffer whole =
-      let same : greatest_align L b (reached_parts L b v) ≡ o.most =
-      subst (λ (z : Bytes). greatest_align L z (reached_parts L z v) ≡ o.most) (sym joined) greatest in
-      (v, h.there, rw same whole)
+  pub greatest_buffer : greatest_align L b (reached_parts L b v) ≡ o.most
+  greatest_buffer = subst (λ (z : Bytes). greatest_align L z (reached_parts L z v) ≡ o.most) (sym joined) greatest

@@ -47,7 +47,7 @@ equal_further front s qs h q r here there same =
     x.1 ∙ ap (λ n. length front + n) (h x.0 y.0 x.2 y.2 was) ∙ sym y.1
 
 pub covered_shown : CoveredWhole
-covered_shown L m front s e v lies tight inline one root made there =
+covered_shown L m front s e v lies tight inline one root made =
     let b = front ++ s in
     let k = length front in
     let X = table_part L.schema.root in
@@ -58,19 +58,16 @@ covered_shown L m front s e v lies tight inline one root made there =
     let kept = reached_front_shown L m front s X e v lies in
     let places : tables_vtables b (reached_parts L b v)
     ≡ map (λ q. k + q) (tables_vtables s (parts_in_tail L s X e v)) =
-    ap (λ q. tables_vtables b (reached L b X q v)) (sym at) ∙ kept.vtables in (
-      v,
-      there,
-      record {
-        made = made;
-        shared = subst (λ (qs : List ℕ). EqualVtablesAreOne b qs) (sym places)
-            (equal_further front s (tables_vtables s (parts_in_tail L s X e v)) one);
-        tables = subst (λ (p : ℕ). EachTable L b (λ t q. IsTightTable L b t q) (part_place X) p v) behind
-            (each_at_moved L (from_end s m) (λ a p. true) s b k (omega (arith, whole)) bytes (λ a p low is. refl)
-            (λ t p. IsTightInTail L s t p) (λ t p. IsTightTable L b t p)
-            (λ t p slots known. (tight_further_on L s b k bytes t p slots known).tight) (part_place X)
-            (length s - e) v lies.lies tight);
-        inline = subst (λ (p : ℕ). EachInline L b (IsTightInline L b) X p v) at (inline_front_shown L m front s
-            (part_place X) e v lies inline);
-      },
-    )
+    ap (λ q. tables_vtables b (reached L b X q v)) (sym at) ∙ kept.vtables in
+    record {
+      made = made;
+      shared = subst (λ (qs : List ℕ). EqualVtablesAreOne b qs) (sym places)
+          (equal_further front s (tables_vtables s (parts_in_tail L s X e v)) one);
+      tables = subst (λ (p : ℕ). EachTable L b (λ t q. IsTightTable L b t q) (part_place X) p v) behind
+          (each_at_moved L (from_end s m) (λ a p. true) s b k (omega (arith, whole)) bytes (λ a p low is. refl)
+          (λ t p. IsTightInTail L s t p) (λ t p. IsTightTable L b t p)
+          (λ t p slots known. (tight_further_on L s b k bytes t p slots known).tight) (part_place X)
+          (length s - e) v lies.lies tight);
+      inline = subst (λ (p : ℕ). EachInline L b (IsTightInline L b) X p v) at (inline_front_shown L m front s
+          (part_place X) e v lies inline);
+    }

@@ -22,10 +22,7 @@ use Rattle.fb_build.specs.Tails.{TailSeen, Grows, LaidInTail}
 use Rattle.fb_build.proofs.tail.WhatIsLaidStaysLaid.{laid_grown}
 use Rattle.fb_build.specs.Ends.{BeginsWith}
 use Rattle.fb_build.specs.Made.{identifier_bytes}
-
--- the identifier stands behind the root's reference
-abbrev pub IsIdentified : Bytes → Bytes → Type 0
-IsIdentified b id = (8 ≤ length b) × (take 4 (drop 4 b) ≡ id)
+use Rattle.fb_build.specs.Roots.{IsIdentified}
 
 pub identified_behind : (front s id b : Bytes) → b ≡ front ++ s → length front ≡ 4 → length id ≡ 4 → BeginsWith id s
     → IsIdentified b id
@@ -49,7 +46,7 @@ header_holds b (Some id) low high identified =
     let own = identified id refl in
     rw (le-leb _ _ own.0, le-leb _ _ high, (bytes_eq-Decides (take 4 (drop 4 b)) id).1 own.1) refl
 
-checked : (L : LaidSchema) (b : Bytes) (raw : Bool) → ((id : Bytes) → L.schema.identifier ≡ Some id → IsIdentified b id)
+pub checked : (L : LaidSchema) (b : Bytes) (raw : Bool) → ((id : Bytes) → L.schema.identifier ≡ Some id → IsIdentified b id)
     → (id : Bytes) → checked_identifier L raw ≡ Some id → IsIdentified b id
 checked L b raw identified id e = by_raw raw e
   where
@@ -67,28 +64,32 @@ root_laid L a b c t e d root g laid last =
     subst (λ (n : ℕ). LaidInTail L c.most c.bytes (ref_place (table_part n)) (length c.bytes) d) root
     (last (table_part t) (laid_grown L a b (part_place (table_part t)) e d g laid))
 
+-- a value that lies in front of nothing lies in the whole
+pub whole_lies : (L : LaidSchema) (m : ℕ) (b : Bytes) (v : Datum) → divides m (length b) ≡ true
+    → LiesInTail L m b (ref_place (table_part L.schema.root)) (length b) v
+    → LiesAt L b (ref_place (table_part L.schema.root)) 0 v
+whole_lies L m b v whole lies =
+    let front : length b - length b ≡ 0 = omega arith in
+    subst (λ (p : ℕ). LiesAt L b (ref_place (table_part L.schema.root)) p v) front
+    (whole_shown L m b (ref_place (table_part L.schema.root)) (length b) v whole lies)
+
 pub whole_holds : (L : LaidSchema) (m : ℕ) (b : Bytes) (v : Datum) (most : Bounds) (raw : Bool)
     → ((id : Bytes) → L.schema.identifier ≡ Some id → IsIdentified b id) → 4 ≤ length b → length b ≤ 2147483647
     → divides m (length b) ≡ true
     → LiesInTail L m b (ref_place (table_part L.schema.root)) (length b) v → depth v ≤ most.depth → cells v ≤ most.cells
     → Holds L most raw b v
-whole_holds L m b v most raw identified low high whole lies deep small =
-    let front : length b - length b ≡ 0 = omega arith in
-    record {
-      header = header_holds b (checked_identifier L raw) low high (checked L b raw identified);
-      lies = subst (λ (p : ℕ). LiesAt L b (ref_place (table_part L.schema.root)) p v) front
-          (whole_shown L m b (ref_place (table_part L.schema.root)) (length b) v whole lies);
-      deep = deep;
-      small = small;
-    }
+whole_holds L m b v most raw identified low high whole lies deep small = record {
+  header = header_holds b (checked_identifier L raw) low high (checked L b raw identified);
+  lies = whole_lies L m b v whole lies;
+  deep = deep;
+  small = small;
+}
 
 pub whole_old : (L : LaidSchema) (m : ℕ) (b : Bytes) (v : Datum) → divides m (length b) ≡ true
     → LaidInTail L m b (ref_place (table_part L.schema.root)) (length b) v → OnlyOld L b
 whole_old L m b v whole laid =
     let front : length b - length b ≡ 0 = omega arith in
-    let lies = subst (λ (p : ℕ). LiesAt L b (ref_place (table_part L.schema.root)) p v) front
-    (whole_shown L m b (ref_place (table_part L.schema.root)) (length b) v whole laid.lies) in
-    only_old_shown L b v lies
+    only_old_shown L b 0 v (whole_lies L m b v whole laid.lies)
     (subst (λ (p : ℕ). EachTableAt L b (λ t q. IsOldTable L b t q) (ref_place (table_part L.schema.root)) p v) front
     laid.old)
 

@@ -7,7 +7,7 @@ use Rattle.fb_layout.specs.Laid.{LaidSchema, Slot, StoredKind, scalar_kind, stru
 use Rattle.fb_layout.specs.Laid.{StoredShape, one_of, vector_of, parts_of, struct_at, size_of}
 use Rattle.fb_layout.specs.Laid.{member_by_code}
 use Rattle.fb_value.specs.Datum.{Datum, a_number, a_struct, Parts, no_parts, more_parts}
-use Rattle.fb_value.specs.Holds.{checked_identifier}
+use Rattle.fb_value.specs.Holds.{front_of, checked_identifier}
 use Rattle.fb_value.specs.Lies.{LiesInline, LiesParts}
 use Rattle.fb_value.specs.Num.{Bytes}
 use Rattle.fb_value.specs.Places.{Target, vector_part, Sort, ref_place, part_place}
@@ -177,11 +177,12 @@ asked_same A B false e = e
 
 -- what bytes hold under a layout they hold, carried, under one that conforms
 pub carried_holds : CarriedHolds
-carried_holds A B most raw b v old new conforms whole only holds =
+carried_holds prefixed A B most raw b v old new conforms whole only holds =
     let fits = agrees A B old new conforms in
     record {
       header = rw (asked_same A B raw fits.identifier) holds.header;
-      lies = root_moved A A B (λ t. t) (to_new A B) (carrying A B) (Unit {0}) (forth A B fits) b A.schema.root v
+      lies = root_moved A A B (λ t. t) (to_new A B) (carrying A B) (Unit {0}) (forth A B fits) b
+          (front_of prefixed) A.schema.root v
           fits.root_known refl fits.root (λ need. all_whole v whole) only holds.lies;
       deep = omega (arith, depth_carried A B v, holds.deep);
       small = omega (arith, cells_carried A B v, holds.small);
@@ -189,7 +190,7 @@ carried_holds A B most raw b v old new conforms whole only holds =
 
 -- and what they hold under the later one they hold, taken back, under the older one
 pub back_holds : BackHolds
-back_holds A B most raw b v old new conforms only holds =
+back_holds prefixed A B most raw b v old new conforms only holds =
     let fits = agrees A B old new conforms in
     let returns : (t : ℕ) → t < types_in A → to_new B A (to_new A B t) ≡ t = λ t known.
     let name = new_name A.schema B.schema t (to_new A B t) (twins A B old new conforms t known) in
@@ -197,7 +198,8 @@ back_holds A B most raw b v old new conforms only holds =
     in
     record {
       header = rw (← asked_same A B raw fits.identifier) holds.header;
-      lies = root_moved A B A (to_new A B) (λ t. t) (taking_back A B) ⊥ (back_again A B fits returns) b A.schema.root v
+      lies = root_moved A B A (to_new A B) (λ t. t) (taking_back A B) ⊥ (back_again A B fits returns) b
+          (front_of prefixed) A.schema.root v
           fits.root_known fits.root refl (λ never. absurd never) only holds.lies;
       deep = omega (arith, depth_back A B v, holds.deep);
       small = omega (arith, cells_back A B v, holds.small);

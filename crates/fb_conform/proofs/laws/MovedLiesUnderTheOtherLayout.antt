@@ -12,7 +12,7 @@ use Rattle.fb_value.specs.Places.{next_required, slot_number, code_at}
 use Rattle.fb_value.specs.Rules.{Keeps, fault_by}
 use Rattle.fb_value.specs.Lies.{LiesInline, AbsentEntry, PresentEntry, Element, Lies, LiesItems, LiesSlots, LiesAt}
 use Rattle.fb_value.specs.Reads.{default_entry}
-use Rattle.fb_value.specs.OldSlots.{OnlyOld, table_of, is_in_use}
+use Rattle.fb_value.specs.OldSlots.{OnlyOldBehind, table_of, is_in_use}
 use Rattle.fb_conform.specs.Carry.{new_slots}
 use Rattle.fb_conform.specs.Movement.{Movement, move, move_items, move_slots, unless_gone}
 use Rattle.fb_conform.proofs.laws.OldTypesByTheirNewNumbers.{moved_kind, moved_shape, moved_target, moved_sort}
@@ -260,16 +260,23 @@ module _ (A V W : LaidSchema) (v w : ℕ → ℕ) (m : Movement) (needs : Type 0
         (λ s q known only lies2. lies_moved s q d known only (λ need. (whole need).0) lies2) lies.0
     slots_moved p k _ hs _ passes below unused whole lies = absurd lies
 
-  -- the whole, behind the reference at the front
-  pub root_moved : (root : ℕ) (d : Datum) → root < types_in A → V.schema.root ≡ v root → W.schema.root ≡ w root
-      → (needs → IsWhole d) → OnlyOld V b → LiesAt V b (ref_place (table_part V.schema.root)) 0 d
-      → LiesAt W b (ref_place (table_part W.schema.root)) 0 (move m d)
+  -- the whole, behind the root's reference
+  pub root_moved : (front root : ℕ) (d : Datum) → root < types_in A → V.schema.root ≡ v root → W.schema.root ≡ w root
+      → (needs → IsWhole d) → OnlyOldBehind front V b
+      → LiesAt V b (ref_place (table_part V.schema.root)) front d
+      → LiesAt W b (ref_place (table_part W.schema.root)) front (move m d)
   unfolding OnlyFrom Knows OnlyAt At
-  root_moved root d known here there whole only lies =
-      let from : OnlyFrom A V W v w m needs ways b (record { sort = ref_place (table_part (v root)); at = 0 }) =
-      subst (λ (z : ℕ). OnlyFrom A V W v w m needs ways b (record { sort = ref_place (table_part z); at = 0 })) here
+  root_moved front root d known here there whole only lies =
+      let from : OnlyFrom A V W v w m needs ways b (record {
+        sort = ref_place (table_part (v root));
+        at = front;
+      }) =
+      subst (λ (z : ℕ). OnlyFrom A V W v w m needs ways b (record {
+        sort = ref_place (table_part z);
+        at = front;
+      })) here
       (λ path X q t k leads is free. only path X q t k leads is free) in
-      subst (λ (z : ℕ). LiesAt W b (ref_place (table_part z)) 0 (move m d)) (sym there)
-      (behind_moved A V W v w m needs ways b (ref_place (table_part root)) 0 d (move m d) known from
+      subst (λ (z : ℕ). LiesAt W b (ref_place (table_part z)) front (move m d)) (sym there)
+      (behind_moved A V W v w m needs ways b (ref_place (table_part root)) front d (move m d) known from
       (λ s q known2 below at. lies_moved s q d known2 below whole at)
       (rw (← here) lies))

@@ -4,15 +4,15 @@ use Rattle.serde_json.specs.Data.{Data}
 use Rattle.fb_layout.specs.Laid.{LaidSchema}
 use Rattle.fb_value.specs.Bounds.{Bounds}
 use Rattle.fb_value.specs.Datum.{Datum}
-use Rattle.fb_value.specs.Room.{room_of}
 use Rattle.fb_json.specs.Laws.{FirstFaultRefuses}
 use Rattle.fb_json.specs.Means.{Means}
 use Rattle.fb_json.specs.Refuses.{IsFirst, MayLackMemory}
 use Rattle.fb_json.specs.declared.faults.JsonFault.{JsonFault}
 use Rattle.fb_json.specs.declared.faults.JsonFault.TheVariants as the_json
+use Rattle.fb_build.specs.FramedRoom.{framed_room}
 use Rattle.fb_build.specs.declared.faults.BuildFault.{BuildFault}
 use Rattle.fb_build.specs.declared.faults.BuildFault.TheVariants as the_build
-use Rattle.fb_encode.specs.Encoded.{BreaksARule, EncodeRefused, TreeRefused}
+use Rattle.fb_encode.specs.Encoded.{BreaksARule, EncodeRefusedFramed, TreeRefused}
 use Rattle.fb_encode.specs.declared.faults.EncodeFault.TheVariants.{Build}
 
 module _ (L : LaidSchema) (most : Bounds) (unknown : Bool) (t : Data) where
@@ -45,8 +45,9 @@ module _ (L : LaidSchema) (most : Bounds) (unknown : Bool) (t : Data) where
   tree_refused law (the_json.TooManyCells at) may (inl m) = cc
   tree_refused law (the_json.TooManyCells at) may (inr h) = breaks law _ h
 
-  pub build_refused : (d : Datum) → Means L most unknown t d → (f : BuildFault)
-      → (f ≡ the_build.TooBig → 2147483647 < room_of L d) → (f ≡ the_build.Memory → room_of L d ≤ 2147483647)
-      → EncodeRefused L most unknown t (Build f)
-  build_refused d means the_build.TooBig big memory = (d, means, big refl)
-  build_refused d means the_build.Memory big memory = (d, means, memory refl)
+  pub build_refused : (prefixed : Bool) (d : Datum) → Means L most unknown t d → (f : BuildFault)
+      → (f ≡ the_build.TooBig → 2147483647 < framed_room prefixed L d)
+      → (f ≡ the_build.Memory → framed_room prefixed L d ≤ 2147483647)
+      → EncodeRefusedFramed prefixed L most unknown t (Build f)
+  build_refused prefixed d means the_build.TooBig big memory = (d, means, big refl)
+  build_refused prefixed d means the_build.Memory big memory = (d, means, memory refl)

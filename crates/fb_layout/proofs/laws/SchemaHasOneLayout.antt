@@ -15,7 +15,7 @@ use Rattle.fb_layout.specs.Refused.{Fails, Refuses}
 use Rattle.fb_layout.specs.OneLayout.{OneLayout}
 use Rattle.fb_layout.proofs.structs.KindsTakeTheirExactSizes.{kinds_of, with_structs}
 use Rattle.fb_layout.proofs.structs.StructNeedsOnlyLowerOnes.{part-size, natural-same}
-use Rattle.fb_layout.proofs.sizes.ExactSizesAreRight.{struct_told, body_told}
+use Rattle.fb_layout.proofs.sizes.StructsAreDeclared.{struct_told, body_told}
 
 -- the least multiple is one number
 one-multiple : (a n m k : ℕ) → IsLeastMultiple a n m → IsLeastMultiple a n k → m ≡ k

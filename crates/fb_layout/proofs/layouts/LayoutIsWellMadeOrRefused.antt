@@ -17,7 +17,7 @@ use Rattle.fb_layout.specs.Known.{Known, no_table, known_from, tables_from, layo
 use Rattle.fb_layout.proofs.structs.KindsTakeTheirExactSizes.{with_structs, if_small, if_small-yes, exact}
 use Rattle.fb_layout.proofs.structs.SmallStructsAreKnown.{known-exact}
 use Rattle.fb_layout.proofs.structs.StructNeedsOnlyLowerOnes.{exact-length}
-use Rattle.fb_layout.proofs.sizes.ExactSizesAreRight.{sizable, exact_sized, no-entry}
+use Rattle.fb_layout.proofs.structs.FieldsStandAtLeastMultiples.{sizable, exact_sized, no-entry}
 use Rattle.fb_layout.proofs.layouts.SizesOrTheFirstFault.{table_at, OfTypes, no-table-at, few-slots, all_types}
 use Rattle.fb_layout.proofs.laws.NextMultipleIsTheLeast.{le-told}
 

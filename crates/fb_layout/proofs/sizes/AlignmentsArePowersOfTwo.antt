@@ -23,7 +23,7 @@ use Rattle.fb_layout.specs.WellMade.{natural_align, IsWellMade}
 use Rattle.fb_layout.specs.Laws.{KindsAligned, TablesAligned, GreatestAligned, NoneAlignedToZero, SizesAreMultiples}
 use Rattle.fb_layout.specs.Laws.{SizesFit}
 use Rattle.fb_layout.proofs.structs.KindsTakeTheirExactSizes.{kinds_of}
-use Rattle.fb_layout.proofs.sizes.ExactSizesAreRight.{struct_told, body_told}
+use Rattle.fb_layout.proofs.sizes.StructsAreDeclared.{struct_told, body_told}
 
 -- ---- powers of two
 

@@ -16,7 +16,7 @@ use Rattle.fb_layout.specs.Laid.{LaidSchema, StoredKind, kind_in, stored_shape, 
 use Rattle.fb_layout.specs.WellMade.{StandInOrder, IsWellMade}
 use Rattle.fb_layout.specs.Laws.{StructsHaveFewParts}
 use Rattle.fb_layout.proofs.structs.KindsTakeTheirExactSizes.{kinds_of}
-use Rattle.fb_layout.proofs.sizes.ExactSizesAreRight.{struct_told, body_told}
+use Rattle.fb_layout.proofs.sizes.StructsAreDeclared.{struct_told, body_told}
 use Rattle.fb_layout.proofs.sizes.AlignmentsArePowersOfTwo.{base_aligned, alignment_positive}
 
 base_takes : (b : Base) → 1 ≤ base_size b

@@ -1,5 +1,5 @@
 -- What a reading of the root table says of the whole buffer.
-use Rattle.std.proofs.Common.{◌≡◌, ℕ, ◌≢◌, ◌+◌, ◌<◌, ◌≤◌, [], ◌∷◌, Bool, true, nat_le, All, None, Some, Result, Ok, Err}
+use Rattle.std.proofs.Common.{◌≡◌, ℕ, ◌≢◌, ◌+◌, ◌<◌, ◌≤◌, [], ◌∷◌, true, nat_le, All, Option, None, Some, Result, Ok, Err}
 use Rattle.std.proofs.Common.{IfOk, IfErr, OnOk, refl, arith, inl, inr}
 use Rattle.std.proofs.lemmas.Bool.{le-leb}
 use Rattle.fb_layout.specs.Laid.{LaidSchema}
@@ -13,7 +13,7 @@ use Rattle.fb_value.specs.Rules.{Keeps, first_failing}
 use Rattle.fb_value.specs.Lies.{LiesAt}
 use Rattle.fb_value.specs.Reached.{Path, ComesBefore}
 use Rattle.fb_value.specs.Faults.{limited_fault, FaultFrom}
-use Rattle.fb_value.specs.Holds.{Holds, RootKeeps, Refuses, header_fault, checked_identifier, root_place}
+use Rattle.fb_value.specs.Holds.{HoldsBehind, RootKeepsBehind, RefusesBehind, root_at}
 use Rattle.fb_value.specs.declared.faults.ReadFault.TheVariants.{Memory}
 use Rattle.fb_value.specs.declared.values.Value.{Value}
 use Rattle.fb_value.specs.View.{view}
@@ -21,45 +21,45 @@ use Rattle.fb_value.specs.Counts.{depth, entered, nesting}
 use Rattle.fb_value.specs.Fits.{FitsRoot}
 use Rattle.fb_value.proofs.held.HeldValueFitsTheRoot.{fits_where_held_shown}
 use Rattle.fb_value.proofs.types.NestingIsBoundedByDepth.{nesting_of_depth_shown}
-use Rattle.fb_read.specs.Memory.{PartIsReached}
+use Rattle.fb_read.specs.Memory.{PartIsReachedBehind}
 use Rattle.fb_read.specs.Values.{Gives}
 use Rattle.fb_read.specs.Visits.{visit}
 use Rattle.fb_read.proofs.reader.RootVisitDecides.{held_root, refused_root}
 
-module _ (L : LaidSchema) (most : Bounds) (raw : Bool) (b : Bytes) where
+module _ (p : ℕ) (front : Option ReadFault) (L : LaidSchema) (most : Bounds) (b : Bytes) where
   -- What can only be the root's value is held, where a visit finds no fault.
-  pub value_held : IsWellMade L → (n : ℕ) (v : Datum) → header_fault b (checked_identifier L raw) ≡ None
-      → visit L b most (root_place L) 0 0 ≡ Ok n
-      → ((d : Datum) → LiesAt L b (ref_place (table_part L.schema.root)) 0 d → v ≡ d) → Holds L most raw b v
+  pub value_held : IsWellMade L → (n : ℕ) (v : Datum) → front ≡ None
+      → visit L b most (root_at L p) 0 0 ≡ Ok n
+      → ((d : Datum) → LiesAt L b (ref_place (table_part L.schema.root)) p d → v ≡ d) → HoldsBehind p front L most b v
   value_held made n v header fine known =
-      let held = held_root L most raw b made n header fine in
+      let held = held_root p front L most b made n header fine in
       rw (known held.0 held.1.lies) held.1
 
   -- the same of an answer
   pub answer_held : IsWellMade L → (r : Result Value ReadFault) (n : ℕ)
-      → header_fault b (checked_identifier L raw) ≡ None → Gives (Unit {0}) r n (visit L b most (root_place L) 0 0)
-      → IfOk r (λ v. (d : Datum) → LiesAt L b (ref_place (table_part L.schema.root)) 0 d → view v ≡ d)
-      → IfOk r (λ v. Holds L most raw b (view v))
+      → front ≡ None → Gives (Unit {0}) r n (visit L b most (root_at L p) 0 0)
+      → IfOk r (λ v. (d : Datum) → LiesAt L b (ref_place (table_part L.schema.root)) p d → view v ≡ d)
+      → IfOk r (λ v. HoldsBehind p front L most b (view v))
   answer_held made (Ok v) n header fine known = value_held made n (view v) header fine known
   answer_held made (Err f) n header fine known = tt
 
   -- What is held fits the root.
   pub answer_fits : IsWellMade L → All (λ x. x < 256) b → (r : Result Value ReadFault)
-      → IfOk r (λ v. Holds L most raw b (view v)) → IfOk r (λ v. FitsRoot L (view v))
-  answer_fits made small (Ok v) held = fits_where_held_shown L most raw b (view v) made small held
+      → IfOk r (λ v. HoldsBehind p front L most b (view v)) → IfOk r (λ v. FitsRoot L (view v))
+  answer_fits made small (Ok v) held = fits_where_held_shown p front L most b (view v) made small held
   answer_fits made small (Err f) held = tt
 
   -- What was counted are its tables, vectors and texts.
   pub answer_entered : (r : Result Value ReadFault) (start ticks old new : ℕ) → start ≡ 0 → new ≡ old + ticks
-      → IfOk r (λ v. Holds L most raw b (view v))
-      → OnOk r ((d : Datum) → LiesAt L b (ref_place (table_part L.schema.root)) 0 d → ticks ≡ start + entered d)
+      → IfOk r (λ v. HoldsBehind p front L most b (view v))
+      → OnOk r ((d : Datum) → LiesAt L b (ref_place (table_part L.schema.root)) p d → ticks ≡ start + entered d)
       → IfOk r (λ v. new ≡ old + entered (view v))
   answer_entered (Ok v) start ticks old new none is held each = let all = each (view v) held.lies in
       omega (arith, none, is, all)
   answer_entered (Err f) start ticks old new none is held each = tt
 
   -- It is as deep as the limits allow, and so is nested at most 300 deep.
-  pub answer_deep : most.depth ≤ 127 → (r : Result Value ReadFault) → IfOk r (λ v. Holds L most raw b (view v))
+  pub answer_deep : most.depth ≤ 127 → (r : Result Value ReadFault) → IfOk r (λ v. HoldsBehind p front L most b (view v))
       → IfOk r (λ v. depth (view v) ≤ 127)
   answer_deep few (Ok v) held = let deep = held.deep in omega arith
   answer_deep few (Err f) held = tt
@@ -71,34 +71,34 @@ module _ (L : LaidSchema) (most : Bounds) (raw : Bool) (b : Bytes) where
 
   -- A refusal is the least fault, unless memory ran out.
   pub answer_refused : IsWellMade L → (r : Result Value ReadFault) (n : ℕ)
-      → header_fault b (checked_identifier L raw) ≡ None → Gives (Unit {0}) r n (visit L b most (root_place L) 0 0)
-      → IfErr r (λ f. f ≢ Memory → Refuses L most raw b f)
+      → front ≡ None → Gives (Unit {0}) r n (visit L b most (root_at L p) 0 0)
+      → IfErr r (λ f. f ≢ Memory → RefusesBehind p front L most b f)
   answer_refused made (Ok v) n header given = tt
-  answer_refused made (Err f) n header given = λ other. refused_root L most raw b made f header
+  answer_refused made (Err f) n header given = λ other. refused_root p front L most b made f header
       (given (λ takes. other))
 
-  ref_passes : Keeps L b (root_place L).sort 0 → (tables cells : ℕ)
-      → limited_fault L b most (root_place L) tables cells ≡ None
+  ref_passes : Keeps L b (root_at L p).sort p → (tables cells : ℕ)
+      → limited_fault L b most (root_at L p) tables cells ≡ None
   unfolding limited_fault first_failing
   ref_passes keeps tables cells = rw keeps refl
 
-  table_passes : (t p tables cells : ℕ) → Keeps L b (part_place (table_part t)) p → tables ≤ most.depth
-      → cells ≤ most.cells → limited_fault L b most (record { sort = part_place (table_part t); at = p }) tables cells
+  table_passes : (t q tables cells : ℕ) → Keeps L b (part_place (table_part t)) q → tables ≤ most.depth
+      → cells ≤ most.cells → limited_fault L b most (record { sort = part_place (table_part t); at = q }) tables cells
       ≡ None
   unfolding limited_fault first_failing
-  table_passes t p tables cells keeps deep small =
+  table_passes t q tables cells keeps deep small =
       let yes : nat_le tables most.depth ≡ true = le-leb _ _ deep in
       let also : nat_le cells most.cells ≡ true = le-leb _ _ small in
       rw (keeps, yes, also) refl
 
   -- The root table is the first that is reached.
-  pub root_reached : RootKeeps L most raw b → PartIsReached L most raw b
+  pub root_reached : RootKeepsBehind p front L most b → PartIsReachedBehind p front L most b
   root_reached root = record {
     header = root.header;
     path = 0 ∷ [];
     part = table_part L.schema.root;
-    at = 0 + num b 0 4;
-    leads = (root.reference, record { sort = part_place (table_part L.schema.root); at = 0 + num b 0 4 }, refl, refl);
+    at = p + num b p 4;
+    leads = (root.reference, record { sort = part_place (table_part L.schema.root); at = p + num b p 4 }, refl, refl);
     keeps = root.table;
     here = here;
     before = before;
@@ -107,18 +107,18 @@ module _ (L : LaidSchema) (most : Bounds) (raw : Bool) (b : Bytes) where
       at_root : (f : ReadFault) → limited_fault L b most (record {
         sort = part_place (table_part L.schema.root);
         at =
-            0 + num b 0 4;
+            p + num b p 4;
       }) 1 1 ≡ Some f → ⊥
-      at_root f fails = let passes = table_passes L.schema.root (0 + num b 0 4) 1 1 root.table root.deep root.small in
+      at_root f fails = let passes = table_passes L.schema.root (p + num b p 4) 1 1 root.table root.deep root.small in
           cc
 
-      here : (f : ReadFault) → FaultFrom L b most (root_place L) 0 0 (0 ∷ []) f → ⊥
+      here : (f : ReadFault) → FaultFrom L b most (root_at L p) 0 0 (0 ∷ []) f → ⊥
       here f (keeps, next, names, fails) =
-          let is : record { sort = part_place (table_part L.schema.root); at = 0 + num b 0 4 } ≡ next = cc in
+          let is : record { sort = part_place (table_part L.schema.root); at = p + num b p 4 } ≡ next = cc in
           at_root f (rw (← is) at fails)
 
       before : (other : Path) (f : ReadFault) → ComesBefore other (0 ∷ [])
-          → FaultFrom L b most (root_place L) 0 0 other f → ⊥
+          → FaultFrom L b most (root_at L p) 0 0 other f → ⊥
       before [] f first fails = let passes = ref_passes root.reference (0 + 0) (0 + 0) in cc
       before (j ∷ js) f (inl less) fails = absurd (omega arith)
       before (j ∷ []) f (inr both) fails = absurd both.1

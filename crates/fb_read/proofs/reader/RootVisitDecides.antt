@@ -1,5 +1,5 @@
 -- A visit from the root decides whether the buffer holds a value.
-use Rattle.std.proofs.Common.{◌≡◌, ℕ, ◌+◌, Bool, Option, None, Some, Ok, Err, refl, arith}
+use Rattle.std.proofs.Common.{◌≡◌, ℕ, ◌+◌, Option, None, Some, Ok, Err, refl}
 use Rattle.fb_layout.specs.Laid.{LaidSchema}
 use Rattle.fb_layout.specs.WellMade.{IsWellMade}
 use Rattle.fb_value.specs.declared.faults.ReadFault.{ReadFault}
@@ -10,7 +10,7 @@ use Rattle.fb_value.specs.Lies.{Lies}
 use Rattle.fb_value.specs.Places.{part_place, table_part}
 use Rattle.fb_value.specs.Faults.{fault_from}
 use Rattle.fb_value.proofs.rules.ComputedFaultIsTheLeast.{from_none}
-use Rattle.fb_value.specs.Holds.{Holds, HasNoFault, Refuses, header_fault, checked_identifier, root_place}
+use Rattle.fb_value.specs.Holds.{HoldsBehind, NoFaultBehind, RefusesBehind, root_at}
 use Rattle.fb_value.proofs.held.BytesHoldAValueOrAFault.{outcome_shown}
 use Rattle.fb_read.specs.Visits.{outcome, visit}
 
@@ -22,34 +22,31 @@ pub ok_told : (o : Option ReadFault) (n m : ℕ) → outcome o n ≡ Ok m → o 
 ok_told None n m e = refl
 ok_told (Some g) n m e = cc
 
-module _ (L : LaidSchema) (most : Bounds) (raw : Bool) (b : Bytes) (made : IsWellMade L) where
-  -- refused behind a header that keeps its rules
-  pub refused_root : (f : ReadFault) → header_fault b (checked_identifier L raw) ≡ None
-      → visit L b most (root_place L) 0 0 ≡ Err f → Refuses L most raw b f
+module _ (p : ℕ) (front : Option ReadFault) (L : LaidSchema) (most : Bounds) (b : Bytes) (made : IsWellMade L) where
+  -- refused behind a front that keeps its rules
+  pub refused_root : (f : ReadFault) → front ≡ None → visit L b most (root_at L p) 0 0 ≡ Err f
+      → RefusesBehind p front L most b f
   unfolding visit
-  refused_root f header fails = outcome_shown L most raw b (Some f) made
-      (rw header (err_told (fault_from L b most (root_place L) 0 0) _ f fails))
+  refused_root f header fails = outcome_shown p front L most b (Some f) made
+      (rw header (err_told (fault_from L b most (root_at L p) 0 0) _ f fails))
 
   -- A value is held.
-  pub held_root : (n : ℕ) → header_fault b (checked_identifier L raw) ≡ None → visit L b most (root_place L) 0 0 ≡ Ok n
-      → (v : Datum) × Holds L most raw b v
+  pub held_root : (n : ℕ) → front ≡ None → visit L b most (root_at L p) 0 0 ≡ Ok n
+      → (v : Datum) × HoldsBehind p front L most b v
   unfolding visit
-  held_root n header fine =
-      (outcome_shown L most raw b None made (rw header (ok_told (fault_from L b most (root_place L) 0 0) _ n fine))).1
+  held_root n header fine = (outcome_shown p front L most b None made
+      (rw header (ok_told (fault_from L b most (root_at L p) 0 0) _ n fine))).1
 
   -- What lies in the root table.
-  pub view_lies : (n t at : ℕ) → header_fault b (checked_identifier L raw) ≡ None
-      → visit L b most (root_place L) 0 0 ≡ Ok n → t ≡ L.schema.root → at ≡ num b 0 4
-      → (d : Datum) × Lies L b (part_place (table_part t)) at d
+  pub view_lies : (n t at : ℕ) → front ≡ None → visit L b most (root_at L p) 0 0 ≡ Ok n → t ≡ L.schema.root
+      → at ≡ p + num b p 4 → (d : Datum) × Lies L b (part_place (table_part t)) at d
   view_lies n t at header fine root place =
       let held = held_root n header fine in
-      let here : 0 + num b 0 4 ≡ num b 0 4 = omega arith in
-      (held.0, rw (root, place) (rw here at held.1.lies.1))
+      (held.0, rw (root, place) held.1.lies.1)
 
-module _ (L : LaidSchema) (most : Bounds) (raw : Bool) (b : Bytes) where
-  -- no fault behind a header that keeps its rules
-  pub no_fault : (n : ℕ) → header_fault b (checked_identifier L raw) ≡ None → visit L b most (root_place L) 0 0 ≡ Ok n
-      → HasNoFault L most raw b
+module _ (p : ℕ) (front : Option ReadFault) (L : LaidSchema) (most : Bounds) (b : Bytes) where
+  -- no fault behind a front that keeps its rules
+  pub no_fault : (n : ℕ) → front ≡ None → visit L b most (root_at L p) 0 0 ≡ Ok n → NoFaultBehind p front L most b
   unfolding visit
   no_fault n header fine =
-      (header, from_none L b most (root_place L) 0 0 (ok_told (fault_from L b most (root_place L) 0 0) _ n fine))
+      (header, from_none L b most (root_at L p) 0 0 (ok_told (fault_from L b most (root_at L p) 0 0) _ n fine))

@@ -12,7 +12,7 @@ use Rattle.fb_schema.specs.declared.types.FieldInfo.{FieldInfo}
 use Rattle.fb_layout.specs.Laid.{LaidSchema, StoredKind, one_of, kind_in, stored_shape, parts_of, struct_at, size_of}
 use Rattle.fb_layout.specs.Seen.{kinds_seen}
 use Rattle.fb_layout.specs.WellMade.{StandInOrder, IsWellMade}
-use Rattle.fb_layout.proofs.sizes.ExactSizesAreRight.{struct_told, body_told}
+use Rattle.fb_layout.proofs.sizes.StructsAreDeclared.{struct_told, body_told}
 use Rattle.fb_value.specs.Fits.{Fits, PartsFit}
 use Rattle.fb_value.specs.View.{view, parts_view}
 use Rattle.fb_value.specs.declared.values.Value.{Value}

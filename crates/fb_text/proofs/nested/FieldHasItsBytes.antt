@@ -10,7 +10,7 @@ use Rattle.fb_schema.specs.Schema.{parts_in, is_struct}
 use Rattle.fb_schema.specs.WellDeclared.{IsPart}
 use Rattle.fb_layout.specs.Laid.{LaidSchema, StoredKind, kind_in, stored_shape, parts_of, struct_at, size_of}
 use Rattle.fb_layout.specs.WellMade.{StandInOrder, IsWellMade}
-use Rattle.fb_layout.proofs.sizes.ExactSizesAreRight.{struct_told, body_told}
+use Rattle.fb_layout.proofs.sizes.StructsAreDeclared.{struct_told, body_told}
 use Rattle.fb_layout.proofs.sizes.EachFieldTakesAByte.{struct_filled}
 use Rattle.fb_value.specs.Datum.{Parts}
 use Rattle.fb_text.specs.Nested.{HasByte, HasStruct}

@@ -1,5 +1,5 @@
 -- Bytes hold a value, or have a least fault.
-use Rattle.std.proofs.Common.{◌≡◌, ℕ, [], ◌∷◌, Bool, Option, None, Some, refl, sym, ◌∙◌, subst, inl, inr}
+use Rattle.std.proofs.Common.{◌≡◌, ℕ, [], ◌∷◌, Option, None, Some, refl, sym, ◌∙◌, subst, inl, inr}
 use Rattle.fb_layout.specs.Laid.{LaidSchema}
 use Rattle.fb_layout.specs.WellMade.{IsWellMade}
 use Rattle.fb_value.specs.declared.faults.ReadFault.{ReadFault}
@@ -9,7 +9,7 @@ use Rattle.fb_value.specs.Places.{table_part, ref_place, Place}
 use Rattle.fb_value.specs.Rules.{fault_at}
 use Rattle.fb_value.specs.Reached.{Path, Leads, AllKeep}
 use Rattle.fb_value.specs.Faults.{or_else, limited_fault, FaultFrom, fault_from}
-use Rattle.fb_value.specs.Holds.{header_fault, checked_identifier, root_place, computed_fault}
+use Rattle.fb_value.specs.Holds.{fault_behind, root_at}
 use Rattle.fb_value.specs.Laws.{ValueWhereAllKeep, HeldOrFault, ValueOrFault}
 use Rattle.fb_value.proofs.rules.ComputedFaultIsTheLeast.{from_none, from_some}
 use Rattle.fb_value.proofs.laws.ReachedPlacesKeepTheirRules.{lies_all_keep}
@@ -36,37 +36,37 @@ all_keep L b most x none path y leads = by_case (fault_at L b y.sort y.at) refl
 
 -- A value lies at the root exactly where each place that is reached keeps its rules.
 pub value_where_all_keep_shown : ValueWhereAllKeep
-value_where_all_keep_shown L b made = (
-  λ found. lies_all_keep L b (root_place L) found.0 found.1,
+value_where_all_keep_shown L b p made = (
+  λ found. lies_all_keep L b (root_at L p) found.0 found.1,
   λ keep. all_keep_lies L b _ (resolved L made)
-      (table_part L.schema.root) 0 tt keep,
+      (table_part L.schema.root) p tt keep,
 )
 
-module _ (L : LaidSchema) (most : Bounds) (raw : Bool) (b : Bytes) (made : IsWellMade L) where
-  -- with a header that keeps its rules
-  by_outcome : header_fault b (checked_identifier L raw) ≡ None → (o : Option ReadFault)
-      → fault_from L b most (root_place L) 0 0 ≡ o → HeldOrFault L most raw b o
+module _ (p : ℕ) (fault : Option ReadFault) (L : LaidSchema) (most : Bounds) (b : Bytes) (made : IsWellMade L) where
+  -- with a front that keeps its rules
+  by_outcome : fault ≡ None → (o : Option ReadFault) → fault_from L b most (root_at L p) 0 0 ≡ o
+      → HeldOrFault p fault L most b o
   by_outcome header None e =
-      let held = all_keep_lies L b _ (resolved L made) (table_part L.schema.root) 0 tt
-      (all_keep L b most (root_place L) e) in
-      let within = (root_sure L b most (ref_place (table_part L.schema.root)) 0 held.0 held.1).0 e in (
-        (header, from_none L b most (root_place L) 0 0 e),
+      let held = all_keep_lies L b _ (resolved L made) (table_part L.schema.root) p tt
+      (all_keep L b most (root_at L p) e) in
+      let within = (root_sure L b most (ref_place (table_part L.schema.root)) p held.0 held.1).0 e in (
+        (header, from_none L b most (root_at L p) 0 0 e),
         (held.0, record { header = header; lies = held.1; deep = within.0; small = within.1 }),
       )
   by_outcome header (Some f) e = (
-    inr (header, from_some L b most (root_place L) 0 0 f e),
+    inr (header, from_some L b most (root_at L p) 0 0 f e),
     λ v holds.
-        let none = (root_sure L b most (ref_place (table_part L.schema.root)) 0 v holds.lies).1
+        let none = (root_sure L b most (ref_place (table_part L.schema.root)) p v holds.lies).1
         (holds.deep, holds.small) in
         let clash : Some f ≡ None = sym e ∙ none in
         cc,
   )
 
-  -- with any header
-  by_header : (o : Option ReadFault) → header_fault b (checked_identifier L raw) ≡ o
-      → HeldOrFault L most raw b (or_else o (fault_from L b most (root_place L) 0 0))
-  by_header None e = by_outcome e _ refl
-  by_header (Some f) e = (
+  -- with any front
+  by_front : (o : Option ReadFault) → fault ≡ o
+      → HeldOrFault p fault L most b (or_else o (fault_from L b most (root_at L p) 0 0))
+  by_front None e = by_outcome e _ refl
+  by_front (Some f) e = (
     inl e,
     λ v holds.
         let clash : Some f ≡ None = sym e ∙ holds.header in
@@ -75,10 +75,10 @@ module _ (L : LaidSchema) (most : Bounds) (raw : Bool) (b : Bytes) (made : IsWel
 
 -- Bytes hold a value exactly where no fault stands, and else have a least one.
 pub value_or_fault_shown : ValueOrFault
-value_or_fault_shown L most raw b made = by_header L most raw b made _ refl
+value_or_fault_shown p fault L most b made = by_front p fault L most b made _ refl
 
 -- The same of an outcome that is known: none, or a fault.
-pub outcome_shown : (L : LaidSchema) (most : Bounds) (raw : Bool) (b : Bytes) (o : Option ReadFault) → IsWellMade L
-    → computed_fault L most raw b ≡ o → HeldOrFault L most raw b o
-outcome_shown L most raw b o made e = subst (λ (x : Option ReadFault). HeldOrFault L most raw b x) e
-    (value_or_fault_shown L most raw b made)
+pub outcome_shown : (p : ℕ) (fault : Option ReadFault) (L : LaidSchema) (most : Bounds) (b : Bytes)
+    (o : Option ReadFault) → IsWellMade L → fault_behind p fault L most b ≡ o → HeldOrFault p fault L most b o
+outcome_shown p fault L most b o made e = subst (λ (x : Option ReadFault). HeldOrFault p fault L most b x) e
+    (value_or_fault_shown p fault L most b made)

@@ -82,6 +82,6 @@ module _ (L : LaidSchema) (made : IsWellMade L) (b : Bytes) (small : All (λ x. 
 
 -- The value that bytes hold fits the root.
 pub fits_where_held_shown : FitsWhereHeld
-fits_where_held_shown L most raw b v made small holds =
-    (root_fits L v made).1 (part_fits L made b small (part_place (table_part L.schema.root)) (0 + num b 0 4) v
+fits_where_held_shown p fault L most b v made small holds =
+    (root_fits L v made).1 (part_fits L made b small (part_place (table_part L.schema.root)) (p + num b p 4) v
     holds.lies.1)

@@ -14,7 +14,7 @@ use Rattle.fb_value.specs.Lies.{LiesItems, LiesSlots, LiesAt}
 use Rattle.fb_value.specs.Reads.{unless, parts_at, inline_at, through, element_at, items_at, entry_at, slot_at}
 use Rattle.fb_value.specs.Reads.{slots_at, datum_at}
 use Rattle.fb_value.proofs.laws.ValueHasLevels.{height, parts_height, entries_height}
-use Rattle.fb_value.specs.Holds.{root_place}
+use Rattle.fb_value.specs.Holds.{root_at}
 use Rattle.fb_value.specs.Laws.{OneValue}
 
 -- Where no rule fails, what is read is there.
@@ -166,4 +166,4 @@ one_value L b s p v w first second =
 
 -- Bytes hold one value at most.
 pub one_value_shown : OneValue
-one_value_shown L most raw b v w first second = one_value L b (root_place L).sort 0 v w first.lies second.lies
+one_value_shown p fault L most b v w first second = one_value L b (root_at L p).sort p v w first.lies second.lies

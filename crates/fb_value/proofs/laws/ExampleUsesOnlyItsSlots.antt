@@ -23,4 +23,4 @@ no_later (suc k) h =
 -- Where the vtable ends with the schema's last slot, only slots in use have numbers.
 pub slots_in_use : OnlyOld one_int seven_bytes
 unfolding num slot_number named_slots first_failing fault_by
-slots_in_use = only_old_shown one_int seven_bytes (one_number 7) seven_held.lies (no_later, (tt, tt))
+slots_in_use = only_old_shown one_int seven_bytes 0 (one_number 7) seven_held.lies (no_later, (tt, tt))

@@ -41,7 +41,7 @@ module _ (L : LaidSchema) (b : Bytes) (most : Bounds) where
       q.1
 
 pub one_least_fault_shown : OneLeastFault
-one_least_fault_shown L most raw b f g (inl p) (inl q) = let both : Some f ≡ Some g = sym p ∙ q in cc
-one_least_fault_shown L most raw b f g (inl p) (inr q) = let clash : Some f ≡ None = sym p ∙ q.0 in cc
-one_least_fault_shown L most raw b f g (inr p) (inl q) = let clash : None ≡ Some g = sym p.0 ∙ q in cc
-one_least_fault_shown L most raw b f g (inr p) (inr q) = one_least L b most _ 0 0 f g p.1 q.1
+one_least_fault_shown p fault L most b f g (inl x) (inl y) = let both : Some f ≡ Some g = sym x ∙ y in cc
+one_least_fault_shown p fault L most b f g (inl x) (inr y) = let clash : Some f ≡ None = sym x ∙ y.0 in cc
+one_least_fault_shown p fault L most b f g (inr x) (inl y) = let clash : None ≡ Some g = sym x.0 ∙ y in cc
+one_least_fault_shown p fault L most b f g (inr x) (inr y) = one_least L b most _ 0 0 f g x.1 y.1

@@ -6,7 +6,7 @@ use Rattle.fb_value.specs.Num.{Bytes}
 use Rattle.fb_value.specs.Places.{Target, table_part, member_part, text_part, vector_part, part_place, Place}
 use Rattle.fb_value.specs.Lies.{Lies, LiesAt}
 use Rattle.fb_value.specs.Reached.{Path, Leads}
-use Rattle.fb_value.specs.Holds.{root_place}
+use Rattle.fb_value.specs.Holds.{root_at}
 use Rattle.fb_value.specs.OldSlots.{table_of}
 use Rattle.fb_value.specs.EachTable.{EachTable, EachTableAt, IsOldTable, EachTableReached, OnlyOldByTables}
 use Rattle.fb_value.proofs.reached.ReachedPlacesAreSettled.{IsBare, Settled, reach}
@@ -43,5 +43,5 @@ reached_shown L b test d x lies each path X p t leads e = every_table L b (λ t 
     X p t leads e
 
 pub only_old_shown : OnlyOldByTables
-only_old_shown L b d lies each path X p t k leads e = every_table L b (λ t p. IsOldTable L b t p) d (root_place L) lies
-    each path X p t leads e k
+only_old_shown L b start d lies each path X p t k leads e = every_table L b (λ t p. IsOldTable L b t p) d
+    (root_at L start) lies each path X p t leads e k

@@ -7,7 +7,7 @@ use Rattle.fb_value.specs.Counts.{is_whole}
 use Rattle.fb_value.specs.Datum.{Datum}
 use Rattle.fb_value.specs.Fits.{FitsRoot}
 use Rattle.fb_value.specs.Num.{Bytes}
-use Rattle.fb_value.specs.Holds.{Holds, IsLeastFault, computed_fault}
+use Rattle.fb_value.specs.Holds.{Holds, IsLeastFault, computed_fault, header_fault, checked_identifier}
 use Rattle.fb_value.specs.OldSlots.{OnlyOld}
 use Rattle.fb_value.specs.Laws.{HeldOrFault}
 use Rattle.fb_text.specs.Texts.{json_text}
@@ -41,7 +41,7 @@ module _ (laws : LayerLaws) (schema : List ℕ) (b : Bytes) (most : Bounds) (raw
   one_text defaults text is =
       let same = same_accepted laws.schema schema is.layout L is.accepted accepted in
       let here = subst (λ (K : LaidSchema). IsTextOf K b most raw defaults text) same is.has in
-      let one = laws.one_value L most raw b here.value v here.holds holds in
+      let one = laws.one_value _ _ L most b here.value v here.holds holds in
       here.spelled ∙ ap (λ (w : Datum). json_text L defaults w) one
 
   text_answer : is_whole v ≡ true → (defaults : Bool) (r : Result (List ℕ) ToolFault)
@@ -67,7 +67,7 @@ module _ (laws : LayerLaws) (schema : List ℕ) (b : Bytes) (most : Bounds) (raw
   view_answer (Err f) answer = answer.1 v holds
 
   value_answer : (r : Result Datum ReadFault) → ValueAnswer L b most raw r → IsValueOrMemory v r
-  value_answer (Ok w) answer = laws.one_value L most raw b w v answer holds
+  value_answer (Ok w) answer = laws.one_value _ _ L most b w v answer holds
   value_answer (Err f) answer = λ rule. (answer rule).1 v holds
 
 -- ---- JSON that means a value
@@ -96,7 +96,7 @@ module _ (laws : LayerLaws) (schema json : List ℕ) (most : Bounds) (unknown : 
 
   pub carried_on : (raw : Bool) (K : LaidSchema) (new : List ℕ) → IsAccepted new K → Conforms L K
       → Holds K most raw b (carry L K v)
-  carried_on raw K new other conforms = laws.carried_holds L K most raw b v accepted.made other.made conforms is_known
+  carried_on raw K new other conforms = laws.carried_holds false L K most raw b v accepted.made other.made conforms is_known
       in_use (held raw)
 
   evolved : (raw : Bool) (new : List ℕ) (K : LaidSchema) → TextsConform schema new → IsAccepted new K
@@ -110,7 +110,7 @@ module _ (laws : LayerLaws) (schema json : List ℕ) (most : Bounds) (unknown : 
   carried = record {
     whole = is_known;
     here = λ raw. there laws schema b most raw L accepted v (held raw) is_known;
-    only = λ raw w other. laws.one_value L most raw b w v other (held raw);
+    only = λ raw w other. laws.one_value _ _ L most b w v other (held raw);
     old_slots = in_use;
     covered = here.covered;
     checked = λ raw r answer. check_answer laws schema b most raw L accepted v (held raw) r answer;
@@ -138,7 +138,7 @@ module _ (laws : LayerLaws) (schema : List ℕ) (b : Bytes) (most : Bounds) (raw
     same_fault f K other first =
         let there = subst (λ (M : LaidSchema). IsLeastFault M most raw b f)
         (same_accepted laws.schema schema K L other accepted) first in
-        ap Read (laws.one_least_fault L most raw b f fault there least)
+        ap Read (laws.one_least_fault _ _ L most b f fault there least)
 
     answered : (f : ToolFault) → TextRefused schema b most raw f → IsNotMemory f → f ≡ Read fault
     answered (Schema f) refused rule = absurd (refused_excludes laws.schema schema f refused rule L accepted)
@@ -198,7 +198,7 @@ module _ (laws : LayerLaws) (schema : List ℕ) (b : Bytes) (most : Bounds) (raw
     printed defaults start known BadJson refused rule = absurd refused.has
     printed defaults start known Memory refused rule = absurd refused.has
 
-  by_outcome : (o : Option ReadFault) → HeldOrFault L most raw b o → NoneLies schema b most raw L
+  by_outcome : (o : Option ReadFault) → HeldOrFault 0 (header_fault b (checked_identifier L raw)) L most b o → NoneLies schema b most raw L
   by_outcome None h = absurd (none h.1.0 h.1.1)
   by_outcome (Some f) h = record {
     fault = f;
@@ -214,4 +214,4 @@ module _ (laws : LayerLaws) (schema : List ℕ) (b : Bytes) (most : Bounds) (raw
 pub others_are_refused_shown : LayerLaws → OthersAreRefused
 others_are_refused_shown laws schema b most raw L accepted none =
     by_outcome laws schema b most raw L accepted none (computed_fault L most raw b)
-    (laws.value_or_fault L most raw b accepted.made)
+    (laws.value_or_fault 0 (header_fault b (checked_identifier L raw)) L most b accepted.made)

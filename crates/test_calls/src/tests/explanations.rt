@@ -57,6 +57,7 @@ fn a_fault_is_explained(rt: HostRuntime) -> Result<(), Fail> {
         limits: EncodeOptions::new().limits,
         unknown_json: false,
         raw_binary: false,
+        size_prefixed: false,
         columns: COLUMNS,
         failure: None,
     };

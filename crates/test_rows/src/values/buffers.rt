@@ -3,15 +3,10 @@ use crate::hex::write_hex;
 use crate::values::Case;
 use crate::values::meanings::{buffer_of, meaning, write_unmeant};
 use crate::values::readings::{value_in, write_unread};
-use crate::values::texts::is_printed_alike;
+use crate::values::texts::{is_printed_alike, printed_of};
 use fb_value::Value;
-use flatc_tool::{ToolFault, to_json};
+use flatc_tool::ToolFault;
 use std::alloc::AllocError;
-
-/// The text that the tool prints of bytes.
-fn text_of(case: &Case, bytes: &[u8], raw: bool, defaults: bool) -> Result<String, ToolFault> {
-    to_json(case.alloc, case.schema, bytes, case.limits, raw, defaults)
-}
 
 /// Writes a fault of the tool, as the layer that refuses names it.
 fn write_fault(fault: ToolFault, line: &mut String) -> Result<(), AllocError> {
@@ -30,7 +25,7 @@ pub(crate) fn try_printed(
     defaults: bool,
     line: &mut String,
 ) -> Result<(), AllocError> {
-    match text_of(case, bytes, raw, defaults) {
+    match printed_of(case, bytes, raw, defaults) {
         Ok(text) => line.push_str(text.as_str()),
         Err(fault) => write_fault(fault, line),
     }
@@ -52,7 +47,7 @@ fn try_text(
     defaults: bool,
     line: &mut String,
 ) -> Result<(), AllocError> {
-    match text_of(case, bytes, false, defaults) {
+    match printed_of(case, bytes, false, defaults) {
         Ok(text) if is_printed_alike(case, bytes, false, defaults, value) => {
             try_again(case, value, text.as_str(), line)
         }

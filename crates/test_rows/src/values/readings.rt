@@ -2,7 +2,7 @@
 use crate::values::Case;
 use crate::values::agree::table_agrees;
 use crate::values::texts::try_alike;
-use fb_read::{Entries, read, verify};
+use fb_read::{Entries, read_framed, verify_framed};
 use fb_value::{ReadFault, Value};
 use std::alloc::AllocError;
 
@@ -16,13 +16,28 @@ pub(crate) enum Unread {
 /// The fault of `verify`, where it refuses the bytes.
 fn fault_of(case: &Case, bytes: &[u8], raw: bool) -> Option<ReadFault> {
     let mut entries = Entries::new();
-    verify(case.layout, bytes, case.limits, raw, &mut entries).err()
+    verify_framed(
+        case.layout,
+        bytes,
+        case.limits,
+        raw,
+        case.prefixed,
+        &mut entries,
+    )
+    .err()
 }
 
 /// Whether `verify` accepts the bytes, and its view shows the value.
 fn is_shown(case: &Case, bytes: &[u8], raw: bool, value: &Value) -> bool {
     let mut entries = Entries::new();
-    match verify(case.layout, bytes, case.limits, raw, &mut entries) {
+    match verify_framed(
+        case.layout,
+        bytes,
+        case.limits,
+        raw,
+        case.prefixed,
+        &mut entries,
+    ) {
         Ok(view) => table_agrees(view, value),
         Err(_) => false,
     }
@@ -31,12 +46,13 @@ fn is_shown(case: &Case, bytes: &[u8], raw: bool, value: &Value) -> bool {
 /// The value that bytes hold, read as a whole and shown by a view.
 pub(crate) fn value_in(case: &Case, bytes: &[u8], raw: bool) -> Result<Value, Unread> {
     let mut entries = Entries::new();
-    match read(
+    match read_framed(
         case.alloc,
         case.layout,
         bytes,
         case.limits,
         raw,
+        case.prefixed,
         &mut entries,
     ) {
         Ok(value) if is_shown(case, bytes, raw, &value) => Ok(value),

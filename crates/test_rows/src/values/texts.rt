@@ -2,8 +2,28 @@
 use crate::values::Case;
 use fb_text::{TextFault, text_of};
 use fb_value::Value;
-use flatc_tool::{ToolFault, to_json};
+use flatc_tool::{DecodeOptions, ToolFault, decode, to_json};
 use std::alloc::AllocError;
+
+/// The text that the tool prints of bytes.
+pub(crate) fn printed_of(
+    case: &Case,
+    bytes: &[u8],
+    raw: bool,
+    defaults: bool,
+) -> Result<String, ToolFault> {
+    if !case.prefixed {
+        return to_json(case.alloc, case.schema, bytes, case.limits, raw, defaults);
+    }
+    let options = DecodeOptions {
+        limits: case.limits,
+        raw_binary: raw,
+        defaults_json: defaults,
+        size_prefixed: true,
+        compact: false,
+    };
+    decode(case.alloc, case.layout, bytes, &options)
+}
 
 /// Whether bytes print as the text of the value that they hold, or both are refused for the same
 /// union without a name.
@@ -14,7 +34,7 @@ pub(crate) fn is_printed_alike(
     defaults: bool,
     value: &Value,
 ) -> bool {
-    let printed = to_json(case.alloc, case.schema, bytes, case.limits, raw, defaults);
+    let printed = printed_of(case, bytes, raw, defaults);
     match (printed, text_of(case.alloc, case.layout, value, defaults)) {
         (Ok(printed), Ok(text)) => printed == text,
         (Err(ToolFault::Text(told)), Err(TextFault::NoMemberName(place))) => {

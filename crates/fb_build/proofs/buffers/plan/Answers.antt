@@ -90,6 +90,7 @@ invariant_of-result c =
     (rw c.deref-2.ensures.value at c.in_ok-tape.ensures.room) in
     let plan = c.in_ok-plan.ensures in
     record {
+      bare = plan.prefixed;
       entries = entries_seen es.items;
       value = rw plan.layout noted.value_is;
       means = rw plan.tape noted.means;

@@ -1,103 +1,105 @@
-use Rattle.std.proofs.Common.{◌≡◌, ℕ, ◌+◌, ◌-◌, ◌%◌, ◌++◌, ◌∙◌, true, Some, refl, ap, subst, length, replicate, arith}
-use Rattle.std.proofs.Common.{length-append}
-use Rattle.std.proofs.lemmas.Bool.{eq-eqb, eqb-true}
-use Rattle.fb_value.proofs.tails.TailsAreKeptInFront.{through, whole_shown}
-use Rattle.fb_value.specs.Lies.{LiesAt}
+use Rattle.std.proofs.Common.{◌≡◌, ℕ, ◌+◌, ◌≤◌, ◌++◌, ◌∙◌, true, refl, ap, sym, subst, length, drop, arith, length-append}
+use Rattle.byteorder.specs.Endian.{little_bytes}
+use Rattle.fb_layout.specs.Laid.{LaidSchema}
+use Rattle.fb_value.specs.Datum.{Datum}
 use Rattle.fb_value.specs.Num.{Bytes, divides}
-use Rattle.fb_value.specs.Places.{ref_place, table_part}
-use Rattle.fb_build.proofs.covered.LaidBufferIsCovered.{IsWhole, covered_buffer, aligned_buffer}
-use Rattle.fb_build.proofs.roots.TailWithItsRootIsABuffer.{IsIdentified, identified_behind, root_laid, whole_holds}
-use Rattle.fb_build.proofs.roots.TailWithItsRootIsABuffer.{identifier_short, whole_old}
-use Rattle.fb_build.proofs.tail.PaddingIsZero.{zeros_long}
-use Rattle.fb_build.specs.Made.{identifier_bytes}
+use Rattle.fb_build.specs.Covered.{IsCoveredBy}
+use Rattle.fb_build.specs.Pieces.{greatest_align, reached_parts}
+use Rattle.fb_build.proofs.roots.TailWithItsRootIsABuffer.{whole_lies, whole_holds, whole_old}
+use Rattle.fb_build.proofs.roots.CountedTailIsABuffer.{IsCounted, counted_lies, counted_holds, counted_old}
+use Rattle.fb_build.proofs.roots.CountedTailIsABuffer.{counted_behind, counted_long}
 use Rattle.fb_build.proofs.roots.close_tail.Goals as goal
 
-pub lay_reference-requires-clause-whole : goal.lay_reference-requires-clause-whole
-lay_reference-requires-clause-whole c =
-    let table = c.args.tail in
-    let all : divides table.most (length c.lay_identifier.new.out.bytes + 4) ≡ true =
-    eq-eqb _ _ c.lay_identifier.ensures.multiple in
-    let rest =
-    eqb-true _ _ (through 4 table.most (length c.lay_identifier.new.out.bytes + 4) c.requires.four all) in
-    eq-eqb _ _ (omega (arith, rest))
+-- so many bytes before a buffer
+multiple_with : (m n front k : ℕ) → front ≡ k → divides m (n + front) ≡ true → divides m (n + k) ≡ true
+multiple_with m n front k is h = rw is at h
+
+multiple_bare : (m n : ℕ) → divides m (n + 0) ≡ true → divides m n ≡ true
+multiple_bare m n h = let none : n + 0 ≡ n = omega arith in rw none at h
+
+counted : (s b : Bytes) (n : ℕ) → n ≡ length s → b ≡ little_bytes 4 n ++ s → 4 ≤ length s → 4 + length s ≤ 2147483647
+    → IsCounted s b
+counted s b n is bytes least short =
+    let all : b ≡ little_bytes 4 (length s) ++ s = rw is at bytes in
+    let four : length (little_bytes 4 (length s)) ≡ 4 = refl in
+    let parts = length-append (little_bytes 4 (length s)) s in
+    record { bytes = all; least = least; short = omega (arith, ap length all, parts, four, short) }
+
+-- what covers the buffer behind the count, and its greatest alignment
+covered_behind : (L : LaidSchema) (s b : Bytes) (m : ℕ) (v : Datum) (h : IsCounted s b)
+    → IsCoveredBy L s v × (greatest_align L s (reached_parts L s v) ≡ m) → divides m (length s + 4) ≡ true
+    → IsCoveredBy L (drop 4 b) v
+    × (divides (greatest_align L (drop 4 b) (reached_parts L (drop 4 b) v)) (length b) ≡ true)
+covered_behind L s b m v h covers whole =
+    let long : length s + 4 ≡ length b = omega (arith, counted_long s b h) in
+    let all : divides m (length b) ≡ true = subst (λ (n : ℕ). divides m n ≡ true) long whole in
+    subst (λ (z : Bytes). IsCoveredBy L z v × (divides (greatest_align L z (reached_parts L z v)) (length b) ≡ true))
+    (sym (counted_behind s b h)) (covers.0, rw covers.1 all)
+
+-- ---- a buffer alone
+
+pub returns-then-not-prefixed-clause-holds : goal.returns-then-not-prefixed-clause-holds
+returns-then-not-prefixed-clause-holds c places d most raw root deep small =
+    let s = c.lay_header-out.result in
+    let h = c.lay_header-out.ensures in
+    let none = rw c.if-not-prefixed.true at c.front_of.ensures.exact in
+    let whole = multiple_bare s.most (length s.bytes) (multiple_with s.most (length s.bytes) _ 0 none h.multiple) in
+    rw c.if-not-prefixed.true (whole_holds c.args.layout.now s.most s.bytes d most raw h.identified h.least
+    (omega (arith, h.small)) whole (h.rooted places d root).lies deep small)
+
+pub returns-then-not-prefixed-clause-old_slots : goal.returns-then-not-prefixed-clause-old_slots
+returns-then-not-prefixed-clause-old_slots c places d root =
+    let s = c.lay_header-out.result in
+    let h = c.lay_header-out.ensures in
+    let none = rw c.if-not-prefixed.true at c.front_of.ensures.exact in
+    let whole = multiple_bare s.most (length s.bytes) (multiple_with s.most (length s.bytes) _ 0 none h.multiple) in
+    rw c.if-not-prefixed.true (whole_old c.args.layout.now s.most s.bytes d whole (h.rooted places d root))
+
+pub returns-then-not-prefixed-clause-covered : goal.returns-then-not-prefixed-clause-covered
+returns-then-not-prefixed-clause-covered c known places d shared different root =
+    let L = c.args.layout.now in
+    let s = c.lay_header-out.result in
+    let h = c.lay_header-out.ensures in
+    let none = rw c.if-not-prefixed.true at c.front_of.ensures.exact in
+    let whole = multiple_bare s.most (length s.bytes) (multiple_with s.most (length s.bytes) _ 0 none h.multiple) in
+    let covers = h.covered known places d shared different root in
+    let there = whole_lies L s.most s.bytes d whole (h.rooted places d root).lies in
+    rw c.if-not-prefixed.true ((d, there, covers.0), (d, there, rw covers.1 whole))
+
+-- ---- with the count in front
 
 pub returns-clause-holds : goal.returns-clause-holds
 returns-clause-holds c places d most raw root deep small =
-    let L = c.args.layout.now in
-    let table = c.args.tail in
-    let tail = c.lay_identifier.new.out in
-    let end = c.lay_reference.new.out in
-    let same : end.most ≡ table.most = c.lay_reference.ensures.most ∙ c.lay_identifier.ensures.most in
-    let whole : divides end.most (length end.bytes) ≡ true =
-    rw same (eq-eqb _ _ (ap (λ n. n % table.most) c.lay_reference.ensures.long
-    ∙ c.lay_identifier.ensures.multiple)) in
-    let rooted = root_laid L table tail end L.schema.root c.args.place d refl
-    c.lay_identifier.ensures.grows root.lies (λ X. c.lay_reference.ensures.lies L X d) in
-    let front = c.lay_reference.ensures.grows in
-    let four : length front.front ≡ 4 = omega (arith, front.spent, c.lay_reference.ensures.free) in
-    let identified : (id : Bytes) → L.schema.identifier ≡ Some id → IsIdentified end.bytes id =
-    λ id e. identified_behind front.front tail.bytes id end.bytes front.grown four
-    (c.schema-schema.ensures.made.declared.identifier id e) (c.lay_identifier.ensures.identified id e) in
-    whole_holds L end.most end.bytes d most raw identified (omega (arith, c.lay_reference.ensures.long))
-    (omega (arith, c.count-count.ensures)) whole rooted.lies deep small
+    let s = c.lay_header-out.result in
+    let h = c.lay_header-out.ensures in
+    let b = c.lay_u32.new.self.bytes in
+    let four = rw c.if-not-prefixed.false at c.front_of.ensures.exact in
+    let is = counted s.bytes b _ c.count-count.ensures.exact c.lay_u32.ensures.bytes h.least
+    (omega (arith, four, h.room, h.small)) in
+    rw c.if-not-prefixed.false (counted_holds c.args.layout.now s.most s.bytes b d is
+    (multiple_with s.most (length s.bytes) _ 4 four h.multiple) (h.rooted places d root) most raw h.identified deep small)
 
 pub returns-clause-old_slots : goal.returns-clause-old_slots
 returns-clause-old_slots c places d root =
-    let L = c.args.layout.now in
-    let table = c.args.tail in
-    let tail = c.lay_identifier.new.out in
-    let end = c.lay_reference.new.out in
-    let same : end.most ≡ table.most = c.lay_reference.ensures.most ∙ c.lay_identifier.ensures.most in
-    let whole : divides end.most (length end.bytes) ≡ true =
-    rw same (eq-eqb _ _ (ap (λ n. n % table.most) c.lay_reference.ensures.long
-    ∙ c.lay_identifier.ensures.multiple)) in
-    let rooted = root_laid L table tail end L.schema.root c.args.place d refl
-    c.lay_identifier.ensures.grows root.lies (λ X. c.lay_reference.ensures.lies L X d) in
-    whole_old L end.most end.bytes d whole rooted
+    let s = c.lay_header-out.result in
+    let h = c.lay_header-out.ensures in
+    let b = c.lay_u32.new.self.bytes in
+    let four = rw c.if-not-prefixed.false at c.front_of.ensures.exact in
+    let is = counted s.bytes b _ c.count-count.ensures.exact c.lay_u32.ensures.bytes h.least
+    (omega (arith, four, h.room, h.small)) in
+    rw c.if-not-prefixed.false (counted_old c.args.layout.now s.most s.bytes b d is
+    (multiple_with s.most (length s.bytes) _ 4 four h.multiple) (h.rooted places d root))
 
 pub returns-clause-covered : goal.returns-clause-covered
-returns-clause-covered c keys places d shared different root =
+returns-clause-covered c known places d shared different root =
     let L = c.args.layout.now in
-    let table = c.args.tail in
-    let tail = c.lay_identifier.new.out in
-    let end = c.lay_reference.new.out in
-    let e = c.args.place in
-    let same : end.most ≡ table.most = c.lay_reference.ensures.most ∙ c.lay_identifier.ensures.most in
-    let all : divides end.most (length end.bytes) ≡ true =
-    rw same (eq-eqb _ _ (ap (λ n. n % table.most) c.lay_reference.ensures.long
-    ∙ c.lay_identifier.ensures.multiple)) in
-    let rooted = root_laid L table tail end L.schema.root e d refl c.lay_identifier.ensures.grows root.lies
-    (λ X. c.lay_reference.ensures.lies L X d) in
-    let zero : length end.bytes - length end.bytes ≡ 0 = omega arith in
-    let there : LiesAt L end.bytes (ref_place (table_part L.schema.root)) 0 d =
-    subst (λ (p : ℕ). LiesAt L end.bytes (ref_place (table_part L.schema.root)) p d) zero
-    (whole_shown L end.most end.bytes (ref_place (table_part L.schema.root)) (length end.bytes) d all
-    rooted.lies) in
-    let whole : IsWhole L table tail end.bytes e d keys places = record {
-      laid = root.lies;
-      made = root.made;
-      shared = shared;
-      different = different;
-      header = c.lay_identifier.ensures.header;
-      identified = c.schema-schema.ensures.made.declared.identifier;
-      four = c.lay_reference.ensures.grows.front;
-      four_long = omega (arith, c.lay_reference.ensures.grows.spent, c.lay_reference.ensures.free);
-      bytes = c.lay_reference.ensures.grows.grown;
-      leads = c.lay_reference.ensures.leads;
-      there = there;
-    } in (
-      covered_buffer L table tail end.bytes e d keys places whole,
-      aligned_buffer L table tail end.bytes e d keys places whole (rw same at all),
-    )
-
-pub returns-clause-short : goal.returns-clause-short
-returns-clause-short c =
-    let L = c.args.layout.now in
-    let table = c.args.tail in
-    let header = c.lay_identifier.ensures.header in
-    let id = identifier_short L.schema.identifier c.schema-schema.ensures.made.declared.identifier in
-    let all = ap length header.bytes
-    ∙ length-append (identifier_bytes L.schema.identifier) (replicate header.zeros 0 ++ table.bytes) in
-    let rest = length-append (replicate header.zeros 0) table.bytes in
-    let zeros = zeros_long header.zeros in
-    omega (arith, id, all, rest, zeros, header.under, c.lay_reference.ensures.long, c.requires.bound)
+    let s = c.lay_header-out.result in
+    let h = c.lay_header-out.ensures in
+    let b = c.lay_u32.new.self.bytes in
+    let four = rw c.if-not-prefixed.false at c.front_of.ensures.exact in
+    let is = counted s.bytes b _ c.count-count.ensures.exact c.lay_u32.ensures.bytes h.least
+    (omega (arith, four, h.room, h.small)) in
+    let whole = multiple_with s.most (length s.bytes) _ 4 four h.multiple in
+    let there = counted_lies L s.most s.bytes b d is whole (h.rooted places d root) in
+    let both = covered_behind L s.bytes b s.most d is (h.covered known places d shared different root) whole in
+    rw c.if-not-prefixed.false ((d, there, both.0), (d, there, both.1))

@@ -1,4 +1,4 @@
-use Rattle.std.proofs.Common.{◌≤◌, [], arith}
+use Rattle.std.proofs.Common.{◌+◌, ◌≤◌, [], arith}
 use Rattle.fb_layout.specs.Widths.{greatest}
 use Rattle.fb_build.specs.TapeLaid.{tape_most}
 use Rattle.fb_build.proofs.taped.PaddedToTheGreatest.{ops_low}
@@ -13,7 +13,7 @@ returns-clause-bound c =
     ops_low c.args.layout.now tape.vtables 0 tape.room 4 [] tape.ops tape.notes tape.bytes _
     c.schema-schema.ensures.made
     lay (omega arith) in
-    let header : c.match-identifier.header ≤ 8 = elim c.match-identifier.branch [
+    let header : c.match-identifier.header ≤ 8 + c.args.front = elim c.match-identifier.branch [
       | in-Some w ↦ omega (arith, w.header-is)
       | in-None w ↦ omega (arith, w.header-is)
     ] in

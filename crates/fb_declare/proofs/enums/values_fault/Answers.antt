@@ -10,7 +10,7 @@ use Rattle.fb_declare.specs.declared.faults.SchemaFault.TheVariants.{DuplicateNa
 use Rattle.fb_declare.specs.Faults.{least_of}
 use Rattle.fb_declare.specs.FaultRows.{when, is_out_of_range, value_faults}
 use Rattle.fb_resolve.specs.RepeatedNames.{is_again, repeated_names}
-use Rattle.fb_resolve.specs.EnumsRead.{name_of_value}
+use Rattle.fb_resolve.specs.EnumValues.{name_of_value}
 use Rattle.fb_declare.proofs.TypesKept.{told_among}
 use Rattle.fb_declare.proofs.Least.{least_of_append, least_more, map-taken, list_any-snoc, one_more}
 use Rattle.fb_declare.proofs.enums.values_fault.Goals as goal

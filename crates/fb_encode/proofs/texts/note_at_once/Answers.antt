@@ -3,7 +3,7 @@ use Rattle.fb_encode.proofs.trees.RefusalsComeInOrder.{tree_refused}
 use Rattle.fb_encode.proofs.texts.note_at_once.Goals as goal
 
 pub returns-clause-refused : goal.returns-clause-refused
-returns-clause-refused c =
+returns-clause-refused c prefixed =
     let t = tree_view c.in-Ok.tree in
     let failed = c.in-Err-note_root.ensures in (
       t,

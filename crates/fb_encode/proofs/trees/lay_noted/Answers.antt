@@ -19,5 +19,5 @@ returns-in-Ok-clause-encoded c most unknown t root =
 
 pub returns-in-Err-clause-refused : goal.returns-in-Err-clause-refused
 returns-in-Err-clause-refused c most unknown t root =
-    build_refused c.args.layout.now most unknown t root.value root.means c.in-Err.fault
+    build_refused c.args.layout.now most unknown t c.args.prefixed root.value root.means c.in-Err.fault
     (c.in-Err.ensures.too_big root.value root.noted) (c.in-Err.ensures.memory root.value root.noted)

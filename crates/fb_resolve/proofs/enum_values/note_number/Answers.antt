@@ -6,7 +6,7 @@ use Rattle.std.specs.Str.{bytes_eq}
 use Rattle.std.specs.Bool.{one_answer}
 use Rattle.std.proofs.lemmas.Int.{to_z-of_z}
 use Rattle.std.proofs.lemmas.Slice.Eq.{bytes_eq-Decides}
-use Rattle.fb_resolve.specs.EnumsRead.{number_of}
+use Rattle.fb_resolve.specs.EnumValues.{number_of}
 use Rattle.fb_schema.specs.Schema.{Name}
 use Rattle.fb_resolve.proofs.enum_values.note_number.Goals.{in-Some+in_ok-insert, in_default}
 use Rattle.fb_resolve.proofs.enum_values.note_number.Goals as goal

@@ -6,7 +6,7 @@ use Rattle.std.specs.Option.{is_some, option_or, option_map}
 use Rattle.std.specs.Str.{bytes_eq}
 use Rattle.std.proofs.lemmas.Grind.{common_steps}
 use Rattle.std.proofs.lemmas.Int.{to_z-of_z}
-use Rattle.fb_resolve.specs.EnumsRead.{name_of_value, value_over, number_named, number_of}
+use Rattle.fb_resolve.specs.EnumValues.{name_of_value, value_over, number_named, number_of}
 use Rattle.fb_resolve.specs.ResolvedFields.{ResolvedValue}
 use Rattle.fb_schema.specs.Schema.{Name}
 use Rattle.fb_schema.specs.declared.kinds.Base.{Base}

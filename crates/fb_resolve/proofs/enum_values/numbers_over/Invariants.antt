@@ -1,6 +1,6 @@
 use Rattle.std.proofs.Common.{◌≡◌, ◌++◌, map, take, drop, ◌+◌, ◌≤◌, length, vec_len, vec_capacity}
 use Rattle.std.specs.Str.{bytes_eq}
-use Rattle.fb_resolve.specs.EnumsRead.{name_of_value, value_over, IndexesValues}
+use Rattle.fb_resolve.specs.EnumValues.{name_of_value, value_over, IndexesValues}
 use Rattle.fb_resolve.specs.RepeatedNames.{again_behind, repeated_names}
 use Rattle.fb_resolve.proofs.enum_values.numbers_over.Given as goal
 

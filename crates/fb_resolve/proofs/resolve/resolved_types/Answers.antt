@@ -1,7 +1,7 @@
 use Rattle.std.proofs.Common.{rules, length, ◌≡◌, ◌+◌, ◌∷◌, drop, ap, sym, ◌∙◌, arith}
 use Rattle.std.proofs.lemmas.Grind.{common_steps}
 use Rattle.std.proofs.lemmas.List.{drop_more, length-map}
-use Rattle.fb_resolve.specs.EnumsRead.{enum_values_of}
+use Rattle.fb_resolve.specs.EnumValues.{enum_values_of}
 use Rattle.std.proofs.lemmas.Slice.Zip.{AllZip-long}
 use Rattle.fb_scopes.specs.Scopes.{tree_of, names_of}
 use Rattle.fb_resolve.specs.Paths.{AreNotesOf}

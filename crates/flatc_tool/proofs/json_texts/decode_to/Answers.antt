@@ -1,54 +1,56 @@
 use Rattle.std.proofs.Common.{◌<◌, All, Ok, Err, arith}
 use Rattle.std.proofs.lemmas.List.Elements.{All-from_get_or}
 use Rattle.fb_text.specs.Noted.{writer_of}
+use Rattle.flatc_tool.specs.Jobs.{spacing_of}
 use Rattle.flatc_tool.proofs.json_texts.PrintedIsTheJsonText.{at_layout, bytes_exclude, sent, unsent, unsent_excludes}
 use Rattle.flatc_tool.proofs.json_texts.decode_to.Goals as goal
 
 pub returns-in-Err-clause-exact : goal.returns-in-Err-clause-exact
-returns-in-Err-clause-exact g c rule = bytes_exclude c.args.layout.now c.args.bytes.now c.args.options.now.limits
+returns-in-Err-clause-exact g c rule = bytes_exclude c.args.options.now.size_prefixed
+    c.args.layout.now c.args.bytes.now c.args.options.now.limits
     c.args.options.now.raw_binary c.in-Err.fault c.in-Err.ensures.fault
 
-pub returns-in-Ok-write_text-clause-printed : goal.returns-in-Ok-write_text-clause-printed
-returns-in-Ok-write_text-clause-printed g c =
+pub returns-in-Ok-write_spaced-clause-printed : goal.returns-in-Ok-write_spaced-clause-printed
+returns-in-Ok-write_spaced-clause-printed g c =
     let L = c.args.layout.now in
     let held = c.in-Ok.ensures.held in
     let view = c.in-Ok.view in
     let start = g.W.Write.contents (writer_of c.args.out.now) in
-    let known = g.W.Write.contents (writer_of c.write_text.new.out) in
-    let printed = c.in-Ok-write_text.ensures.printed held.0 (c.in-Ok.ensures.stands held.0 held.1) in
+    let known = g.W.Write.contents (writer_of c.write_spaced.new.out) in
+    let printed = (rw c.spacing_of.ensures at c.in-Ok-write_spaced.ensures.printed) held.0 (c.in-Ok.ensures.stands held.0 held.1) in
     let small : All (λ x. x < 256) c.args.bytes.now =
     All-from_get_or (λ x. x < 256) c.args.bytes.now 0 (λ i less. (let fits = c.type_inv.bytes i in omega arith)) in
-    let root = at_layout L view.layout.now view.table.0 c.args.options.now.defaults_json held.0 start known (Ok tt)
+    let root = at_layout (spacing_of c.args.options.now.compact) L view.layout.now view.table.0 c.args.options.now.defaults_json held.0 start known (Ok tt)
     c.in-Ok.ensures.root.0 c.in-Ok.ensures.root.1 printed in
-    sent c.layer_laws.ensures.laws c.args.bytes.now c.args.options.now.limits c.args.options.now.raw_binary
+    sent c.layer_laws.ensures.laws c.args.options.now.compact c.args.options.now.size_prefixed c.args.bytes.now c.args.options.now.limits c.args.options.now.raw_binary
     c.args.options.now.defaults_json L held.0 held.1 start known tt c.schema-schema.ensures.made
-    c.texts_are_utf8.ensures small
+    c.spaced_texts_are_utf8.ensures small
     root
 
-pub returns-in-Err-write_text-clause-refused : goal.returns-in-Err-write_text-clause-refused
-returns-in-Err-write_text-clause-refused g c =
+pub returns-in-Err-write_spaced-clause-refused : goal.returns-in-Err-write_spaced-clause-refused
+returns-in-Err-write_spaced-clause-refused g c =
     let L = c.args.layout.now in
     let held = c.in-Ok.ensures.held in
     let view = c.in-Ok.view in
-    let fault = c.in-Err-write_text.fault in
+    let fault = c.in-Err-write_spaced.fault in
     let start = g.W.Write.contents (writer_of c.args.out.now) in
-    let known = g.W.Write.contents (writer_of c.write_text.new.out) in
-    let printed = c.in-Err-write_text.ensures.printed held.0 (c.in-Ok.ensures.stands held.0 held.1) in
-    let root = at_layout L view.layout.now view.table.0 c.args.options.now.defaults_json held.0 start known (Err fault)
+    let known = g.W.Write.contents (writer_of c.write_spaced.new.out) in
+    let printed = (rw c.spacing_of.ensures at c.in-Err-write_spaced.ensures.printed) held.0 (c.in-Ok.ensures.stands held.0 held.1) in
+    let root = at_layout (spacing_of c.args.options.now.compact) L view.layout.now view.table.0 c.args.options.now.defaults_json held.0 start known (Err fault)
     c.in-Ok.ensures.root.0 c.in-Ok.ensures.root.1 printed in
-    unsent c.layer_laws.ensures.laws c.args.bytes.now c.args.options.now.limits c.args.options.now.raw_binary
+    unsent c.layer_laws.ensures.laws c.args.options.now.compact c.args.options.now.size_prefixed c.args.bytes.now c.args.options.now.limits c.args.options.now.raw_binary
     c.args.options.now.defaults_json L held.0 held.1 start known fault root
 
-pub returns-in-Err-write_text-clause-exact : goal.returns-in-Err-write_text-clause-exact
-returns-in-Err-write_text-clause-exact g c rule =
+pub returns-in-Err-write_spaced-clause-exact : goal.returns-in-Err-write_spaced-clause-exact
+returns-in-Err-write_spaced-clause-exact g c rule =
     let L = c.args.layout.now in
     let held = c.in-Ok.ensures.held in
     let view = c.in-Ok.view in
-    let fault = c.in-Err-write_text.fault in
+    let fault = c.in-Err-write_spaced.fault in
     let start = g.W.Write.contents (writer_of c.args.out.now) in
-    let known = g.W.Write.contents (writer_of c.write_text.new.out) in
-    let printed = c.in-Err-write_text.ensures.printed held.0 (c.in-Ok.ensures.stands held.0 held.1) in
-    let root = at_layout L view.layout.now view.table.0 c.args.options.now.defaults_json held.0 start known (Err fault)
+    let known = g.W.Write.contents (writer_of c.write_spaced.new.out) in
+    let printed = (rw c.spacing_of.ensures at c.in-Err-write_spaced.ensures.printed) held.0 (c.in-Ok.ensures.stands held.0 held.1) in
+    let root = at_layout (spacing_of c.args.options.now.compact) L view.layout.now view.table.0 c.args.options.now.defaults_json held.0 start known (Err fault)
     c.in-Ok.ensures.root.0 c.in-Ok.ensures.root.1 printed in
-    unsent_excludes c.layer_laws.ensures.laws c.args.bytes.now c.args.options.now.limits
+    unsent_excludes c.layer_laws.ensures.laws c.args.options.now.compact c.args.options.now.size_prefixed c.args.bytes.now c.args.options.now.limits
     c.args.options.now.raw_binary c.args.options.now.defaults_json L held.0 held.1 start known fault root rule

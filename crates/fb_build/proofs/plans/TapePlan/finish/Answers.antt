@@ -3,13 +3,14 @@ use Rattle.std.proofs.Common.{append-nil, arith, subst}
 use Rattle.std.proofs.lemmas.Grind.{get_or_default_zero}
 use Rattle.fb_layout.specs.Laid.{LaidSchema}
 use Rattle.fb_value.specs.Datum.{Datum, a_table}
-use Rattle.fb_value.specs.Holds.{Holds}
+use Rattle.fb_value.specs.Holds.{HoldsFramed, front_of}
 use Rattle.fb_value.specs.Num.{Bytes}
 use Rattle.fb_value.specs.Places.{table_part}
 use Rattle.fb_value.specs.View.{entries_in}
 use Rattle.fb_tape.specs.Tapes.{MeansRoot, Taped}
-use Rattle.fb_value.specs.OldSlots.{OnlyOld}
-use Rattle.fb_build.specs.Covered.{Covered, EndsAligned}
+use Rattle.fb_value.specs.OldSlots.{OnlyOldBehind}
+use Rattle.fb_build.specs.Covered.{CoveredFramed, EndsAlignedFramed}
+use Rattle.fb_build.specs.Planned.{TapePlanned}
 use Rattle.fb_build.specs.CoveredTails.{parts_in_tail}
 use Rattle.fb_build.specs.Roots.{IsRoot}
 use Rattle.fb_build.specs.Tails.{TailSeen}
@@ -57,8 +58,8 @@ returns-clause-holds c xs most raw means deep small =
     subst (λ (t : Taped). MeansRoot t xs) (sym (ap (λ p. p.tape) c.self.view_is)) means in
     let w = c.lay_tape.ensures.waits _ (given (omega (arith, inv.small))) in
     let root = root_in _ _ _ _ _ _ xs _ inv.layout w c.index-place.ensures in
-    subst (λ (L : LaidSchema). Holds L most raw c.into_bytes.result.items (a_table L.schema.root (entries_in xs)))
-    (ap (λ p. p.layout) c.self.view_is)
+    subst (λ (p : TapePlanned). HoldsFramed p.prefixed p.layout most raw c.into_bytes.result.items
+    (a_table p.layout.schema.root (entries_in xs))) c.self.view_is
     (rw c.into_bytes.ensures (c.close_tail.ensures.holds _ _ most raw root deep small))
 
 pub returns-clause-old_slots : goal.returns-clause-old_slots
@@ -66,7 +67,7 @@ returns-clause-old_slots c =
     let inv = c.self.invariant in
     let w = c.lay_tape.ensures.waits _ (inv.means.means (omega (arith, inv.small))) in
     let root = root_in _ _ _ _ _ _ inv.means.entries _ inv.layout w c.index-place.ensures in
-    subst (λ (L : LaidSchema). OnlyOld L c.into_bytes.result.items) (ap (λ p. p.layout) c.self.view_is)
+    subst (λ (p : TapePlanned). OnlyOldBehind (front_of p.prefixed) p.layout c.into_bytes.result.items) c.self.view_is
     (rw c.into_bytes.ensures (c.close_tail.ensures.old_slots _ _ root))
 
 pub returns-clause-covered : goal.returns-clause-covered
@@ -76,7 +77,7 @@ returns-clause-covered c =
     let root = root_in _ _ _ _ _ _ inv.means.entries _ inv.layout w c.index-place.ensures in
     let both = c.close_tail.ensures.covered _ _ _ w.shared
     (come_different c.self.inside.tape.vtables (length c.lay_tape.new.laying.places.items) inv.different) root in
-    subst (λ (L : LaidSchema). Covered L c.into_bytes.result.items) (ap (λ p. p.layout) c.self.view_is)
+    subst (λ (p : TapePlanned). CoveredFramed p.prefixed p.layout c.into_bytes.result.items) c.self.view_is
     (rw c.into_bytes.ensures both.0)
 
 pub returns-clause-aligned : goal.returns-clause-aligned
@@ -86,5 +87,5 @@ returns-clause-aligned c =
     let root = root_in _ _ _ _ _ _ inv.means.entries _ inv.layout w c.index-place.ensures in
     let both = c.close_tail.ensures.covered _ _ _ w.shared
     (come_different c.self.inside.tape.vtables (length c.lay_tape.new.laying.places.items) inv.different) root in
-    subst (λ (L : LaidSchema). EndsAligned L c.into_bytes.result.items) (ap (λ p. p.layout) c.self.view_is)
+    subst (λ (p : TapePlanned). EndsAlignedFramed p.prefixed p.layout c.into_bytes.result.items) c.self.view_is
     (rw c.into_bytes.ensures both.1)

@@ -4,7 +4,7 @@ use Rattle.fb_resolve.proofs.PathsKept.{first_use}
 use Rattle.fb_resolve.proofs.enum_values.EnumValues.of.Goals as goal
 
 pub invariant_of-result : goal.invariant_of-result
-unfolding Rattle.fb_resolve.specs.EnumsRead.number_named
+unfolding Rattle.fb_resolve.specs.EnumValues.number_named
 invariant_of-result c = (λ name. grind (arith, rules), grind rules)
 
 pub returns : goal.returns

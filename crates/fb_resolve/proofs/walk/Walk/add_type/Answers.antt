@@ -1,6 +1,6 @@
 use Rattle.std.proofs.Common.{refl, rules}
 use Rattle.std.proofs.lemmas.List.{map_push}
-use Rattle.fb_resolve.specs.EnumsRead.{enum_values_of}
+use Rattle.fb_resolve.specs.EnumValues.{enum_values_of}
 use Rattle.std.specs.Option.{option_copied}
 use Rattle.std.proofs.lemmas.Slice.Zip.{all_zipped_more}
 use Rattle.fb_scopes.specs.Words.{words}

@@ -1,0 +1,29 @@
+use Rattle.std.proofs.Common.{◌≡◌, ◌∙◌, List, Option, None, Some, Result, Ok, Err, MatchResult, true}
+use Rattle.fb_value.specs.declared.faults.ReadFault.{ReadFault}
+use Rattle.fb_value.specs.Num.{Bytes}
+use Rattle.fb_value.specs.Rules.{Rule, first_failing}
+use Rattle.fb_value.specs.Holds.{count_rules, header_rules, front_fault, prefixed_fault}
+use Rattle.fb_read.proofs.header.check_front.Goals as goal
+
+-- the rules of the count, and then those of the header behind it
+in_turn : (b : Bytes) (o : Option Bytes) (r : Option ReadFault)
+    → first_failing (count_rules b (header_rules 4 b o)) ≡ r → front_fault true b o ≡ r
+unfolding prefixed_fault
+in_turn b o r e = e
+
+passed_on : (b : Bytes) (o : Option Bytes) (r : Result (Unit {0}) ReadFault)
+    → ((others : List Rule) → first_failing (count_rules b others) ≡ first_failing others)
+    → MatchResult r (λ x. first_failing (header_rules 4 b o) ≡ None) (λ f. first_failing (header_rules 4 b o) ≡ Some f)
+    → MatchResult r (λ x. front_fault true b o ≡ None) (λ f. front_fault true b o ≡ Some f)
+passed_on b o (Ok x) passes h = in_turn b o None (passes (header_rules 4 b o) ∙ h)
+passed_on b o (Err f) passes h = in_turn b o (Some f) (passes (header_rules 4 b o) ∙ h)
+
+pub returns-in-Ok-clause-rules : goal.returns-in-Ok-clause-rules
+returns-in-Ok-clause-rules c =
+    rw c.if-not-prefixed.false (passed_on c.args.bytes.now c.args.identifier c.check_header-in-Ok.result
+    c.in-Ok.ensures.rules c.check_header-in-Ok.ensures.rules)
+
+pub returns-in-Err-clause-rules : goal.returns-in-Err-clause-rules
+returns-in-Err-clause-rules c =
+    rw c.if-not-prefixed.false (in_turn c.args.bytes.now c.args.identifier _
+    (c.in-Err.ensures.rules (header_rules 4 c.args.bytes.now c.args.identifier)))
