@@ -8,6 +8,7 @@ mod batches;
 mod explained;
 mod faults;
 mod hints;
+mod inspected;
 mod terminal;
 
 use crate::batches::do_batch;
