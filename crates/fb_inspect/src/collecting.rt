@@ -1,5 +1,5 @@
 //! The pieces of a buffer, noted part by part in the order in which a walk checks them.
-ghost use Rattle.std.specs.Prelude.{◌<◌, ◌^◌};
+ghost use Rattle.std.specs.Prelude.{◌<◌, ◌^◌, IfOk};
 
 use crate::nodes::{Lead, Node, Nodes};
 use crate::pieces::{Piece, What};
@@ -47,7 +47,9 @@ pub(crate) struct Collector<'a> {
 }
 
 /// A position as it is noted.
-fn noted(at: usize) -> Result<u32, ReadFault> {
+fn noted(at: usize) -> Result<u32, ReadFault>
+    ensures { IfOk result (λ noted. noted < 2 ^ 32) }
+{
     match u32::try_from(at) {
         Ok(at) => Ok(at),
         Err(_) => Err(ReadFault::OutOfBounds(at as u64)),
@@ -121,20 +123,22 @@ impl<'a> Collector<'a> {
     fn enter_table(&mut self, table: TypeId, at: usize, node: u32) -> Result<(), ReadFault>
         requires { at < 2 ^ 33 }
     {
-        if self.bytes.len() >= 1 << 31 {
-            return Err(ReadFault::TooLong((1 << 31) - 1));
+        let layout = self.layout;
+        let bytes = self.bytes;
+        if bytes.len() >= 0x8000_0000 {
+            return Err(ReadFault::TooLong(0x7fff_ffff));
         }
         self.note(node, at, 4, What::Table)?;
-        let entered = EnteredTable::enter(self.layout, self.bytes, table, at)?;
+        let entered = EnteredTable::enter(layout, bytes, table, at)?;
         let vtable_at = entered.vtable_at();
-        let size = usize::from(u16_within(self.bytes, vtable_at));
+        let size = usize::from(u16_within(bytes, vtable_at));
         let lead = Lead::Vtable(table);
         let (vtable, is_new) = self.nodes.reach(lead, noted(vtable_at)?, node, 0)?;
         if is_new {
             self.note(vtable, vtable_at, size, What::Vtable)?;
         }
         let held = size.saturating_sub(4) / 2;
-        let count = held.max(self.layout.slots_of(table).len()).min(65535) as u32;
+        let count = held.max(layout.slots_of(table).len()).min(65535) as u32;
         self.open.push(Open {
             node,
             left: Left::Slots(entered, 0),

@@ -36,13 +36,18 @@ fn push_right(page: &mut Page, number: u64, columns: usize) {
     page.push_number(number);
 }
 
+/// Adds a byte as two hexadecimal digits, and a space.
+fn push_byte(page: &mut Page, byte: u8) {
+    page.push_str(DIGITS[usize::from(byte / 16)]);
+    page.push_str(DIGITS[usize::from(byte % 16)]);
+    page.push_str(" ");
+}
+
 /// Adds the front of a range's bytes, and two dots where there are more.
 fn push_bytes(page: &mut Page, bytes: &[u8]) {
     let shown = bytes.get(..SHOWN).unwrap_or(bytes);
     for byte in shown {
-        page.push_str(DIGITS[usize::from(byte / 16)]);
-        page.push_str(DIGITS[usize::from(byte % 16)]);
-        page.push_str(" ");
+        push_byte(page, *byte);
     }
     push_spaces(page, CELL.saturating_mul(SHOWN.saturating_sub(shown.len())));
     page.push_str(if bytes.len() > SHOWN { ".. " } else { "   " });

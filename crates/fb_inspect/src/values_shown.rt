@@ -1,4 +1,6 @@
 //! Values as JSON has them, cut where they are long.
+ghost use Rattle.std.specs.Prelude.{◌<◌};
+
 use crate::page_lines::DIGITS;
 use fb_explain_pages::Page;
 use fb_explain_words::shapes::members_of;
@@ -10,8 +12,6 @@ use fb_schema::{Base, Kind, Schema, TypeId};
 const LONGEST_TEXT: usize = 32;
 
 const MOST_NUMBERS: usize = 8;
-
-const BITS: u32 = 64;
 
 /// Adds a character as it is in a JSON string.
 fn push_character(page: &mut Page, character: char) {
@@ -55,33 +55,40 @@ fn has_flags(schema: &Schema, enumeration: TypeId) -> bool {
     }
 }
 
-/// Whether a number has bits and each has a name.
-fn are_named(schema: &Schema, enumeration: TypeId, number: i128) -> bool {
-    if number <= 0 {
-        return false;
+/// The bits of a number, up to 64 of them; a negative one has none here.
+fn bits_of(number: i128) -> u64 {
+    if number < 0 {
+        return 0;
     }
-    for place in 0..BITS {
-        let bit = 1u64 << place;
-        if (number as u128 % (1 << 64)) as u64 & bit != 0
-            && schema
-                .name_of_number(enumeration, i128::from(bit))
-                .is_none()
-        {
+    (number as u128 % (1 << 64)) as u64
+}
+
+/// The name of the bit at a place, where a number has it.
+fn bit_name(schema: &Schema, enumeration: TypeId, bits: u64, place: u32) -> Option<Option<&str>>
+    requires { place < 64 }
+{
+    let bit = 1u64 << place;
+    if bits & bit == 0 {
+        return None;
+    }
+    Some(schema.name_of_number(enumeration, i128::from(bit)))
+}
+
+/// Whether a number has bits and each has a name.
+fn are_named(schema: &Schema, enumeration: TypeId, bits: u64) -> bool {
+    for place in 0..64u32 {
+        if let Some(None) = bit_name(schema, enumeration, bits, place) {
             return false;
         }
     }
-    true
+    bits != 0
 }
 
 /// Adds the names of a number's bits, with a space between two.
-fn push_flags(page: &mut Page, schema: &Schema, enumeration: TypeId, number: i128) {
+fn push_flags(page: &mut Page, schema: &Schema, enumeration: TypeId, bits: u64) {
     let mut gap = "\"";
-    for place in 0..BITS {
-        let bit = 1u64 << place;
-        if number > 0
-            && (number as u128 % (1 << 64)) as u64 & bit != 0
-            && let Some(name) = schema.name_of_number(enumeration, i128::from(bit))
-        {
+    for place in 0..64u32 {
+        if let Some(Some(name)) = bit_name(schema, enumeration, bits, place) {
             page.push_str(gap);
             page.push_str(name);
             gap = " ";
@@ -95,8 +102,9 @@ pub(crate) fn push_number(page: &mut Page, schema: &Schema, kind: Kind, number: 
     match kind {
         Kind::Scalar(Base::Bool) => page.push_str(if number == 0 { "false" } else { "true" }),
         Kind::Enum(enumeration) if has_flags(schema, enumeration) => {
-            if are_named(schema, enumeration, number) {
-                push_flags(page, schema, enumeration, number)
+            let bits = bits_of(number);
+            if are_named(schema, enumeration, bits) {
+                push_flags(page, schema, enumeration, bits)
             } else {
                 page.push_integer(number)
             }
