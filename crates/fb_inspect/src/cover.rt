@@ -1,14 +1,14 @@
 //! The bytes between a buffer's pieces.
-ghost use Rattle.std.specs.Prelude.{◌≡◌, ◌≤◌, ◌<◌, IfOk, OnOk};
+ghost use Rattle.std.specs.Prelude.{IfOk, OnOk, max};
 ghost use Rattle.fb_inspect.specs.Covers.{CoversBelow};
 
 use crate::pieces::{Piece, What};
 use std::alloc::{AllocError, Global};
 
-/// Adds a piece for the bytes from one position up to another, if there are any.
+/// Adds a piece for the bytes from one position up to another, if there are any, behind others that have each byte before.
 fn push_gap(pieces: &mut Vec<Piece>, start: u32, end: u32) -> Result<(), AllocError>
     requires before { CoversBelow pieces.old.items start }
-    ensures covers { OnOk result (CoversBelow pieces.new.items end) }
+    ensures covers { OnOk result (CoversBelow pieces.new.items (max start end)) }
 {
     if start < end {
         let gap = Piece {

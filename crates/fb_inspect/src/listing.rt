@@ -145,19 +145,38 @@ impl<'a> Listing<'a> {
         Ok(Some(page.into_text()?))
     }
 
-    /// Adds a piece's first line.
-    fn push_first(&mut self, page: &mut Page, piece: &Piece) {
-        if let What::Fault = piece.what {
-            self.push_fault(page, piece);
-            return;
-        }
-        // tables of several types may have one vtable
-        let is_again = matches!(piece.what, What::Vtable) && self.vtable == Some(piece.start);
-        let overlaps = piece.start < self.covered && !is_again;
-        push_head(page, self.scene(), piece, self.fault.is_none(), overlaps);
+    /// Whether a piece begins before one above it ends. Tables of several types may have one vtable.
+    fn overlaps(&self, piece: &Piece) -> bool {
+        let is_again = match self.vtable {
+            Some(start) => matches!(piece.what, What::Vtable) && start == piece.start,
+            None => false,
+        };
+        piece.start < self.covered && !is_again
+    }
+
+    /// Notes that a piece was listed.
+    fn note_listed(&mut self, piece: &Piece) {
         self.covered = self.covered.max(piece.end);
         if let What::Vtable = piece.what {
             self.vtable = Some(piece.start);
+        }
+    }
+
+    /// Adds the line of a piece that isn't the fault.
+    fn push_piece(&self, page: &mut Page, piece: &Piece) {
+        let is_whole = self.fault.is_none();
+        let overlaps = self.overlaps(piece);
+        push_head(page, self.scene(), piece, is_whole, overlaps);
+    }
+
+    /// Adds a piece's first line.
+    fn push_first(&mut self, page: &mut Page, piece: &Piece) {
+        match piece.what {
+            What::Fault => self.push_fault(page, piece),
+            _ => {
+                self.push_piece(page, piece);
+                self.note_listed(piece);
+            }
         }
     }
 

@@ -74,7 +74,12 @@ impl<'a> EnteredTable<'a> {
         ensures number { result ≡ slot_number self.entry.bytes.now self.entry.place.at slot }
         ensures small { result < 2 ^ 16 }
     {
-        slot_of(self.bytes, self.place.at, self.place.vtable_at, usize::from(slot))
+        slot_of(
+            self.bytes,
+            self.place.at,
+            self.place.vtable_at,
+            usize::from(slot),
+        )
     }
 
     /// What a slot has, by the slot's own rules unchecked; nothing where the table's type has no such slot.
@@ -100,12 +105,7 @@ impl<'a> EnteredTable<'a> {
 
 /// Whether the struct at a position keeps its rules.
 #[tactic(auto, using(crate::proofs::buffer::AlignmentsArePositive::layout_sizes))]
-fn check_fixed(
-    layout: &Layout,
-    bytes: &[u8],
-    structure: TypeId,
-    at: usize,
-) -> Result<(), ReadFault>
+fn check_fixed(layout: &Layout, bytes: &[u8], structure: TypeId, at: usize) -> Result<(), ReadFault>
     requires low { at < 2 ^ 33 }
     ensures rules { Judges layout.now bytes.now (inline_place (struct_kind structure.0)) at result }
 {
@@ -122,7 +122,13 @@ pub fn check_stored(layout: &Layout, bytes: &[u8], stored: Stored) -> Result<(),
     match stored {
         Stored::Number(base, at) => check_number(bytes, at, base),
         Stored::Fixed(structure, at) => check_fixed(layout, bytes, structure, at),
-        Stored::Code(code, at) => check_code(bytes, at, code.value_slot, code.required, code.present),
+        Stored::Code(code, at) => check_code(
+            bytes,
+            at,
+            code.value_slot,
+            code.required,
+            code.present,
+        ),
         Stored::Absent(_)
         | Stored::Unknown(_, _)
         | Stored::Text(_)
@@ -134,12 +140,7 @@ pub fn check_stored(layout: &Layout, bytes: &[u8], stored: Stored) -> Result<(),
 
 /// How many elements the vector at a position has, where its own rules hold.
 #[tactic(auto, using(crate::proofs::buffer::AlignmentsArePositive::layout_sizes))]
-pub fn enter_vector(
-    layout: &Layout,
-    bytes: &[u8],
-    kind: Kind,
-    at: usize,
-) -> Result<u32, ReadFault>
+pub fn enter_vector(layout: &Layout, bytes: &[u8], kind: Kind, at: usize) -> Result<u32, ReadFault>
     requires low { at < 2 ^ 33 }
     ensures rules { Judges layout.now bytes.now (part_place (vector_part
         (stored_kind layout.now.schema kind))) at result }
