@@ -1,6 +1,6 @@
 #!/usr/bin/env python3
-"""What the built program prints with inspect: each row is a buffer, written by hand as the FlatBuffers documentation lays
-it out ("FlatBuffer Internals"), and what each of its ranges is.
+"""What the built program prints with inspect: each row is a buffer and what each of its ranges is, both written by hand
+from the FlatBuffers documentation ("FlatBuffer Internals").
 
 usage: tests/inspect.py PROGRAM
 
@@ -76,7 +76,9 @@ SEVEN_ROWS = [
 ]
 
 # A struct of 12 bytes, in which another of 4 bytes begins at 4.
-STRUCTS = "struct In { a:short; b:ubyte; } struct Out { x:int; in:In; y:ushort; } table T { s:Out; v:[In]; } root_type T;"
+STRUCTS = (
+    "struct In { a:short; b:ubyte; } struct Out { x:int; in:In; y:ushort; } table T { s:Out; v:[In]; } root_type T;"
+)
 
 ROWS = [
     ("a number", "table T { a:int; } root_type T;", SEVEN, SEVEN_ROWS),

@@ -5,7 +5,7 @@ ghost use Rattle.fb_inspect.specs.Covers.{CoversBelow};
 use crate::pieces::{Piece, What};
 use std::alloc::{AllocError, Global};
 
-/// Adds a piece for the bytes from one position up to another, if there are any, behind others that have each byte before.
+/// Adds a piece for the bytes from one position up to another, if there are any.
 fn push_gap(pieces: &mut Vec<Piece>, start: u32, end: u32) -> Result<(), AllocError>
     requires before { CoversBelow pieces.old.items start }
     ensures covers { OnOk result (CoversBelow pieces.new.items (max start end)) }

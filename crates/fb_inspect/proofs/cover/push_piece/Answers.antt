@@ -1,4 +1,4 @@
-use Rattle.std.proofs.Common.{◌≡◌, ◌≤◌, max, sym, subst, arith}
+use Rattle.std.proofs.Common.{max, sym, subst, arith}
 use Rattle.fb_inspect.specs.Covers.{CoversBelow}
 use Rattle.fb_inspect.proofs.cover.OneMoreCoversMore.{covered_more}
 use Rattle.fb_inspect.proofs.cover.push_piece.Goals as goal
