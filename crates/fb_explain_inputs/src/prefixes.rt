@@ -32,11 +32,11 @@ const SHORTEST_MESSAGE: usize = 16;
 /// buffer can be.
 fn count_messages(bytes: &[u8]) -> Option<u64> {
     let mut left = bytes;
-    let mut count = 0;
+    let mut count = 0u64;
     for _turn in 0..bytes.len() {
         match split_prefixed(left) {
             Ok(Some((message, rest))) if message.len() >= SHORTEST_MESSAGE => {
-                count += 1;
+                count = count.saturating_add(1);
                 left = rest;
             }
             Ok(None) => return Some(count),

@@ -29,14 +29,14 @@ pub record HasStruct (L : LaidSchema) (t : TypeId) (ds : Parts) (k : ℕ) (u : T
   pub part : nth_part ds k ≡ Some (a_struct es)
 
 -- the text of a struct's fields from one on and its closing bracket, where so many structs are around it
-abbrev pub fields_text : LaidSchema → Bool → List ℕ → TypeId → Parts → ℕ → ℕ → Bool → List ℕ
+abbrev pub fields_text : LaidSchema → Bool → Option (List ℕ) → TypeId → Parts → ℕ → ℕ → Bool → List ℕ
 fields_text L defaults indent t ds depth k some =
     parts_text L defaults (deeper (suc depth) indent) (deeper depth indent) some
     (drop k (parts_in (body_at L.schema t.0))) (parts_from k ds)
 
 -- So many structs down in a struct, and so many bytes behind its begin, stands another. Behind that one's text stands a
 -- text.
-abbrev pub StandsIn : LaidSchema → Bool → List ℕ → TypeId → Parts → ℕ → ℕ → TypeId → Parts → List ℕ → Type 0
+abbrev pub StandsIn : LaidSchema → Bool → Option (List ℕ) → TypeId → Parts → ℕ → ℕ → TypeId → Parts → List ℕ → Type 0
 StandsIn L defaults indent t ds zero at u es behind = (at ≡ 0) × (t ≡ u) × (ds ≡ es) × (behind ≡ [])
 StandsIn L defaults indent t ds (suc depth) at u es behind =
     (k : ℕ) × (s : TypeId) × (inner : Parts) × (more : ℕ) × (text : List ℕ) × HasStruct L t ds k s inner
@@ -52,26 +52,26 @@ pub record IsStructAt {S : Type 0} (shows : S → LaidSchema → Option Datum �
   pub begin : here.at ≡ at
 
 -- the struct that is printed stands in the outermost
-abbrev pub IsAt : {S : Type 0} → (S → LaidSchema → Option Datum → Type 0) → LaidSchema → Bool → List ℕ → TypeId → Parts
+abbrev pub IsAt : {S : Type 0} → (S → LaidSchema → Option Datum → Type 0) → LaidSchema → Bool → Option (List ℕ) → TypeId → Parts
     → StructCursor S → Parts → List ℕ → Type 0
 IsAt shows L defaults indent t ds here es behind =
     shows here.shown L (Some (a_struct es)) × StandsIn L defaults indent t ds here.depth here.at here.structure es
     behind
 
 -- what is left to print of its text
-abbrev pub left_text : {S : Type 0} → LaidSchema → Bool → List ℕ → StructCursor S → Parts → List ℕ
+abbrev pub left_text : {S : Type 0} → LaidSchema → Bool → Option (List ℕ) → StructCursor S → Parts → List ℕ
 left_text L defaults indent here es = fields_text L defaults indent here.structure es here.depth here.next here.some
 
 -- The printer goes on at a struct in the outermost: once the rest of its text and all text behind it are added too, a
 -- whole text was added.
-abbrev pub GoesOn : {S : Type 0} → (S → LaidSchema → Option Datum → Type 0) → LaidSchema → Bool → List ℕ → TypeId
+abbrev pub GoesOn : {S : Type 0} → (S → LaidSchema → Option Datum → Type 0) → LaidSchema → Bool → Option (List ℕ) → TypeId
     → Parts → StructCursor S → State → State → List ℕ → Type 0
 GoesOn shows L defaults indent t ds here old new text =
     (es : Parts) × (behind : List ℕ) × IsAt shows L defaults indent t ds here es behind
     × ((end : State) → Adds new end (left_text L defaults indent here es ++ behind) → Adds old end text)
 
 -- The printer goes on somewhere, or a whole text was added.
-abbrev pub IsNext : {S : Type 0} → (S → LaidSchema → Option Datum → Type 0) → LaidSchema → Bool → List ℕ → TypeId
+abbrev pub IsNext : {S : Type 0} → (S → LaidSchema → Option Datum → Type 0) → LaidSchema → Bool → Option (List ℕ) → TypeId
     → Parts → Option (StructCursor S) → State → State → List ℕ → Type 0
 IsNext shows L defaults indent t ds None old new text = Adds old new text
 IsNext shows L defaults indent t ds (Some here) old new text = GoesOn shows L defaults indent t ds here old new text

@@ -41,19 +41,19 @@ is_entry_printed defaults f None = false
 is_entry_printed defaults f (Some d) = is_printed defaults f d
 
 -- the text of a slot: nothing for one without an entry
-abbrev pub slot_text : LaidSchema → Bool → List ℕ → Bool → DeclaredField → Option Datum → List ℕ
+abbrev pub slot_text : LaidSchema → Bool → Option (List ℕ) → Bool → DeclaredField → Option Datum → List ℕ
 slot_text L defaults inner some f None = []
 slot_text L defaults inner some f (Some d) =
     entry_text L.schema (is_printed defaults f d) inner some f.name f.shape d
     (value_text L defaults inner f.shape d)
 
 -- a name and its value, on a line of its own
-abbrev pub named_text : LaidSchema → Bool → List ℕ → Bool → DeclaredField → Datum → List ℕ
+abbrev pub named_text : LaidSchema → Bool → Option (List ℕ) → Bool → DeclaredField → Datum → List ℕ
 named_text L defaults inner some f d =
     member_line inner some f.name [] ++ value_text L defaults inner f.shape d
 
 -- the text of a struct's field
-abbrev pub part_text : LaidSchema → Bool → List ℕ → Bool → DeclaredField → Option Datum → List ℕ
+abbrev pub part_text : LaidSchema → Bool → Option (List ℕ) → Bool → DeclaredField → Option Datum → List ℕ
 part_text L defaults inner some f None = []
 part_text L defaults inner some f (Some d) = named_text L defaults inner some f d
 

@@ -1,7 +1,8 @@
--- The JSON text of a value: strict JSON, two blanks an indent, one member or element a line.
+-- The JSON text of a value: strict JSON, with two blanks an indent and one member or element a line, or compact: without
+-- blanks and line feeds outside strings.
 -- From the FlatBuffers documentation, "JSON parsing" (text output) and RFC 8259 (strings).
 use Rattle.std.specs.Prelude.{ℕ, zero, suc, ◌+◌, ◌/◌, ◌%◌, ◌==◌, ◌&&◌, ◌||◌, ℤ, pos, negsuc, List, [], ◌∷◌, ◌++◌, Bool}
-use Rattle.std.specs.Prelude.{true, false, not, Option, codes, is_some, option_map, slice_get, if◌then◌else◌}
+use Rattle.std.specs.Prelude.{true, false, not, Option, None, Some, codes, is_some, option_map, slice_get, if◌then◌else◌}
 use Rattle.std.specs.Fmt.{signed_decimal}
 use Rattle.std.specs.Option.{option_map_or, unwrap_or}
 use Rattle.std.specs.Ordering.{int_eq}
@@ -18,6 +19,8 @@ use Rattle.fb_layout.specs.Laid.{LaidSchema}
 use Rattle.fb_value.specs.Datum.{Datum, a_number, a_text, a_vector, a_struct, a_table, a_member, Parts, no_parts}
 use Rattle.fb_value.specs.Datum.{more_parts, SlotEntries, absent_entry, present_entry}
 use Rattle.fb_json.specs.EnumTexts.{has_flags}
+use Rattle.fb_text.specs.declared.indents.Spacing.{Spacing}
+use Rattle.fb_text.specs.declared.indents.Spacing.TheVariants.{Indented, Compact}
 
 -- ---- numbers
 
@@ -71,21 +74,36 @@ number_text S kind n = signed_decimal n
 
 -- ---- lines
 
--- in front of a member or an element: a comma behind an earlier one, a new line and its indent
-abbrev pub line : List ℕ → Bool → List ℕ
-line indent some = (if some then codes ",\n" else codes "\n") ++ indent
-
--- in front of a closing bracket, where something stands before it
-abbrev pub closing : List ℕ → Bool → List ℕ
-closing indent some = if some then codes "\n" ++ indent else []
+-- The indent of a line is its blanks; a compact text has no lines, so none has an indent.
+abbrev pub edge : Spacing → Option (List ℕ)
+edge Indented = Some []
+edge Compact = None
 
 -- two blanks more
-abbrev pub inside : List ℕ → List ℕ
-inside indent = indent ++ codes "  "
+abbrev pub inside : Option (List ℕ) → Option (List ℕ)
+inside indent = option_map (λ blanks. blanks ++ codes "  ") indent
+
+-- a new line and its indent
+abbrev pub new_line : Option (List ℕ) → List ℕ
+new_line None = []
+new_line (Some blanks) = codes "\n" ++ blanks
+
+-- in front of a member or an element: a comma behind an earlier one, and a new line
+abbrev pub line : Option (List ℕ) → Bool → List ℕ
+line indent some = (if some then codes "," else []) ++ new_line indent
+
+-- in front of a closing bracket, where something stands before it
+abbrev pub closing : Option (List ℕ) → Bool → List ℕ
+closing indent some = if some then new_line indent else []
+
+-- behind a member's name: its quote, a colon, and where there are lines a blank
+abbrev pub colon : Option (List ℕ) → List ℕ
+colon None = codes "\":"
+colon (Some blanks) = codes "\": "
 
 -- the line of a member, up to its value
-abbrev pub member_line : List ℕ → Bool → Name → List ℕ → List ℕ
-member_line indent some name behind = line indent some ++ (codes "\"" ++ (name ++ (behind ++ codes "\": ")))
+abbrev pub member_line : Option (List ℕ) → Bool → Name → List ℕ → List ℕ
+member_line indent some name behind = line indent some ++ (codes "\"" ++ (name ++ (behind ++ colon indent)))
 
 -- ---- members
 
@@ -100,7 +118,7 @@ member_name body zero = []
 member_name body (suc k) = unwrap_or (option_map (λ m. m.0) (slice_get (members_in body) k)) []
 
 -- a union's code, in front of its member: of a field `x` its member is called `x_type`
-abbrev pub code_text : DeclaredSchema → List ℕ → Bool → Name → Shape → Datum → List ℕ
+abbrev pub code_text : DeclaredSchema → Option (List ℕ) → Bool → Name → Shape → Datum → List ℕ
 code_text S indent some name (One (Union u)) (a_member c d) =
     member_line indent some name (codes "_type") ++ in_quotes (member_name (body_at S u.0) c)
 code_text S indent some name _ _ = []
@@ -110,7 +128,7 @@ has_code (One (Union u)) (a_member c d) = true
 has_code _ _ = false
 
 -- one member, if it is printed
-abbrev pub entry_text : DeclaredSchema → Bool → List ℕ → Bool → Name → Shape → Datum → List ℕ → List ℕ
+abbrev pub entry_text : DeclaredSchema → Bool → Option (List ℕ) → Bool → Name → Shape → Datum → List ℕ → List ℕ
 entry_text S false indent some name shape d value = []
 entry_text S true indent some name shape d value =
     code_text S indent some name shape d ++ (member_line indent (some || has_code shape d) name [] ++ value)
@@ -119,7 +137,7 @@ entry_text S true indent some name shape d value =
 
 -- A list of members or elements is those that are still to be written, and the closing bracket.
 abbrev mutual
-  pub value_text : LaidSchema → Bool → List ℕ → Shape → Datum → List ℕ
+  pub value_text : LaidSchema → Bool → Option (List ℕ) → Shape → Datum → List ℕ
   value_text L defaults indent (One kind) (a_number n) = number_text L.schema kind n
   value_text L defaults indent shape (a_text bytes) = quoted bytes
   value_text L defaults indent (Many kind) (a_vector ds) =
@@ -131,24 +149,30 @@ abbrev mutual
   value_text L defaults indent shape (a_member c d) = value_text L defaults indent shape d
   value_text L defaults indent _ _ = []
 
-  pub items_text : LaidSchema → Bool → List ℕ → List ℕ → Kind → Bool → Parts → List ℕ
+  pub items_text : LaidSchema → Bool → Option (List ℕ) → Option (List ℕ) → Kind → Bool → Parts → List ℕ
   items_text L defaults inner indent kind some no_parts = closing indent some ++ codes "]"
   items_text L defaults inner indent kind some (more_parts d ds) =
       line inner some ++ (value_text L defaults inner (One kind) d ++ items_text L defaults inner indent kind true ds)
 
-  pub parts_text : LaidSchema → Bool → List ℕ → List ℕ → Bool → List DeclaredField → Parts → List ℕ
+  pub parts_text : LaidSchema → Bool → Option (List ℕ) → Option (List ℕ) → Bool → List DeclaredField → Parts → List ℕ
   parts_text L defaults inner indent some (f ∷ fs) (more_parts d ds) =
       member_line inner some f.name []
       ++ (value_text L defaults inner f.shape d ++ parts_text L defaults inner indent true fs ds)
   parts_text L defaults inner indent some _ _ = closing indent some ++ codes "}"
 
-  pub members_text : LaidSchema → Bool → List ℕ → List ℕ → Bool → List DeclaredField → SlotEntries → List ℕ
+  pub members_text : LaidSchema → Bool → Option (List ℕ) → Option (List ℕ) → Bool → List DeclaredField → SlotEntries
+      → List ℕ
   members_text L defaults inner indent some (f ∷ fs) (present_entry d es) =
       entry_text L.schema (is_printed defaults f d) inner some f.name f.shape d (value_text L defaults inner f.shape d)
       ++ members_text L defaults inner indent (some || is_printed defaults f d) fs es
   members_text L defaults inner indent some (f ∷ fs) (absent_entry es) = members_text L defaults inner indent some fs es
   members_text L defaults inner indent some _ _ = closing indent some ++ codes "}"
 
--- the text of a value of the root table, with a line feed at its end
+-- the text of a value of the root table; where there are lines, with a line feed at its end
+abbrev pub spaced_text : Spacing → LaidSchema → Bool → Datum → List ℕ
+spaced_text spacing L defaults d =
+    value_text L defaults (edge spacing) (One (Table (record { 0 = L.schema.root }))) d ++ new_line (edge spacing)
+
+-- the indented text
 abbrev pub json_text : LaidSchema → Bool → Datum → List ℕ
-json_text L defaults d = value_text L defaults [] (One (Table (record { 0 = L.schema.root }))) d ++ codes "\n"
+json_text L defaults d = spaced_text Indented L defaults d

@@ -1,4 +1,13 @@
-//! How far lines are indented.
+//! Which blanks and line feeds stand between the values of a text.
+
+/// How a JSON text is spaced.
+#[derive(Clone, Copy, Drop)]
+pub enum Spacing {
+    /// Two blanks an indent, one member or element a line, and a line feed at the end.
+    Indented,
+    /// No blanks and no line feeds outside strings, also none at the end.
+    Compact,
+}
 
 /// How far a line is indented, in levels of two blanks.
 #[derive(Clone, Copy)]
@@ -6,18 +15,23 @@ pub(crate) enum Indent<'a> {
     Levels(u64),
     /// So many levels deeper than another, where no `u64` has the sum.
     Deeper(&'a Indent<'a>, u64),
+    /// There are no lines.
+    Compact,
 }
 
 impl Indent<'_> {
-    ghost use Rattle.std.specs.Prelude.{◌≡◌, []};
+    ghost use Rattle.std.specs.Prelude.{◌≡◌};
     ghost use Rattle.fb_text.specs.Indents.{blanks, deeper};
-    ghost use Rattle.fb_text.specs.Texts.{inside};
+    ghost use Rattle.fb_text.specs.Texts.{edge, inside};
 
     /// No blanks.
-    pub(crate) fn edge() -> Indent<'static>
-        ensures { blanks result ≡ [] }
+    pub(crate) fn edge(spacing: Spacing) -> Indent<'static>
+        ensures { blanks result ≡ edge spacing }
     {
-        Indent::Levels(0)
+        match spacing {
+            Spacing::Indented => Indent::Levels(0),
+            Spacing::Compact => Indent::Compact,
+        }
     }
 
     /// So many levels deeper.
@@ -27,7 +41,9 @@ impl Indent<'_> {
     {
         match self {
             Indent::Levels(outer) if *outer <= u64::MAX - levels => Indent::Levels(*outer + levels),
-            _ => Indent::Deeper(self, levels),
+            Indent::Levels(_) => Indent::Deeper(self, levels),
+            Indent::Deeper(_, _) => Indent::Deeper(self, levels),
+            Indent::Compact => Indent::Compact,
         }
     }
 

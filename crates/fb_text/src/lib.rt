@@ -21,6 +21,7 @@ mod unnamed;
 mod values;
 
 pub use faults::{TextFault, WriteFault};
-pub use laws::texts_are_utf8;
+pub use indents::Spacing;
+pub use laws::{spaced_texts_are_utf8, texts_are_utf8};
 pub use noted::Noted;
-pub use text::{text_of, write_text};
+pub use text::{spaced_text_of, text_of, write_spaced, write_text};

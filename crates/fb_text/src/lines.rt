@@ -1,7 +1,8 @@
 //! The lines of a JSON text.
-ghost use Rattle.std.specs.Prelude.{◌++◌, [], codes, if◌then◌else◌};
-ghost use Rattle.fb_text.specs.Indents.{blanks, deeper};
-ghost use Rattle.fb_text.specs.Texts.{line, closing, member_line, in_quotes};
+ghost use Rattle.std.specs.Prelude.{◌≡◌, ◌++◌, [], codes, Some, if◌then◌else◌};
+ghost use Rattle.std.specs.Option.{unwrap_or};
+ghost use Rattle.fb_text.specs.Indents.{blanks, levels_blanks};
+ghost use Rattle.fb_text.specs.Texts.{line, closing, colon, member_line, in_quotes};
 ghost use Rattle.fb_text.specs.Writes.{Prints};
 
 use crate::indents::Indent;
@@ -10,7 +11,7 @@ use std::io::Write;
 
 /// Adds the blanks of so many levels, up to 32 of them in one piece.
 fn put_levels<W: Write>(out: &mut Noted<W>, levels: u64)
-    ensures { Prints W.contents out.old out.new (deeper levels []) }
+    ensures { Prints W.contents out.old out.new (levels_blanks levels) }
 {
     let blanks = b"                                                                ";
     let mut left = levels;
@@ -24,9 +25,10 @@ fn put_levels<W: Write>(out: &mut Noted<W>, levels: u64)
 /// Adds the blanks of an indent.
 #[tactic(auto, using(crate::proofs::noted::PiecesAddUp::added_then))]
 fn put_blanks<W: Write>(out: &mut Noted<W>, indent: &Indent)
-    ensures { Prints W.contents out.old out.new (blanks indent.now) }
+    ensures { Prints W.contents out.old out.new (unwrap_or (blanks indent.now) []) }
 {
     match indent {
+        Indent::Compact => {}
         Indent::Levels(levels) => put_levels(out, *levels),
         Indent::Deeper(outer, levels) => {
             put_blanks(out, outer);
@@ -35,11 +37,14 @@ fn put_blanks<W: Write>(out: &mut Noted<W>, indent: &Indent)
     }
 }
 
-/// Adds what is in front of a member or an element, in two pieces or more.
+/// Adds a comma, if something is in front, and a new line with its indent, if there are lines.
 #[tactic(auto, using(crate::proofs::noted::PiecesAddUp::added_then))]
 fn put_far_line<W: Write>(out: &mut Noted<W>, indent: &Indent, some: bool)
     ensures { Prints W.contents out.old out.new (line (blanks indent.now) some) }
 {
+    if let Indent::Compact = indent {
+        return out.put_str(if some { "," } else { "" });
+    }
     out.put_str(if some { ",\n" } else { "\n" });
     put_blanks(out, indent);
 }
@@ -61,7 +66,7 @@ pub(crate) fn put_line<W: Write>(out: &mut Noted<W>, indent: &Indent, some: bool
     }
 }
 
-/// Adds what is in front of a member's name, its quote included, in three pieces or more.
+/// Adds what is in front of a member's name, its quote included, in two pieces or more.
 #[tactic(auto, using(crate::proofs::noted::PiecesAddUp::added_then))]
 fn put_far_line_to_name<W: Write>(out: &mut Noted<W>, indent: &Indent, some: bool)
     ensures { Prints W.contents out.old out.new (line (blanks indent.now) some ++ codes "\"") }
@@ -71,13 +76,10 @@ fn put_far_line_to_name<W: Write>(out: &mut Noted<W>, indent: &Indent, some: boo
 }
 
 /// Adds what is in front of a member's name, its quote included: few levels in one piece.
-fn put_line_to_name<W: Write>(out: &mut Noted<W>, indent: &Indent, some: bool)
-    ensures { Prints W.contents out.old out.new (line (blanks indent.now) some ++ codes "\"") }
+fn put_line_to_name<W: Write>(out: &mut Noted<W>, levels: u64, some: bool)
+    ensures { Prints W.contents out.old out.new (line (Some (levels_blanks levels)) some ++ codes "\"") }
 {
-    let Indent::Levels(levels) = indent else {
-        return put_far_line_to_name(out, indent, some);
-    };
-    match *levels {
+    match levels {
         0 => out.put_str(if some { ",\n\"" } else { "\n\"" }),
         1 => out.put_str(if some { ",\n  \"" } else { "\n  \"" }),
         2 => out.put_str(if some { ",\n    \"" } else { "\n    \"" }),
@@ -87,8 +89,36 @@ fn put_line_to_name<W: Write>(out: &mut Noted<W>, indent: &Indent, some: bool)
         } else {
             "\n        \""
         }),
-        _ => put_far_line_to_name(out, indent, some),
+        _ => put_far_line_to_name(out, &Indent::Levels(levels), some),
     }
+}
+
+/// What stands behind a member's name.
+fn colon(indent: &Indent) -> &'static str
+    ensures { result.now ≡ colon (blanks indent.now) }
+{
+    match indent {
+        Indent::Levels(_) | Indent::Deeper(_, _) => "\": ",
+        Indent::Compact => "\":",
+    }
+}
+
+/// Adds the line of a member up to its value, in four pieces or more.
+#[tactic(auto, using(crate::proofs::noted::PiecesAddUp::added_then))]
+fn put_far_member_line<W: Write>(
+    out: &mut Noted<W>,
+    indent: &Indent,
+    some: bool,
+    name: &str,
+    is_code: bool,
+)
+    ensures { Prints W.contents out.old out.new
+        (member_line (blanks indent.now) some name.now (if is_code then codes "_type" else [])) }
+{
+    put_far_line_to_name(out, indent, some);
+    out.put_str(name);
+    out.put_str(if is_code { "_type" } else { "" });
+    out.put_str(colon(indent));
 }
 
 /// Adds what is in front of a closing bracket.
@@ -112,7 +142,10 @@ pub(crate) fn put_member_line<W: Write>(
     ensures { Prints W.contents out.old out.new
         (member_line (blanks indent.now) some name.now (if is_code then codes "_type" else [])) }
 {
-    put_line_to_name(out, indent, some);
+    let Indent::Levels(levels) = indent else {
+        return put_far_member_line(out, indent, some, name, is_code);
+    };
+    put_line_to_name(out, *levels, some);
     out.put_str(name);
     out.put_str(if is_code { "_type\": " } else { "\": " });
 }

@@ -173,7 +173,7 @@ pub(crate) fn parent_of<S: Shown>(
     ensures light { S.weight result.shown ≤ S.weight shown }
     ensures up { result.depth + 1 ≡ inner.depth }
     ensures left { result.left ≡ inner.left }
-    ensures parent { (defaults : Bool) (indent : List ℕ) (ds es : Parts) (behind : List ℕ)
+    ensures parent { (defaults : Bool) (indent : Option (List ℕ)) (ds es : Parts) (behind : List ℕ)
         → S.shows shown layout.now (Some (a_struct ds))
         → StandsIn layout.now defaults indent structure ds inner.depth inner.at inner.structure es behind
         → (around : Parts) × (rest : List ℕ)

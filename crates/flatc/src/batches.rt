@@ -1,17 +1,15 @@
 //! A task over many files, each for itself, under one schema.
 use crate::explained::explain_refusal;
 use crate::faults::{Buffer, read_fault, write_fault};
-use crate::{limits, tell};
+use crate::flags::Flags;
+use crate::{layout_of, tell, verified};
 use clap::Error;
 use clap::error::ErrorKind;
-use flatc_cli::{Batch, RunStatus, Task, usage_error};
+use flatc_cli::{Batch, Form, RunStatus, Task, usage_error};
 use flatc_files::{
     Content, Misuse, Progress, Reasoned, Target, Texts, directory_of, targets_of, write_file,
 };
-use flatc_tool::{
-    DecodeOptions, EncodeOptions, Entries, Layout, Noted, ToolFault, decode_to, encode_owned,
-    schema_of, verify,
-};
+use flatc_tool::{DecodeOptions, Layout, Noted, ToolFault, decode_to, encode_owned};
 use std::alloc::AllocError;
 use std::fs;
 use std::io::{self, ErrorKind as IoErrorKind, Write};
@@ -54,28 +52,15 @@ fn job_name(task: &Task) -> &'static str {
     }
 }
 
-/// The flags that change what is refused: unknown JSON fields, and raw bytes.
-fn flags_of(task: &Task) -> (bool, bool) {
-    match task {
-        Task::Binary { unknown, .. } => (*unknown, false),
-        Task::Json { raw, .. } | Task::Check { raw } => (false, *raw),
-    }
-}
-
 fn write_buffer<'j>(
     rt: &HostRuntime,
     layout: &Layout,
     texts: &mut Texts<'j>,
     target: &'j Target,
-    unknown_json: bool,
+    flags: Flags,
 ) -> Result<(), ToolFault> {
-    let options = EncodeOptions {
-        limits: limits(),
-        unknown_json,
-        size_prefixed: false,
-    };
     let json = texts.input.give(rt);
-    let buffer = encode_owned(rt.alloc(), layout, json, &options)?;
+    let buffer = encode_owned(rt.alloc(), layout, json, &flags.encode_options())?;
     match write_file(rt, target, &mut Buffer(buffer.as_slice())) {
         Ok(()) => Ok(()),
         Err(error) => Err(write_fault(rt, texts, target.path.as_str(), &error)),
@@ -87,18 +72,12 @@ fn write_text<'j>(
     layout: &Layout,
     texts: &mut Texts<'j>,
     target: &'j Target,
-    (raw_binary, defaults_json): (bool, bool),
+    flags: Flags,
 ) -> Result<(), ToolFault> {
     let mut printed = Printed {
         layout,
         bytes: texts.input.bytes.as_slice(),
-        options: DecodeOptions {
-            limits: limits(),
-            raw_binary,
-            defaults_json,
-            size_prefixed: false,
-            compact: false,
-        },
+        options: flags.decode_options(),
         fault: None,
     };
     let done = write_file(rt, target, &mut printed);
@@ -109,17 +88,10 @@ fn write_text<'j>(
     }
 }
 
-fn check_buffer(layout: &Layout, bytes: &[u8], raw: bool) -> Result<(), ToolFault> {
-    match verify(layout, bytes, limits(), raw, &mut Entries::new()) {
-        Ok(_view) => Ok(()),
-        Err(fault) => Err(ToolFault::Read(fault)),
-    }
-}
-
 /// Does the task at one file.
 fn do_file<'j>(
     rt: &HostRuntime,
-    task: &Task,
+    (task, form): (&Task, Form),
     layout: &Layout,
     texts: &mut Texts<'j>,
     file: &'j str,
@@ -127,14 +99,11 @@ fn do_file<'j>(
 ) -> Result<(), ToolFault> {
     texts.forget(rt);
     texts.read_input(rt, file).map_err(read_fault)?;
+    let flags = Flags::of_task(task, form);
     match (task, target) {
-        (Task::Check { raw }, _) => check_buffer(layout, texts.input.bytes.as_slice(), *raw),
-        (Task::Binary { unknown, .. }, Some(target)) => {
-            write_buffer(rt, layout, texts, target, *unknown)
-        }
-        (Task::Json { raw, defaults, .. }, Some(target)) => {
-            write_text(rt, layout, texts, target, (*raw, *defaults))
-        }
+        (Task::Check { .. }, _) => verified(layout, texts.input.bytes.as_slice(), flags),
+        (Task::Binary { .. }, Some(target)) => write_buffer(rt, layout, texts, target, flags),
+        (Task::Json { .. }, Some(target)) => write_text(rt, layout, texts, target, flags),
         // Each file of these tasks has a target.
         (_, None) => Err(ToolFault::FileWrite),
     }
@@ -159,7 +128,7 @@ fn check_directory<'j>(
 }
 
 /// The layout that all files are read under.
-fn layout_of<'j>(
+fn batch_layout<'j>(
     rt: &HostRuntime,
     batch: &'j Batch,
     texts: &mut Texts<'j>,
@@ -167,23 +136,20 @@ fn layout_of<'j>(
     check_directory(rt, &batch.task, texts)?;
     let schema = batch.schema.as_str();
     texts.read_schema(rt, schema).map_err(read_fault)?;
-    match schema_of(rt.alloc(), texts.schema.bytes.as_slice()) {
-        Ok(layout) => Ok(layout),
-        Err(fault) => Err(ToolFault::Schema(fault)),
-    }
+    layout_of(rt, texts)
 }
 
 /// Reports a refusal, and explains it if that is asked for.
 fn refuse(
     rt: &HostRuntime,
-    task: &Task,
+    flags: Flags,
     texts: &mut Texts<'_>,
     fault: ToolFault,
     explained: bool,
 ) -> u8 {
     let status = tell(rt, Err(fault));
     if explained {
-        explain_refusal(rt, flags_of(task), texts, fault);
+        explain_refusal(rt, flags, texts, fault);
     }
     status
 }
@@ -199,7 +165,7 @@ fn tell_path(rt: &HostRuntime, file: &str) {
 /// go on. The status is 1 where one was refused.
 fn do_files<'j>(
     rt: &HostRuntime,
-    batch: &'j Batch,
+    (batch, form): (&'j Batch, Form),
     targets: &'j [Target],
     layout: &Layout,
     texts: &mut Texts<'j>,
@@ -211,7 +177,7 @@ fn do_files<'j>(
         progress.show(rt, at);
         let answer = do_file(
             rt,
-            &batch.task,
+            (&batch.task, form),
             layout,
             texts,
             file.as_str(),
@@ -221,7 +187,8 @@ fn do_files<'j>(
         if let Err(fault) = answer {
             progress.clear(rt);
             tell_path(rt, file.as_str());
-            let _refused = refuse(rt, &batch.task, texts, fault, explained);
+            let flags = Flags::of_task(&batch.task, form);
+            let _refused = refuse(rt, flags, texts, fault, explained);
         }
     }
     progress.clear(rt);
@@ -229,13 +196,19 @@ fn do_files<'j>(
 }
 
 /// Does a batch whose outputs are known, and returns the status.
-fn do_all<'j>(rt: &HostRuntime, batch: &'j Batch, targets: &'j [Target], explained: bool) -> u8 {
+fn do_all<'j>(
+    rt: &HostRuntime,
+    (batch, form): (&'j Batch, Form),
+    targets: &'j [Target],
+    explained: bool,
+) -> u8 {
     let mut texts = Texts::new(rt, explained);
-    let layout = match layout_of(rt, batch, &mut texts) {
+    let flags = Flags::of_task(&batch.task, form);
+    let layout = match batch_layout(rt, batch, &mut texts) {
         Ok(layout) => layout,
-        Err(fault) => return refuse(rt, &batch.task, &mut texts, fault, explained),
+        Err(fault) => return refuse(rt, flags, &mut texts, fault, explained),
     };
-    let status = do_files(rt, batch, targets, &layout, &mut texts, explained);
+    let status = do_files(rt, (batch, form), targets, &layout, &mut texts, explained);
     match &batch.task {
         Task::Check { .. } if status == 0 => { tell(rt, Ok("ok\n")) }
         _ => status,
@@ -243,9 +216,14 @@ fn do_all<'j>(rt: &HostRuntime, batch: &'j Batch, targets: &'j [Target], explain
 }
 
 /// Does a batch, and returns the status; a usage error where its outputs can't be named.
-pub(crate) fn do_batch(rt: &HostRuntime, batch: &Batch, explained: bool) -> Result<u8, Error> {
+pub(crate) fn do_batch(
+    rt: &HostRuntime,
+    batch: &Batch,
+    form: Form,
+    explained: bool,
+) -> Result<u8, Error> {
     match targets_of(rt, batch) {
-        Ok(targets) => Ok(do_all(rt, batch, targets.as_slice(), explained)),
+        Ok(targets) => Ok(do_all(rt, (batch, form), targets.as_slice(), explained)),
         Err(Misuse::Memory) => Err(Error::from(AllocError)),
         Err(Misuse::Said(said)) => Err(usage_error(
             rt.alloc(),

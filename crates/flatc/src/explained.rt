@@ -1,4 +1,5 @@
 //! What is printed of a refusal where an explanation is asked for.
+use crate::flags::Flags;
 use crate::limits;
 use crate::terminal::{columns, print_explanation};
 use fb_explain::{FileFailure, Lost, Source, Sources, explain, fault_page, warnings};
@@ -9,15 +10,6 @@ use std::alloc::AllocError;
 use std::io;
 
 const USAGE: u8 = 2;
-
-/// The flags that change what is refused: unknown JSON fields, and raw bytes.
-pub(crate) fn flags_of(job: &Job) -> (bool, bool) {
-    match job {
-        Job::Binary { unknown, .. } => (*unknown, false),
-        Job::Json { raw, .. } | Job::Check { raw, .. } => (false, *raw),
-        Job::Conform { .. } => (false, false),
-    }
-}
 
 fn source_of<'a>(input: &'a Input<'_>) -> Source<'a> {
     Source {
@@ -56,7 +48,7 @@ fn unquoted(gone: Gone) -> Lost {
 /// The lines that explain a refusal.
 fn explanation(
     rt: &HostRuntime,
-    (unknown_json, raw_binary): (bool, bool),
+    flags: Flags,
     texts: &mut Texts<'_>,
     fault: ToolFault,
 ) -> Result<String, AllocError> {
@@ -70,19 +62,19 @@ fn explanation(
         input: source_of(&texts.input),
         lost,
         limits: limits(),
-        unknown_json,
-        raw_binary,
-        size_prefixed: false,
+        unknown_json: flags.unknown_json,
+        raw_binary: flags.raw_binary,
+        size_prefixed: flags.form.size_prefixed,
         columns: columns(rt),
         failure: file_failure(texts),
     };
     explain(rt.alloc(), &fault, &sources)
 }
 
-/// Prints what explains a refusal under the flags of `flags_of`; nothing where memory runs out.
+/// Prints what explains a refusal under the flags of a line; nothing where memory runs out.
 pub(crate) fn explain_refusal(
     rt: &HostRuntime,
-    flags: (bool, bool),
+    flags: Flags,
     texts: &mut Texts<'_>,
     fault: ToolFault,
 ) {

@@ -9,6 +9,7 @@ fn hint_of(word: &str) -> Option<&'static str> {
         "--schema" => "to check a schema, use: flatc check SCHEMA",
         "-I" | "--conform-includes" =>
             "include isn't supported: put all declarations into one text",
+        "--annotate" => "to see what the bytes of a buffer are, use: flatc inspect SCHEMA BIN",
         "--strict-json" => "JSON is always strict: flatc json SCHEMA BIN",
         "--cpp"
         | "-c"

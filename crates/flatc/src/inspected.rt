@@ -1,7 +1,10 @@
 //! What is printed of the bytes of a buffer.
+use crate::explained::explain_refusal;
 use crate::faults::read_fault;
-use crate::{limits, read_both};
+use crate::flags::Flags;
+use crate::{limits, read_both, tell};
 use fb_inspect::{Listing, header_lines};
+use flatc_cli::Inspection;
 use flatc_files::{Reasoned, Texts};
 use flatc_tool::{Entries, ToolFault, WriteFault, schema_of, verify_framed};
 use std::io::Write;
@@ -94,7 +97,7 @@ fn print_listing(
 /// Prints what the bytes of a buffer are under a schema, line by line.
 ///
 /// A damaged buffer is listed up to its fault, which is returned.
-pub(crate) fn inspect_file<'j>(
+fn inspect_file<'j>(
     rt: &HostRuntime,
     texts: &mut Texts<'j>,
     paths: [&'j str; 2],
@@ -106,7 +109,7 @@ pub(crate) fn inspect_file<'j>(
 }
 
 /// Prints what the header of a file says, without a schema.
-pub(crate) fn inspect_header<'j>(
+fn inspect_header<'j>(
     rt: &HostRuntime,
     texts: &mut Texts<'j>,
     path: &'j str,
@@ -125,5 +128,35 @@ pub(crate) fn inspect_header<'j>(
         Ok(())
     } else {
         Err(ToolFault::Write(WriteFault::WriteFailed(written)))
+    }
+}
+
+/// Shows what the bytes of a buffer are, and returns the status.
+pub(crate) fn inspect(rt: &HostRuntime, inspection: &Inspection, is_explained: bool) -> u8 {
+    let mut texts = Texts::new(rt, is_explained);
+    let answer = match inspection {
+        Inspection::Bytes {
+            schema,
+            bin,
+            raw,
+            size_prefixed,
+        } => inspect_file(
+            rt,
+            &mut texts,
+            [schema.as_str(), bin.as_str()],
+            *raw,
+            *size_prefixed,
+        ),
+        Inspection::Header { bin } => inspect_header(rt, &mut texts, bin.as_str()),
+    };
+    match answer {
+        Ok(()) => 0,
+        Err(fault) => {
+            let status = tell(rt, Err(fault));
+            if is_explained {
+                explain_refusal(rt, Flags::of_inspection(inspection), &mut texts, fault);
+            }
+            status
+        }
     }
 }

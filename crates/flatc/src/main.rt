@@ -7,23 +7,28 @@ ghost use Rattle.flatc_tool.specs.Options.{usual_limits};
 mod batches;
 mod explained;
 mod faults;
+mod flags;
 mod hints;
 mod inspected;
+mod messages;
 mod terminal;
 
 use crate::batches::do_batch;
-use crate::explained::{explain_number, explain_refusal, flags_of, list_numbers, warn};
+use crate::explained::{explain_number, explain_refusal, list_numbers, warn};
 use crate::faults::{Buffer, read_fault, write_fault};
+use crate::flags::{Flags, USUAL};
 use crate::hints::hint_for;
+use crate::inspected::inspect;
+use crate::messages::do_stream;
 use crate::terminal::is_explained;
 use clap::Error;
 use clap::error::ErrorKind;
-use flatc_cli::{Job, Request, request_of};
+use flatc_cli::{Batch, Form, Job, Request, request_of};
 use flatc_files::{Reasoned, Texts, write_out};
 use flatc_tool::command::report_noted;
 use flatc_tool::{
-    EncodeOptions, Limits, Noted, ToolFault, check, conform_names, conform_texts, encode_owned,
-    print_to, schema_of, to_binary, to_json,
+    EncodeOptions, Entries, Layout, Limits, Noted, ToolFault, conform_names, conform_texts,
+    decode_to, encode_owned, schema_of, to_binary, to_json, verify_framed,
 };
 use std::alloc::Global;
 use std::process::ExitCode;
@@ -66,22 +71,29 @@ fn example(alloc: Global) -> Result<String, ToolFault> {
     to_json(alloc, SCHEMA, bytes.as_slice(), limits(), false, false)
 }
 
-/// The buffer of the JSON text that was read.
-fn buffer_of(
-    rt: &HostRuntime,
-    texts: &mut Texts<'_>,
-    unknown_json: bool,
-) -> Result<Vec<u8>, ToolFault> {
-    let json = texts.input.give(rt);
-    let options = EncodeOptions {
-        limits: limits(),
-        unknown_json,
-        size_prefixed: false,
-    };
+/// The layout of the schema text that was read.
+pub(crate) fn layout_of(rt: &HostRuntime, texts: &Texts<'_>) -> Result<Layout, ToolFault> {
     match schema_of(rt.alloc(), texts.schema.bytes.as_slice()) {
-        Ok(layout) => encode_owned(rt.alloc(), &layout, json, &options),
+        Ok(layout) => Ok(layout),
         Err(fault) => Err(ToolFault::Schema(fault)),
     }
+}
+
+/// That a buffer holds a value.
+pub(crate) fn verified(layout: &Layout, bytes: &[u8], flags: Flags) -> Result<(), ToolFault> {
+    let raw = flags.raw_binary;
+    let prefixed = flags.form.size_prefixed;
+    match verify_framed(layout, bytes, limits(), raw, prefixed, &mut Entries::new()) {
+        Ok(_view) => Ok(()),
+        Err(fault) => Err(ToolFault::Read(fault)),
+    }
+}
+
+/// The buffer of the JSON text that was read.
+fn buffer_of(rt: &HostRuntime, texts: &mut Texts<'_>, flags: Flags) -> Result<Vec<u8>, ToolFault> {
+    let json = texts.input.give(rt);
+    let layout = layout_of(rt, texts)?;
+    encode_owned(rt.alloc(), &layout, json, &flags.encode_options())
 }
 
 /// Reads a schema, and what is under it or compared with it.
@@ -98,11 +110,11 @@ fn write_buffer<'j>(
     rt: &HostRuntime,
     texts: &mut Texts<'j>,
     paths: [&'j str; 3],
-    unknown: bool,
+    flags: Flags,
 ) -> Result<(), ToolFault> {
     let [schema, json, out] = paths;
     read_both(rt, texts, [schema, json])?;
-    let buffer = buffer_of(rt, texts, unknown)?;
+    let buffer = buffer_of(rt, texts, flags)?;
     match write_out(rt, out, &mut Buffer(buffer.as_slice()), [schema, json]) {
         Ok(()) => Ok(()),
         Err(error) => Err(write_fault(rt, texts, out, &error)),
@@ -111,16 +123,11 @@ fn write_buffer<'j>(
 
 // The page that is written at once is as large, so no other job has it in its frame.
 #[inline(never)]
-fn print_bytes(
-    rt: &HostRuntime,
-    texts: &mut Texts<'_>,
-    raw: bool,
-    defaults: bool,
-) -> Result<(), ToolFault> {
+fn print_bytes(rt: &HostRuntime, texts: &mut Texts<'_>, flags: Flags) -> Result<(), ToolFault> {
+    let layout = layout_of(rt, texts)?;
     let mut out = Noted::over(Reasoned::over(rt.stdout()));
-    let schema = texts.schema.bytes.as_slice();
     let bytes = texts.input.bytes.as_slice();
-    let answer = print_to(rt.alloc(), schema, bytes, limits(), raw, defaults, &mut out);
+    let answer = decode_to(&layout, bytes, &flags.decode_options(), &mut out);
     match (answer, out.into_inner().into_reason()) {
         (Err(fault), Some(error)) => {
             texts.fail(rt, "standard output", &error);
@@ -134,11 +141,10 @@ fn print_buffer<'j>(
     rt: &HostRuntime,
     texts: &mut Texts<'j>,
     paths: [&'j str; 2],
-    raw: bool,
-    defaults: bool,
+    flags: Flags,
 ) -> Result<(), ToolFault> {
     read_both(rt, texts, paths)?;
-    print_bytes(rt, texts, raw, defaults)
+    print_bytes(rt, texts, flags)
 }
 
 fn check_files<'j>(
@@ -146,15 +152,17 @@ fn check_files<'j>(
     texts: &mut Texts<'j>,
     schema_path: &'j str,
     bin: Option<&'j str>,
-    raw: bool,
+    flags: Flags,
 ) -> Result<(), ToolFault> {
     texts.read_schema(rt, schema_path).map_err(read_fault)?;
     if let Some(bin) = bin {
         texts.read_input(rt, bin).map_err(read_fault)?;
     }
-    let schema = texts.schema.bytes.as_slice();
-    let bytes = bin.map(|_| texts.input.bytes.as_slice());
-    check(rt.alloc(), schema, bytes, limits(), raw)
+    let layout = layout_of(rt, texts)?;
+    match bin {
+        Some(_) => verified(&layout, texts.input.bytes.as_slice(), flags),
+        None => Ok(()),
+    }
 }
 
 fn conform_files<'j>(
@@ -177,6 +185,7 @@ fn conform_files<'j>(
 fn do_job<'j>(
     rt: &HostRuntime,
     job: &'j Job,
+    flags: Flags,
     texts: &mut Texts<'j>,
 ) -> Result<&'static str, ToolFault> {
     match job {
@@ -184,31 +193,26 @@ fn do_job<'j>(
             schema,
             json,
             out,
-            unknown,
+            ..
         } => {
             write_buffer(
                 rt,
                 texts,
                 [schema.as_str(), json.as_str(), out.as_str()],
-                *unknown,
+                flags,
             )?;
             Ok("")
         }
-        Job::Json {
-            schema,
-            bin,
-            raw,
-            defaults,
-        } => {
-            print_buffer(rt, texts, [schema.as_str(), bin.as_str()], *raw, *defaults)?;
+        Job::Json { schema, bin, .. } => {
+            print_buffer(rt, texts, [schema.as_str(), bin.as_str()], flags)?;
             Ok("")
         }
-        Job::Check { schema, bin, raw } => {
+        Job::Check { schema, bin, .. } => {
             let bin = match bin {
                 None => None,
                 Some(bin) => Some(bin.as_str()),
             };
-            check_files(rt, texts, schema.as_str(), bin, *raw)?;
+            check_files(rt, texts, schema.as_str(), bin, flags)?;
             Ok("ok\n")
         }
         Job::Conform { old, new, names } => {
@@ -259,28 +263,55 @@ fn words_of(rt: &HostRuntime) -> io::Result<Vec<String>> {
 ///
 /// A refusal is explained if that is asked for, which changes neither the job nor what is reported: what
 /// explaining takes is got only afterwards.
-fn do_and_report(rt: &HostRuntime, job: &Job, explained: bool) -> u8 {
+fn do_and_report(rt: &HostRuntime, job: &Job, form: Form, explained: bool) -> u8 {
+    let flags = Flags::of_job(job, form);
     let mut texts = Texts::new(rt, explained);
-    let answer = do_job(rt, job, &mut texts);
+    let answer = do_job(rt, job, flags, &mut texts);
     let status = tell(rt, answer);
     if explained {
         match answer {
             Ok(_) => warn(rt, job, &texts),
-            Err(fault) => explain_refusal(rt, flags_of(job), &mut texts, fault),
+            Err(fault) => explain_refusal(rt, flags, &mut texts, fault),
         }
     }
     status
 }
 
+/// Does a batch, and returns the status; a usage error where its outputs can't be named.
+fn do_batch_or_refuse(
+    rt: &HostRuntime,
+    batch: &Batch,
+    form: Form,
+    explained: bool,
+    words: &[String],
+) -> u8 {
+    match do_batch(rt, batch, form, explained) {
+        Ok(status) => status,
+        Err(error) => refuse(rt, &error, words),
+    }
+}
+
 /// Does what the words ask for, and returns the status.
 fn run(rt: &HostRuntime, words: &[String]) -> u8 {
     match request_of(rt.alloc(), words) {
-        Ok(Request::Do(job, explaining)) => do_and_report(rt, &job, is_explained(rt, explaining)),
+        Ok(Request::Do(job, explaining)) => {
+            do_and_report(rt, &job, USUAL, is_explained(rt, explaining))
+        }
+        Ok(Request::DoFormed(job, form, explaining)) => {
+            do_and_report(rt, &job, form, is_explained(rt, explaining))
+        }
         Ok(Request::DoEach(batch, explaining)) => {
-            match do_batch(rt, &batch, is_explained(rt, explaining)) {
-                Ok(status) => status,
-                Err(error) => refuse(rt, &error, words),
-            }
+            let explained = is_explained(rt, explaining);
+            do_batch_or_refuse(rt, &batch, USUAL, explained, words)
+        }
+        Ok(Request::DoEachFormed(batch, form, explaining)) => {
+            do_batch_or_refuse(rt, &batch, form, is_explained(rt, explaining), words)
+        }
+        Ok(Request::DoStream(stream, explaining)) => {
+            do_stream(rt, &stream, is_explained(rt, explaining))
+        }
+        Ok(Request::Inspect(inspection, explaining)) => {
+            inspect(rt, &inspection, is_explained(rt, explaining))
         }
         Ok(Request::Explain(Some(number))) => explain_number(rt, number.as_str()),
         Ok(Request::Explain(None)) => list_numbers(rt),

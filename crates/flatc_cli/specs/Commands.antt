@@ -33,23 +33,43 @@ with_flag a name = with_rule a (flag_rule name)
 abbrev pub with_explaining : App → App
 with_explaining a = with_flag (with_flag a (codes "explain")) (codes "terse")
 
+-- `--lines` and `--keep-going`, which jobs over a stream of messages have
+abbrev pub with_streaming : App → App
+with_streaming a = with_flag (with_flag a (codes "lines")) (codes "keep-going")
+
+-- a directory, a schema and further paths
+abbrev pub with_files : App → Rule → App
+with_files a files = with_rule (with_path (with_rule a dir_rule) (codes "SCHEMA")) files
+
+abbrev pub binary_flags : App
+binary_flags = with_explaining (with_streaming (with_flag (with_flag (new_app (codes "binary")) (codes "unknown-json"))
+    (codes "size-prefixed")))
+
 abbrev pub binary_app : App
-binary_app = with_paths (with_path (with_rule
-    (with_explaining (with_flag (new_app (codes "binary")) (codes "unknown-json"))) dir_rule) (codes "SCHEMA"))
-    (codes "JSON")
+binary_app = with_files binary_flags (paths_rule (codes "JSON") true)
+
+abbrev pub json_flags : App
+json_flags = with_explaining (with_streaming (with_flag (with_flag (with_flag
+    (with_flag (new_app (codes "json")) (codes "raw-binary")) (codes "defaults-json")) (codes "size-prefixed"))
+    (codes "compact")))
 
 abbrev pub json_app : App
-json_app = with_paths (with_path (with_rule (with_explaining
-    (with_flag (with_flag (new_app (codes "json")) (codes "raw-binary")) (codes "defaults-json"))) dir_rule)
-    (codes "SCHEMA")) (codes "BIN")
+json_app = with_files json_flags (paths_rule (codes "BIN") true)
 
 abbrev pub check_app : App
-check_app = with_rule (with_path (with_explaining (with_flag (new_app (codes "check")) (codes "raw-binary")))
-    (codes "SCHEMA")) (paths_rule (codes "BIN") false)
+check_app = with_rule (with_path (with_explaining (with_streaming (with_flag
+    (with_flag (new_app (codes "check")) (codes "raw-binary")) (codes "size-prefixed")))) (codes "SCHEMA"))
+    (paths_rule (codes "BIN") false)
 
 abbrev pub conform_app : App
 conform_app = with_path (with_path (with_explaining (with_flag (new_app (codes "conform")) (codes "names")))
     (codes "OLD")) (codes "NEW")
+
+-- the schema's path and the buffer's, or with `--header` the buffer's alone
+abbrev pub inspect_app : App
+inspect_app = with_paths (with_explaining (with_flag (with_flag
+    (with_flag (new_app (codes "inspect")) (codes "raw-binary")) (codes "size-prefixed")) (codes "header")))
+    (codes "FILE")
 
 abbrev pub explain_app : App
 explain_app = with_rule (new_app (codes "explain")) (path_rule (codes "NUMBER") false)
@@ -61,9 +81,9 @@ plain_app = record (new_app (codes "flatc")) {
 }
 
 abbrev pub flatc_app : App
-flatc_app = with_subcommand (with_subcommand (with_subcommand
+flatc_app = with_subcommand (with_subcommand (with_subcommand (with_subcommand
     (with_subcommand (with_subcommand plain_app binary_app.top) json_app.top) check_app.top) conform_app.top)
-    explain_app.top
+    inspect_app.top) explain_app.top
 
 -- a command that clap sees as this one, none of whose arguments is global
 abbrev pub HasApp : App → Command → Type 0

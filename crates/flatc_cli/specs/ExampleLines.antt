@@ -8,7 +8,8 @@ use Rattle.flatc_cli.specs.Commands.{flatc_app}
 use Rattle.flatc_cli.specs.Lines.{IsRequestOf, is_line, is_job_line}
 use Rattle.flatc_cli.specs.declared.request.Job.TheVariants.{Binary, Check, Conform}
 use Rattle.flatc_cli.specs.declared.request.Explaining.TheVariants.{AtTerminal, Always, Never}
-use Rattle.flatc_cli.specs.declared.request.Request.TheVariants.{Do, Explain}
+use Rattle.flatc_cli.specs.declared.request.Inspection.TheVariants.{Header}
+use Rattle.flatc_cli.specs.declared.request.Request.TheVariants.{Do, Inspect, Explain}
 
 -- flatc check s
 abbrev pub check_line : List Text
@@ -21,7 +22,7 @@ check_is_taken = refl
 pub check_is_a_job : (s : String Global) → string_bytes s ≡ codes "s"
     → IsRequestOf (subcommand_of flatc_app check_line) (Do (Check s None false) AtTerminal)
 unfolding walked
-check_is_a_job s same = ((refl, cc, refl, refl), refl)
+check_is_a_job s same = ((refl, cc, refl, refl), refl, refl, refl)
 
 -- flatc binary --unknown-json --explain s j o
 abbrev pub binary_line : List Text
@@ -35,7 +36,7 @@ pub binary_is_a_job : (s j o : String Global) → string_bytes s ≡ codes "s" �
     → string_bytes o ≡ codes "o"
     → IsRequestOf (subcommand_of flatc_app binary_line) (Do (Binary s j o true) Always)
 unfolding walked
-binary_is_a_job s j o schema json out = ((refl, cc, cc, refl, refl), refl)
+binary_is_a_job s j o schema json out = ((refl, cc, cc, refl, refl), refl, refl, refl)
 
 -- flatc conform --names --explain --terse a b
 abbrev pub names_line : List Text
@@ -44,7 +45,7 @@ names_line = codes "conform" ∷ codes "--names" ∷ codes "--explain" ∷ codes
 pub names_are_asked_for : (a b : String Global) → string_bytes a ≡ codes "a" → string_bytes b ≡ codes "b"
     → IsRequestOf (subcommand_of flatc_app names_line) (Do (Conform a b true) Never)
 unfolding walked
-names_are_asked_for a b old new = ((refl, cc, cc, refl), refl)
+names_are_asked_for a b old new = ((refl, cc, cc, refl), refl, refl, refl)
 
 -- flatc explain
 abbrev pub list_line : List Text
@@ -90,3 +91,48 @@ twice_line = codes "conform" ∷ codes "-" ∷ codes "/dev/stdin" ∷ []
 pub twice_is_no_line : is_line (subcommand_of flatc_app twice_line) ≡ false
 unfolding walked
 twice_is_no_line = refl
+
+-- flatc binary --lines --keep-going s - -
+abbrev pub stream_line : List Text
+stream_line = codes "binary" ∷ codes "--lines" ∷ codes "--keep-going" ∷ codes "s" ∷ codes "-" ∷ codes "-" ∷ []
+
+pub stream_is_taken : takes flatc_app stream_line ≡ true
+unfolding walked walk_passes
+stream_is_taken = refl
+
+pub stream_is_a_line : is_line (subcommand_of flatc_app stream_line) ≡ true
+unfolding walked
+stream_is_a_line = refl
+
+pub stream_is_no_job : is_job_line (subcommand_of flatc_app stream_line) ≡ false
+unfolding walked
+stream_is_no_job = refl
+
+-- flatc json --compact --size-prefixed s b
+abbrev pub form_line : List Text
+form_line = codes "json" ∷ codes "--compact" ∷ codes "--size-prefixed" ∷ codes "s" ∷ codes "b" ∷ []
+
+pub form_is_a_line : is_line (subcommand_of flatc_app form_line) ≡ true
+unfolding walked
+form_is_a_line = refl
+
+pub form_is_no_job : is_job_line (subcommand_of flatc_app form_line) ≡ false
+unfolding walked
+form_is_no_job = refl
+
+-- flatc inspect --header b
+abbrev pub header_line : List Text
+header_line = codes "inspect" ∷ codes "--header" ∷ codes "b" ∷ []
+
+pub header_is_asked_for : (b : String Global) → string_bytes b ≡ codes "b"
+    → IsRequestOf (subcommand_of flatc_app header_line) (Inspect (Header b) AtTerminal)
+unfolding walked
+header_is_asked_for b bin = ((refl, refl, cc), refl)
+
+-- flatc check --keep-going s b, without --lines, which clap takes
+abbrev pub going_line : List Text
+going_line = codes "check" ∷ codes "--keep-going" ∷ codes "s" ∷ codes "b" ∷ []
+
+pub going_is_no_line : is_line (subcommand_of flatc_app going_line) ≡ false
+unfolding walked
+going_is_no_line = refl

@@ -1,4 +1,5 @@
 pub mod Commands
+pub mod Forms
 pub mod Inputs
 pub mod Lines
 pub mod Misuses

@@ -2,7 +2,8 @@
 ghost use Rattle.std.specs.Prelude.{◌≡◌, IfOk, true, false, codes};
 ghost use Rattle.clap.specs.Words.{App, new_app, rule_of, with_subcommand};
 ghost use Rattle.flatc_cli.specs.Commands.{path_rule, paths_rule, flag_rule, dir_rule, binary_app, json_app, check_app};
-ghost use Rattle.flatc_cli.specs.Commands.{conform_app, explain_app, plain_app, flatc_app, HasApp};
+ghost use Rattle.flatc_cli.specs.Commands.{conform_app, inspect_app, explain_app, plain_app, flatc_app, HasApp};
+ghost use Rattle.flatc_cli.specs.Commands.{binary_flags, json_flags, with_files};
 
 use clap::{Arg, ArgAction, Command};
 use std::alloc::{AllocError, Global};
@@ -11,10 +12,18 @@ use std::alloc::{AllocError, Global};
 pub const VERSION: &str = "0.1.0";
 
 const BINARY_USAGE: &str = "flatc binary [OPTIONS] <SCHEMA> <JSON> <OUT>
-       flatc binary [OPTIONS] --out-dir <DIR> <SCHEMA> <JSON>...";
+       flatc binary [OPTIONS] --out-dir <DIR> <SCHEMA> <JSON>...
+       flatc binary [OPTIONS] --lines <SCHEMA> <JSON> <OUT>";
 
 const JSON_USAGE: &str = "flatc json [OPTIONS] <SCHEMA> <BIN>
-       flatc json [OPTIONS] --out-dir <DIR> <SCHEMA> <BIN>...";
+       flatc json [OPTIONS] --out-dir <DIR> <SCHEMA> <BIN>...
+       flatc json [OPTIONS] --lines <SCHEMA> <BIN>";
+
+const CHECK_USAGE: &str = "flatc check [OPTIONS] <SCHEMA> [BIN]...
+       flatc check [OPTIONS] --lines <SCHEMA> <BIN>";
+
+const INSPECT_USAGE: &str = "flatc inspect [OPTIONS] <SCHEMA> <BIN>
+       flatc inspect [OPTIONS] --header <BIN>";
 
 const DASH: &str = "The path - is standard input; ./- is a file of that name.";
 
@@ -103,6 +112,53 @@ fn defaults_flag<'a>(alloc: Global) -> Arg<'a>
     flag(alloc, "defaults-json", "Include fields with default values")
 }
 
+fn prefixed_flag<'a>(alloc: Global) -> Arg<'a>
+    ensures rule { rule_of result ≡ flag_rule (codes "size-prefixed") }
+    ensures local { result.global ≡ false }
+{
+    flag(
+        alloc,
+        "size-prefixed",
+        "The buffer has its length in front, in four bytes",
+    )
+}
+
+fn compact_flag<'a>(alloc: Global) -> Arg<'a>
+    ensures rule { rule_of result ≡ flag_rule (codes "compact") }
+    ensures local { result.global ≡ false }
+{
+    flag(alloc, "compact", "Print JSON without blanks and line feeds")
+}
+
+fn lines_flag<'a>(alloc: Global, help: &'a str) -> Arg<'a>
+    ensures rule { rule_of result ≡ flag_rule (codes "lines") }
+    ensures local { result.global ≡ false }
+{
+    flag(alloc, "lines", help)
+}
+
+fn going_flag<'a>(alloc: Global) -> Arg<'a>
+    ensures rule { rule_of result ≡ flag_rule (codes "keep-going") }
+    ensures local { result.global ≡ false }
+{
+    flag(
+        alloc,
+        "keep-going",
+        "With --lines, pass over what is refused; the status is still 1",
+    )
+}
+
+fn header_flag<'a>(alloc: Global) -> Arg<'a>
+    ensures rule { rule_of result ≡ flag_rule (codes "header") }
+    ensures local { result.global ≡ false }
+{
+    flag(
+        alloc,
+        "header",
+        "Show what a buffer's first bytes say, without a schema",
+    )
+}
+
 fn explain_flag<'a>(alloc: Global) -> Arg<'a>
     ensures rule { rule_of result ≡ flag_rule (codes "explain") }
     ensures local { result.global ≡ false }
@@ -151,16 +207,17 @@ fn plain_job<'a>(alloc: Global, name: &'a str, about: &'a str) -> Command<'a>
     Command::new(alloc, name).about(about).after_help(DASH)
 }
 
-pub(crate) fn binary_command<'a>(alloc: Global) -> Result<Command<'a>, AllocError>
-    ensures { IfOk result (HasApp binary_app) }
+/// The command `binary` before its paths.
+fn binary_flags<'a>(alloc: Global) -> Result<Command<'a>, AllocError>
+    ensures { IfOk result (HasApp binary_flags) }
 {
     let args = vec![in alloc;
         unknown_flag(alloc),
+        prefixed_flag(alloc),
+        lines_flag(alloc, "Convert a JSON text a line to size-prefixed buffers"),
+        going_flag(alloc),
         explain_flag(alloc),
         terse_flag(alloc),
-        dir_option(alloc, "Convert each JSON to NAME.bin in this directory"),
-        schema_path(alloc),
-        json_paths(alloc),
     ]?;
     plain_job(alloc, "binary", "Convert JSON to a FlatBuffer")
         .override_usage(BINARY_USAGE)
@@ -168,21 +225,56 @@ pub(crate) fn binary_command<'a>(alloc: Global) -> Result<Command<'a>, AllocErro
         .args(args)
 }
 
-pub(crate) fn json_command<'a>(alloc: Global) -> Result<Command<'a>, AllocError>
-    ensures { IfOk result (HasApp json_app) }
+/// The command `json` before its paths.
+fn json_flags<'a>(alloc: Global) -> Result<Command<'a>, AllocError>
+    ensures { IfOk result (HasApp json_flags) }
 {
     let args = vec![in alloc;
         raw_flag(alloc),
         defaults_flag(alloc),
+        prefixed_flag(alloc),
+        compact_flag(alloc),
+        lines_flag(
+            alloc,
+            "Convert size-prefixed buffers to a compact JSON text a line"
+        ),
+        going_flag(alloc),
         explain_flag(alloc),
         terse_flag(alloc),
-        dir_option(alloc, "Convert each BIN to NAME.json in this directory"),
-        schema_path(alloc),
-        buffer_paths(alloc, true, "The buffer; with -o all buffers"),
     ]?;
     plain_job(alloc, "json", "Convert a FlatBuffer to JSON")
         .override_usage(JSON_USAGE)
         .args(args)
+}
+
+/// The command with a directory, a schema and further paths.
+fn with_files<'a>(
+    alloc: Global,
+    command: Result<Command<'a>, AllocError>,
+    dir: Arg<'a>,
+    files: Arg<'a>,
+) -> Result<Command<'a>, AllocError>
+    requires dir { rule_of dir ≡ dir_rule }
+    requires local { (dir.global ≡ false) × (files.global ≡ false) }
+    ensures { (above : App) → IfOk command.entry (HasApp above)
+        → IfOk result (HasApp (with_files above (rule_of files.entry))) }
+{
+    command?.args(vec![in alloc; dir, schema_path(alloc), files]?)
+}
+
+pub(crate) fn binary_command<'a>(alloc: Global) -> Result<Command<'a>, AllocError>
+    ensures { IfOk result (HasApp binary_app) }
+{
+    let dir = dir_option(alloc, "Convert each JSON to NAME.bin in this directory");
+    with_files(alloc, binary_flags(alloc), dir, json_paths(alloc))
+}
+
+pub(crate) fn json_command<'a>(alloc: Global) -> Result<Command<'a>, AllocError>
+    ensures { IfOk result (HasApp json_app) }
+{
+    let dir = dir_option(alloc, "Convert each BIN to NAME.json in this directory");
+    let files = buffer_paths(alloc, true, "The buffer; with -o all buffers");
+    with_files(alloc, json_flags(alloc), dir, files)
 }
 
 pub(crate) fn check_command<'a>(alloc: Global) -> Result<Command<'a>, AllocError>
@@ -190,12 +282,17 @@ pub(crate) fn check_command<'a>(alloc: Global) -> Result<Command<'a>, AllocError
 {
     let args = vec![in alloc;
         raw_flag(alloc),
+        prefixed_flag(alloc),
+        lines_flag(alloc, "Check size-prefixed buffers, one behind the other"),
+        going_flag(alloc),
         explain_flag(alloc),
         terse_flag(alloc),
         schema_path(alloc),
         buffer_paths(alloc, false, "The buffer, or several"),
     ]?;
-    plain_job(alloc, "check", "Check a schema, or buffers under it").args(args)
+    plain_job(alloc, "check", "Check a schema, or buffers under it")
+        .override_usage(CHECK_USAGE)
+        .args(args)
 }
 
 pub(crate) fn conform_command<'a>(alloc: Global) -> Result<Command<'a>, AllocError>
@@ -214,6 +311,27 @@ pub(crate) fn conform_command<'a>(alloc: Global) -> Result<Command<'a>, AllocErr
         "Check that a new schema reads data of an old one",
     )
     .args(args)
+}
+
+pub(crate) fn inspect_command<'a>(alloc: Global) -> Result<Command<'a>, AllocError>
+    ensures { IfOk result (HasApp inspect_app) }
+{
+    let args = vec![in alloc;
+        raw_flag(alloc),
+        prefixed_flag(alloc),
+        header_flag(alloc),
+        explain_flag(alloc),
+        terse_flag(alloc),
+        paths(
+            alloc,
+            "FILE",
+            true,
+            "The schema text (.fbs), and then BIN, the buffer; with --header BIN alone",
+        ),
+    ]?;
+    plain_job(alloc, "inspect", "Show what the bytes of a buffer are")
+        .override_usage(INSPECT_USAGE)
+        .args(args)
 }
 
 fn explain_command<'a>(alloc: Global) -> Result<Command<'a>, AllocError>
@@ -248,7 +366,7 @@ fn with_job<'a>(
     command.subcommand(job?)
 }
 
-/// The command with its four jobs, and what explains a number.
+/// The command with its four jobs, what shows a buffer's bytes, and what explains a number.
 pub(crate) fn flatc_command<'a>(alloc: Global) -> Result<Command<'a>, AllocError>
     ensures { IfOk result (HasApp flatc_app) }
 {
@@ -257,5 +375,6 @@ pub(crate) fn flatc_command<'a>(alloc: Global) -> Result<Command<'a>, AllocError
     let command = with_job(command, json_command(alloc))?;
     let command = with_job(command, check_command(alloc))?;
     let command = with_job(command, conform_command(alloc))?;
+    let command = with_job(command, inspect_command(alloc))?;
     with_job(command, explain_command(alloc))
 }

@@ -63,12 +63,16 @@ fn job_in(request: Request) -> Option<Job>
         Request::Do(_, Explaining::Always) => None,
         Request::Do(_, Explaining::Never) => None,
         Request::DoEach(_, _) => None,
+        Request::DoFormed(_, _, _) => None,
+        Request::DoEachFormed(_, _, _) => None,
+        Request::DoStream(_, _) => None,
+        Request::Inspect(_, _) => None,
         Request::Explain(_) => None,
     }
 }
 
 /// The job that the words ask for, the program's name apart: one of the four lines over one file
-/// each, without a word on explanations.
+/// each, without a word on explanations, streams and forms.
 ///
 /// What else `request_of` knows is a usage fault here.
 pub fn job_of(alloc: Global, words: &[String]) -> Result<Job, Error>

@@ -4,7 +4,7 @@ ghost use Rattle.clap.specs.Words.{kind_of};
 ghost use Rattle.flatc_cli.specs.Misuses.{IsRefusal};
 
 use crate::commands::{
-    binary_command, check_command, conform_command, flatc_command, json_command,
+    binary_command, check_command, conform_command, flatc_command, inspect_command, json_command,
 };
 use clap::error::ErrorKind;
 use clap::{Command, Error};
@@ -15,10 +15,12 @@ use std::alloc::{AllocError, Global};
 pub(crate) enum Misuse<'f> {
     /// Memory ran out.
     Memory,
-    /// There is no OUT.
-    NoOut,
+    /// A path or flag that the line needs isn't there.
+    Missing(&'static str),
     /// A path more than the line takes.
     Extra(&'f str),
+    /// Two flags of which each rules out the other.
+    Conflict(&'static str, &'static str),
     /// Two paths are standard input.
     ReadTwice,
 }
@@ -39,6 +41,7 @@ fn command_of<'a>(alloc: Global, job: &str) -> Result<Command<'a>, AllocError> {
         "binary" => binary_command(alloc),
         "json" => json_command(alloc),
         "check" => check_command(alloc)?.bin_name("flatc check"),
+        "inspect" => inspect_command(alloc),
         _ => conform_command(alloc)?.bin_name("flatc conform"),
     }
 }
@@ -68,19 +71,36 @@ fn extra_path(alloc: Global, job: &str, path: &str) -> Result<Error, AllocError>
     told(alloc, job, ErrorKind::UnknownArgument, message.as_str())
 }
 
+fn missing_word(alloc: Global, job: &str, word: &str) -> Result<Error, AllocError>
+    ensures { IfOk result (λ e. kind_of e ≡ ErrorKind.MissingRequiredArgument) }
+{
+    let message = format!(in alloc;
+        "the following required arguments were not provided:\n  {word}"
+    )?;
+    told(
+        alloc,
+        job,
+        ErrorKind::MissingRequiredArgument,
+        message.as_str(),
+    )
+}
+
+fn conflict(alloc: Global, job: &str, flag: &str, other: &str) -> Result<Error, AllocError>
+    ensures { IfOk result (λ e. kind_of e ≡ ErrorKind.ArgumentConflict) }
+{
+    let message = format!(in alloc; "the argument '{flag}' cannot be used with '{other}'")?;
+    told(alloc, job, ErrorKind::ArgumentConflict, message.as_str())
+}
+
 fn told_misuse(alloc: Global, job: &str, misuse: Misuse<'_>) -> Result<Error, AllocError>
     ensures memory { misuse.entry ≡ Misuse.Memory → IfOk result (λ e. kind_of e ≡ ErrorKind.OutOfMemory) }
     ensures refusal { IfOk result (λ e. IsRefusal (kind_of e)) }
 {
     match misuse {
         Misuse::Memory => Ok(Error::from(AllocError)),
-        Misuse::NoOut => told(
-            alloc,
-            job,
-            ErrorKind::MissingRequiredArgument,
-            "the following required arguments were not provided:\n  <OUT>",
-        ),
+        Misuse::Missing(word) => missing_word(alloc, job, word),
         Misuse::Extra(path) => extra_path(alloc, job, path),
+        Misuse::Conflict(flag, other) => conflict(alloc, job, flag, other),
         Misuse::ReadTwice => told(
             alloc,
             job,

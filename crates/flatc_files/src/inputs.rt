@@ -67,6 +67,20 @@ impl<'j> Input<'j> {
         }
     }
 
+    /// A part of an input, which was read before.
+    pub(crate) fn quoted(
+        rt: &HostRuntime,
+        path: &'j str,
+        part: &[u8],
+    ) -> Result<Input<'j>, AllocError> {
+        Ok(Input {
+            path,
+            bytes: part.to_vec(rt.alloc())?,
+            state: None,
+            is_given: false,
+        })
+    }
+
     /// Reads a file, or standard input; what the file was is noted where it may be read again.
     pub(crate) fn read(
         rt: &HostRuntime,

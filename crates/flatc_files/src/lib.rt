@@ -9,6 +9,7 @@ mod streams;
 mod targets;
 mod texts;
 mod unchanged;
+mod window;
 
 pub use fb_heard::TakeFault;
 pub use inputs::{Gone, Input};
@@ -17,3 +18,4 @@ pub use progress::Progress;
 pub use reasons::Reasoned;
 pub use targets::{Misuse, Target, directory_of, targets_of};
 pub use texts::{Failure, Texts};
+pub use window::Window;

@@ -1,6 +1,7 @@
 //! What a job reads, and why a file failed.
 use crate::inputs::Input;
 use fb_heard::TakeFault;
+use std::alloc::AllocError;
 use std::io;
 
 /// What a job has read so far, and why a file couldn't be read or written.
@@ -52,15 +53,34 @@ impl<'j> Texts<'j> {
 
     fn read(&mut self, rt: &HostRuntime, path: &'j str) -> Result<Input<'j>, TakeFault> {
         let read = Input::read(rt, path, self.is_explained);
-        match &read {
+        self.note(rt, path, &read, "it is longer than 2147483647 bytes");
+        read
+    }
+
+    /// Remembers why a read failed, if it did: as the system says it, or that there is too much.
+    pub fn note<T>(
+        &mut self,
+        rt: &HostRuntime,
+        path: &'j str,
+        read: &Result<T, TakeFault>,
+        too_long: &str,
+    ) {
+        match read {
             Err(TakeFault::Failed(error)) => self.fail(rt, path, error),
-            Err(TakeFault::TooLong) => {
-                let error = io::Error::other("it is longer than 2147483647 bytes");
-                self.fail(rt, path, &error);
-            }
+            Err(TakeFault::TooLong) => self.fail(rt, path, &io::Error::other(too_long)),
             _ => {}
         }
-        read
+    }
+
+    /// Takes a message for the input, where there is memory for that, so that it can be quoted.
+    pub fn quote(
+        &mut self,
+        rt: &HostRuntime,
+        path: &'j str,
+        message: &[u8],
+    ) -> Result<(), AllocError> {
+        self.input = Input::quoted(rt, path, message)?;
+        Ok(())
     }
 
     /// Reads the schema text, which is the first file that a job reads.

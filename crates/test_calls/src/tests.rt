@@ -15,6 +15,7 @@ mod pieces;
 mod print_to;
 mod report;
 mod request_of;
+mod spaced;
 mod syntax;
 mod take_all;
 mod to_binary;

@@ -1,50 +1,64 @@
 -- Levels of blanks, one behind another.
 use Rattle.std.proofs.Common.{◌≡◌, Bor, ℕ, zero, suc, ◌+◌, ◌-◌, ◌*◌, ◌≤◌, List, [], ◌++◌, length, take, refl, sym, ap}
-use Rattle.std.proofs.Common.{subst, ◌∙◌, append_assoc, append-nil, length-append, arith, rules}
+use Rattle.std.proofs.Common.{Option, None, Some, subst, ◌∙◌, append_assoc, append-nil, length-append, arith, rules}
 use Rattle.std.specs.Prelude.{codes}
+use Rattle.std.specs.Option.{unwrap_or}
 use Rattle.std.proofs.Math.Seq.{take-append_seam}
-use Rattle.fb_text.specs.Indents.{blanks, deeper}
-use Rattle.fb_text.specs.declared.indents.Indent.{Indent, Levels, Deeper, the_lemmas}
+use Rattle.fb_text.specs.Indents.{blanks, deeper, levels_blanks}
+use Rattle.fb_text.specs.declared.indents.Indent.{Indent, Levels, Deeper, Compact, the_lemmas}
 use Rattle.fb_text.specs.Texts.{inside}
 
--- so many levels, and so many more
-pub deeper_sum : (n m : ℕ) (indent : List ℕ) → deeper (n + m) indent ≡ deeper m (deeper n indent)
-deeper_sum zero m indent = ap (λ (k : ℕ). deeper k indent) (let none : 0 + m ≡ m = omega arith in none)
-deeper_sum (suc n) m indent =
-    ap (λ (k : ℕ). deeper k indent) (let more : suc n + m ≡ suc (n + m) = omega arith in more)
-    ∙ deeper_sum n m (inside indent)
-
--- one more behind them or in front of them
-pub inside_deeper : (n : ℕ) (indent : List ℕ) → inside (deeper n indent) ≡ deeper n (inside indent)
+-- one level more behind others or in front of them
+pub inside_deeper : (n : ℕ) (indent : Option (List ℕ)) → inside (deeper n indent) ≡ deeper n (inside indent)
 inside_deeper zero indent = refl
 inside_deeper (suc n) indent = inside_deeper n (inside indent)
 
-pub deeper_behind : (n : ℕ) (indent : List ℕ) → indent ++ deeper n [] ≡ deeper n indent
-deeper_behind zero indent = append-nil indent
-deeper_behind (suc n) indent =
-    ap (λ (l : List ℕ). indent ++ l) (sym (deeper_behind n (codes "  ")))
-    ∙ (sym (append_assoc indent (codes "  ") (deeper n [])) ∙ deeper_behind n (inside indent))
+pub levels_joined : (n m k : ℕ) → n + m ≡ k → levels_blanks n ++ levels_blanks m ≡ levels_blanks k
+levels_joined n m k sum = both n ∙ ap levels_blanks sum
+  where
+    both : (n : ℕ) → levels_blanks n ++ levels_blanks m ≡ levels_blanks (n + m)
+    both zero = ap levels_blanks (let none : m ≡ 0 + m = omega arith in none)
+    both (suc n) =
+        ap (λ (l : List ℕ). codes "  " ++ l) (both n)
+        ∙ ap levels_blanks (let more : suc (n + m) ≡ suc n + m = omega arith in more)
 
-pub levels_joined : (n m k : ℕ) → n + m ≡ k → deeper n [] ++ deeper m [] ≡ deeper k []
-levels_joined n m k sum =
-    deeper_behind m (deeper n []) ∙ (sym (deeper_sum n m []) ∙ ap (λ (j : ℕ). deeper j []) sum)
-
-deeper_long : (n : ℕ) (indent : List ℕ) → length (deeper n indent) ≡ length indent + 2 * n
-deeper_long zero indent = omega arith
-deeper_long (suc n) indent = omega (arith, deeper_long n (inside indent), length-append indent (codes "  "))
+levels_long : (n : ℕ) → length (levels_blanks n) ≡ 2 * n
+levels_long zero = omega arith
+levels_long (suc n) = omega (arith, levels_long n, length-append (codes "  ") (levels_blanks n))
 
 -- the front of the blanks of 32 levels
-pub blanks_front : (n : ℕ) → n ≤ 32 → take (2 * n) (deeper 32 []) ≡ deeper n []
+pub blanks_front : (n : ℕ) → n ≤ 32 → take (2 * n) (levels_blanks 32) ≡ levels_blanks n
 blanks_front n few =
-    let whole : deeper n [] ++ deeper (32 - n) [] ≡ deeper 32 [] = levels_joined n (32 - n) 32 (omega arith) in
-    let long : length (deeper n []) ≡ 2 * n = omega (arith, deeper_long n []) in
-    subst (λ (l : List ℕ). take (2 * n) l ≡ deeper n []) whole
-    (subst (λ (k : ℕ). take k (deeper n [] ++ deeper (32 - n) []) ≡ deeper n []) long
-    (take-append_seam (deeper n []) (deeper (32 - n) [])))
+    let whole : levels_blanks n ++ levels_blanks (32 - n) ≡ levels_blanks 32 =
+    levels_joined n (32 - n) 32 (omega arith) in
+    subst (λ (l : List ℕ). take (2 * n) l ≡ levels_blanks n) whole
+    (subst (λ (k : ℕ). take k (levels_blanks n ++ levels_blanks (32 - n)) ≡ levels_blanks n) (levels_long n)
+    (take-append_seam (levels_blanks n) (levels_blanks (32 - n))))
 
--- the blanks of an indent that is told by its levels
-pub blanks_levels : (n : ℕ) → blanks (Levels n) ≡ deeper n []
+-- levels behind a line's blanks
+pub deeper_behind : (n : ℕ) (before : List ℕ) → deeper n (Some before) ≡ Some (before ++ levels_blanks n)
+deeper_behind zero before = ap (λ (l : List ℕ). Some l) (sym (append-nil before))
+deeper_behind (suc n) before =
+    deeper_behind n (before ++ codes "  ")
+    ∙ ap (λ (l : List ℕ). Some l) (append_assoc before (codes "  ") (levels_blanks n))
+
+-- A compact text has no lines at any depth.
+pub deeper_compact : (n : ℕ) → deeper n None ≡ None
+deeper_compact zero = refl
+deeper_compact (suc n) = deeper_compact n
+
+-- Where there are lines, so many levels deeper are those behind the line's blanks.
+pub lines_deeper : (n : ℕ) (indent : Option (List ℕ)) (before : List ℕ) → indent ≡ Some before
+    → Some (unwrap_or indent [] ++ levels_blanks n) ≡ deeper n indent
+lines_deeper n indent before is = rw is (sym (deeper_behind n before))
+
+-- what each indent is
+pub blanks_levels : (n : ℕ) → blanks (Levels n) ≡ Some (levels_blanks n)
 blanks_levels n = search (rules, the_lemmas)
 
-pub blanks_deeper : (outer : Bor Indent) (n : ℕ) → blanks (Deeper outer n) ≡ deeper n (blanks outer.now)
+pub blanks_deeper : (outer : Bor Indent) (n : ℕ)
+    → blanks (Deeper outer n) ≡ Some (unwrap_or (blanks outer.now) [] ++ levels_blanks n)
 blanks_deeper outer n = search (rules, the_lemmas)
+
+pub blanks_compact : blanks Compact ≡ None
+blanks_compact = search (rules, the_lemmas)

@@ -1,6 +1,6 @@
 -- The text of a value is UTF-8, where its own texts and the names of the schema are.
 use Rattle.std.proofs.Common.{ℕ, zero, suc, ◌+◌, ◌/◌, ◌%◌, ◌<◌, ◌||◌, ◌==◌, nat_lt, ℤ, pos, negsuc, List, [], ◌∷◌, Bool}
-use Rattle.std.proofs.Common.{true, false, Option, None, Some, IsUtf8, codes, refl, arith, if◌then◌else◌}
+use Rattle.std.proofs.Common.{true, false, Option, None, Some, IsUtf8, ◌++◌, codes, refl, arith, if◌then◌else◌}
 use Rattle.std.specs.Fmt.{decimal, signed_decimal, digits, digits_onto, digit_glyph}
 use Rattle.std.specs.Str.{IsAscii}
 use Rattle.std.specs.Option.{option_map_or}
@@ -19,8 +19,11 @@ use Rattle.fb_value.specs.Datum.{Datum, a_number, a_text, a_vector, a_struct, a_
 use Rattle.fb_value.specs.Datum.{more_parts, SlotEntries, no_entries, absent_entry, present_entry}
 use Rattle.fb_json.specs.EnumTexts.{has_flags}
 use Rattle.fb_text.specs.Texts.{in_quotes, is_odd, bit_text, bits_text, bits_of, are_flags, flags_text, enum_text}
-use Rattle.fb_text.specs.Texts.{number_text, line, closing, inside, is_printed, member_line, member_name, code_text}
-use Rattle.fb_text.specs.Texts.{has_code, entry_text, value_text, items_text, parts_text, members_text, json_text}
+use Rattle.fb_text.specs.Texts.{number_text, edge, inside, new_line, line, closing, colon, is_printed, member_line}
+use Rattle.fb_text.specs.Texts.{member_name, code_text, has_code, entry_text, value_text, items_text, parts_text}
+use Rattle.fb_text.specs.Texts.{members_text, spaced_text}
+use Rattle.fb_text.specs.declared.indents.Spacing.{Spacing}
+use Rattle.fb_text.specs.declared.indents.Spacing.TheVariants.{Indented, Compact}
 use Rattle.fb_text.proofs.laws.NamesAreUtf8.{FieldsUtf8, BodyUtf8, NameUtf8, or_nothing, slots_utf8, parts_utf8}
 use Rattle.fb_text.proofs.laws.NamesAreUtf8.{member_utf8}
 use Rattle.fb_text.proofs.laws.NamesAreUtf8.{numbered_utf8}
@@ -90,24 +93,31 @@ module _ (body : DeclaredBody) (names : BodyUtf8 body) where
 
 -- ---- lines
 
-line_utf8 : (indent : List ℕ) (some : Bool) → IsUtf8 indent → IsUtf8 (line indent some)
+edge_utf8 : (spacing : Spacing) → IsUtf8 (new_line (edge spacing))
+edge_utf8 Indented = IsUtf8-are_ascii (codes "\n") refl
+edge_utf8 Compact = IsUtf8-nil
+
+line_utf8 : (indent : Option (List ℕ)) (some : Bool) → IsUtf8 (new_line indent) → IsUtf8 (line indent some)
 line_utf8 indent some h =
-    IsUtf8-append _ indent
-    (either_utf8 some (codes ",\n") (codes "\n") (IsUtf8-are_ascii (codes ",\n") refl)
-    (IsUtf8-are_ascii (codes "\n") refl)) h
+    IsUtf8-append _ _ (either_utf8 some (codes ",") [] (IsUtf8-are_ascii (codes ",") refl) IsUtf8-nil) h
 
-closing_utf8 : (indent : List ℕ) (some : Bool) → IsUtf8 indent → IsUtf8 (closing indent some)
-closing_utf8 indent some h =
-    either_utf8 some _ [] (IsUtf8-append (codes "\n") indent (IsUtf8-are_ascii (codes "\n") refl) h) IsUtf8-nil
+closing_utf8 : (indent : Option (List ℕ)) (some : Bool) → IsUtf8 (new_line indent) → IsUtf8 (closing indent some)
+closing_utf8 indent some h = either_utf8 some _ [] h IsUtf8-nil
 
-inside_utf8 : (indent : List ℕ) → IsUtf8 indent → IsUtf8 (inside indent)
-inside_utf8 indent h = IsUtf8-append indent (codes "  ") h (IsUtf8-are_ascii (codes "  ") refl)
+inside_utf8 : (indent : Option (List ℕ)) → IsUtf8 (new_line indent) → IsUtf8 (new_line (inside indent))
+inside_utf8 None h = h
+inside_utf8 (Some blanks) h =
+    IsUtf8-append (codes "\n" ++ blanks) (codes "  ") h (IsUtf8-are_ascii (codes "  ") refl)
 
-member_line_utf8 : (indent : List ℕ) (some : Bool) (name behind : List ℕ) → IsUtf8 indent → IsUtf8 name → IsUtf8 behind
+colon_utf8 : (indent : Option (List ℕ)) → IsUtf8 (colon indent)
+colon_utf8 None = IsUtf8-are_ascii (codes "\":") refl
+colon_utf8 (Some blanks) = IsUtf8-are_ascii (codes "\": ") refl
+
+member_line_utf8 : (indent : Option (List ℕ)) (some : Bool) (name behind : List ℕ) → IsUtf8 (new_line indent) → IsUtf8 name → IsUtf8 behind
     → IsUtf8 (member_line indent some name behind)
 member_line_utf8 indent some name behind h n b =
     IsUtf8-append _ _ (line_utf8 indent some h) (IsUtf8-append (codes "\"") _ (IsUtf8-are_ascii (codes "\"") refl)
-    (IsUtf8-append name _ n (IsUtf8-append behind (codes "\": ") b (IsUtf8-are_ascii (codes "\": ") refl))))
+    (IsUtf8-append name _ n (IsUtf8-append behind (colon indent) b (colon_utf8 indent))))
 
 member_name_utf8 : (body : DeclaredBody) (code : ℕ) → BodyUtf8 body → IsUtf8 (member_name body code)
 member_name_utf8 body zero h = IsUtf8-nil
@@ -123,15 +133,15 @@ module _ (L : LaidSchema) (names : (t : ℕ) → BodyUtf8 (body_at L.schema t)) 
   number_utf8 (Enum e) n = enum_utf8 (body_at L.schema e.0) (names e.0) n
   number_utf8 _ n = decimal_utf8 n
 
-  code_utf8 : (indent : List ℕ) (some : Bool) (name : Name) (shape : Shape) (d : Datum) → IsUtf8 indent → IsUtf8 name
+  code_utf8 : (indent : Option (List ℕ)) (some : Bool) (name : Name) (shape : Shape) (d : Datum) → IsUtf8 (new_line indent) → IsUtf8 name
       → IsUtf8 (code_text L.schema indent some name shape d)
   code_utf8 indent some name (One (Union u)) (a_member c d) h n =
       IsUtf8-append _ _ (member_line_utf8 indent some name (codes "_type") h n (IsUtf8-are_ascii (codes "_type") refl))
       (quotes_utf8 _ (member_name_utf8 (body_at L.schema u.0) c (names u.0)))
   code_utf8 indent some name _ _ h n = IsUtf8-nil
 
-  entry_utf8 : (printed : Bool) (indent : List ℕ) (some : Bool) (name : Name) (shape : Shape) (d : Datum)
-      (value : List ℕ) → IsUtf8 indent → IsUtf8 name → IsUtf8 value
+  entry_utf8 : (printed : Bool) (indent : Option (List ℕ)) (some : Bool) (name : Name) (shape : Shape) (d : Datum)
+      (value : List ℕ) → IsUtf8 (new_line indent) → IsUtf8 name → IsUtf8 value
       → IsUtf8 (entry_text L.schema printed indent some name shape d value)
   entry_utf8 false indent some name shape d value h n v = IsUtf8-nil
   entry_utf8 true indent some name shape d value h n v =
@@ -139,7 +149,7 @@ module _ (L : LaidSchema) (names : (t : ℕ) → BodyUtf8 (body_at L.schema t)) 
       (IsUtf8-append _ value (member_line_utf8 indent (some || has_code shape d) name [] h n IsUtf8-nil) v)
 
   mutual
-    value_utf8 : (indent : List ℕ) (shape : Shape) (d : Datum) → IsUtf8 indent → HasUtf8 d
+    value_utf8 : (indent : Option (List ℕ)) (shape : Shape) (d : Datum) → IsUtf8 (new_line indent) → HasUtf8 d
         → IsUtf8 (value_text L defaults indent shape d)
     value_utf8 indent (One kind) (a_number n) i h = number_utf8 kind n
     value_utf8 indent shape (a_text bytes) i h = IsUtf8-quoted bytes h
@@ -159,7 +169,7 @@ module _ (L : LaidSchema) (names : (t : ℕ) → BodyUtf8 (body_at L.schema t)) 
     value_utf8 indent shape (a_member c d) i h = value_utf8 indent shape d i h
     value_utf8 indent _ _ i h = IsUtf8-nil
 
-    items_utf8 : (inner indent : List ℕ) (kind : Kind) (some : Bool) (ds : Parts) → IsUtf8 inner → IsUtf8 indent
+    items_utf8 : (inner indent : Option (List ℕ)) (kind : Kind) (some : Bool) (ds : Parts) → IsUtf8 (new_line inner) → IsUtf8 (new_line indent)
         → HaveUtf8 ds → IsUtf8 (items_text L defaults inner indent kind some ds)
     items_utf8 inner indent kind some no_parts i o h = IsUtf8-append _ (codes "]") (closing_utf8 indent some o)
         (IsUtf8-are_ascii (codes "]") refl)
@@ -167,8 +177,8 @@ module _ (L : LaidSchema) (names : (t : ℕ) → BodyUtf8 (body_at L.schema t)) 
         IsUtf8-append _ _ (line_utf8 inner some i)
         (IsUtf8-append _ _ (value_utf8 inner (One kind) d i h.0) (items_utf8 inner indent kind true ds i o h.1))
 
-    parts_text_utf8 : (inner indent : List ℕ) (some : Bool) (fs : List DeclaredField) (ds : Parts) → IsUtf8 inner
-        → IsUtf8 indent → FieldsUtf8 fs → HaveUtf8 ds → IsUtf8 (parts_text L defaults inner indent some fs ds)
+    parts_text_utf8 : (inner indent : Option (List ℕ)) (some : Bool) (fs : List DeclaredField) (ds : Parts) → IsUtf8 (new_line inner)
+        → IsUtf8 (new_line indent) → FieldsUtf8 fs → HaveUtf8 ds → IsUtf8 (parts_text L defaults inner indent some fs ds)
     parts_text_utf8 inner indent some (f ∷ fs) (more_parts d ds) i o n h =
         IsUtf8-append _ _ (member_line_utf8 inner some f.name [] i n.0 IsUtf8-nil)
         (IsUtf8-append _ _ (value_utf8 inner f.shape d i h.0) (parts_text_utf8 inner indent true fs ds i o n.1 h.1))
@@ -177,8 +187,8 @@ module _ (L : LaidSchema) (names : (t : ℕ) → BodyUtf8 (body_at L.schema t)) 
     parts_text_utf8 inner indent some (f ∷ fs) no_parts i o n h = IsUtf8-append _ (codes "}")
         (closing_utf8 indent some o) (IsUtf8-are_ascii (codes "}") refl)
 
-    members_text_utf8 : (inner indent : List ℕ) (some : Bool) (fs : List DeclaredField) (es : SlotEntries)
-        → IsUtf8 inner → IsUtf8 indent → FieldsUtf8 fs → EntriesHaveUtf8 es
+    members_text_utf8 : (inner indent : Option (List ℕ)) (some : Bool) (fs : List DeclaredField) (es : SlotEntries)
+        → IsUtf8 (new_line inner) → IsUtf8 (new_line indent) → FieldsUtf8 fs → EntriesHaveUtf8 es
         → IsUtf8 (members_text L defaults inner indent some fs es)
     members_text_utf8 inner indent some (f ∷ fs) (present_entry d es) i o n h =
         IsUtf8-append _ _ (entry_utf8 (is_printed defaults f d) inner some f.name f.shape d _ i n.0
@@ -192,6 +202,8 @@ module _ (L : LaidSchema) (names : (t : ℕ) → BodyUtf8 (body_at L.schema t)) 
         (closing_utf8 indent some o) (IsUtf8-are_ascii (codes "}") refl)
 
   -- the text of a value of the root table
-  pub text_utf8 : (d : Datum) → HasUtf8 d → IsUtf8 (json_text L defaults d)
-  text_utf8 d h = IsUtf8-append _ (codes "\n")
-      (value_utf8 [] (One (Table (record { 0 = L.schema.root }))) d IsUtf8-nil h) (IsUtf8-are_ascii (codes "\n") refl)
+  pub text_utf8 : (spacing : Spacing) (d : Datum) → HasUtf8 d → IsUtf8 (spaced_text spacing L defaults d)
+  text_utf8 spacing d h =
+      IsUtf8-append _ _
+      (value_utf8 (edge spacing) (One (Table (record { 0 = L.schema.root }))) d (edge_utf8 spacing) h)
+      (edge_utf8 spacing)

@@ -1,6 +1,6 @@
 -- The way from the outermost struct down to one that stands in it, and one step more or less.
 use Rattle.std.proofs.Common.{◌≡◌, ℕ, zero, suc, ◌+◌, ◌<◌, ◌≤◌, ◌++◌, List, [], drop, Bool, true}
-use Rattle.std.proofs.Common.{slice_index, refl, sym, ap, subst, ◌∙◌, append_assoc, append-nil, arith}
+use Rattle.std.proofs.Common.{Option, slice_index, refl, sym, ap, subst, ◌∙◌, append_assoc, append-nil, arith}
 use Rattle.fb_schema.specs.declared.kinds.TypeId.{TypeId}
 use Rattle.fb_schema.specs.Schema.{body_at, parts_in}
 use Rattle.fb_layout.specs.Laid.{LaidSchema, struct_at}
@@ -15,11 +15,11 @@ use Rattle.fb_text.proofs.nested.FieldHasItsBytes.{is_filled, ends_within}
 
 module _ (L : LaidSchema) (defaults : Bool) where
   -- the outermost stands in itself
-  pub outermost_stands : (indent : List ℕ) (t : TypeId) (ds : Parts) → StandsIn L defaults indent t ds 0 0 t ds []
+  pub outermost_stands : (indent : Option (List ℕ)) (t : TypeId) (ds : Parts) → StandsIn L defaults indent t ds 0 0 t ds []
   outermost_stands indent t ds = (refl, refl, refl, refl)
 
   -- one step down
-  pub stands_deeper : (indent : List ℕ) (t : TypeId) (ds : Parts) (depth at : ℕ) (u : TypeId) (es : Parts)
+  pub stands_deeper : (indent : Option (List ℕ)) (t : TypeId) (ds : Parts) (depth at : ℕ) (u : TypeId) (es : Parts)
       (behind : List ℕ) (k : ℕ) (s : TypeId) (inner : Parts) → StandsIn L defaults indent t ds depth at u es behind
       → HasStruct L u es k s inner
       → StandsIn L defaults indent t ds (suc depth) (at + slice_index (struct_at L u.0).offsets k) s inner
@@ -52,15 +52,15 @@ module _ (L : LaidSchema) (defaults : Bool) where
       )
 
   -- a level's text is the same from wherever it is told
-  level_text : (indent : List ℕ) (t : TypeId) (ds : Parts) (depth k : ℕ)
+  level_text : (indent : Option (List ℕ)) (t : TypeId) (ds : Parts) (depth k : ℕ)
       → fields_text L defaults (deeper depth indent) t ds 0 k true ≡ fields_text L defaults indent t ds depth k true
   level_text indent t ds depth k =
-      ap (λ (inner : List ℕ). parts_text L defaults inner (deeper depth indent) true
+      ap (λ (inner : Option (List ℕ)). parts_text L defaults inner (deeper depth indent) true
       (drop k (parts_in (body_at L.schema t.0))) (parts_from k ds)) (inside_deeper depth indent)
 
   module _ (made : IsWellMade L) where
     -- it begins within the outermost
-    pub begins_within : (indent : List ℕ) (t : TypeId) (ds : Parts) (depth at : ℕ) (u : TypeId) (es : Parts)
+    pub begins_within : (indent : Option (List ℕ)) (t : TypeId) (ds : Parts) (depth at : ℕ) (u : TypeId) (es : Parts)
         (behind : List ℕ) → StandsIn L defaults indent t ds depth at u es behind → 1 ≤ (struct_at L t.0).size
         → at < (struct_at L t.0).size
     begins_within indent t ds zero at u es behind stands some = omega (arith, stands.0, some)
@@ -71,7 +71,7 @@ module _ (L : LaidSchema) (defaults : Bool) where
         omega (arith, below, ends, begin)
 
     -- so few bytes behind it that they fit 32 bits
-    pub few_bytes : (indent : List ℕ) (t : TypeId) (ds : Parts) (depth at : ℕ) (u : TypeId) (es : Parts)
+    pub few_bytes : (indent : Option (List ℕ)) (t : TypeId) (ds : Parts) (depth at : ℕ) (u : TypeId) (es : Parts)
         (behind : List ℕ) → StandsIn L defaults indent t ds (suc depth) at u es behind → at ≤ 65535
     few_bytes indent t ds depth at u es behind stands =
         let (j, v, ms, more, text, child, rest, begin, whole) = stands in
@@ -81,7 +81,7 @@ module _ (L : LaidSchema) (defaults : Bool) where
         omega (arith, below, ends, begin, small)
 
 -- A struct on the way to one that stands so many structs below it.
-pub record OnTheWay (L : LaidSchema) (defaults : Bool) (indent : List ℕ) (t : TypeId) (ds : Parts) (P : Parts → Type 0)
+pub record OnTheWay (L : LaidSchema) (defaults : Bool) (indent : Option (List ℕ)) (t : TypeId) (ds : Parts) (P : Parts → Type 0)
     (depth at : ℕ) (v : TypeId) (left byte : ℕ) (u : TypeId) (es : Parts) (behind : List ℕ) : Type 0 where
   pub parts : Parts
   pub more : ℕ
@@ -93,7 +93,7 @@ pub record OnTheWay (L : LaidSchema) (defaults : Bool) (indent : List ℕ) (t : 
   pub begin : byte ≡ at + more
   pub whole : behind ≡ text ++ rest
 
-module _ (L : LaidSchema) (defaults : Bool) (indent : List ℕ) (t : TypeId) (ds : Parts) (byte : ℕ) (u : TypeId)
+module _ (L : LaidSchema) (defaults : Bool) (indent : Option (List ℕ)) (t : TypeId) (ds : Parts) (byte : ℕ) (u : TypeId)
     (es : Parts) (behind : List ℕ) where
   pub way_begins : (P : Parts → Type 0) (at left : ℕ) → P ds → at ≡ 0
       → StandsIn L defaults indent t ds left byte u es behind
@@ -131,7 +131,7 @@ module _ (L : LaidSchema) (defaults : Bool) (indent : List ℕ) (t : TypeId) (ds
         rest = own ++ w.rest;
         shown = shown;
         above = rw (type, place) deeper;
-        below = rw type (subst (λ (i : List ℕ). StandsIn L defaults i x inner left more u es text)
+        below = rw type (subst (λ (i : Option (List ℕ)). StandsIn L defaults i x inner left more u es text)
             (inside_deeper depth indent) rest);
         begin = omega (arith, w.begin, begin, place);
         whole = w.whole ∙ (ap (λ (l : List ℕ). l ++ w.rest)

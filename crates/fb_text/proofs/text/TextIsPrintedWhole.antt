@@ -1,15 +1,17 @@
 -- What stands at the start and at the end of a text.
-use Rattle.std.proofs.Common.{◌≡◌, ℕ, ◌<◌, ◌∷◌, [], List, length, Option, Some, Bool, true, false, Result, Ok, Err}
-use Rattle.std.proofs.Common.{refl, sym, subst, length-append, arith}
+use Rattle.std.proofs.Common.{◌≡◌, ℕ, ◌<◌, [], List, length, Option, Some, Bool, true, false, Result, Ok, Err}
+use Rattle.std.proofs.Common.{refl, sym, subst, arith}
 use Rattle.std.specs.Prelude.{is_err}
 use Rattle.std.proofs.KnownBytes.{Appends-nil}
 use Rattle.fb_layout.specs.Laid.{LaidSchema}
-use Rattle.fb_schema.specs.declared.kinds.Kind.TheVariants.{Table}
-use Rattle.fb_schema.specs.declared.kinds.Shape.TheVariants.{One}
-use Rattle.fb_value.specs.Datum.{Datum}
+use Rattle.fb_value.specs.Datum.{Datum, a_number, a_text, a_vector, a_struct, a_table, a_member, an_unknown}
+use Rattle.fb_value.specs.Num.{Bytes}
+use Rattle.fb_value.specs.Places.{table_part, part_place}
+use Rattle.fb_value.specs.Lies.{Lies}
 use Rattle.fb_value.specs.Counts.{is_whole}
 use Rattle.fb_json.specs.declared.faults.Place.{Place}
-use Rattle.fb_text.specs.Texts.{value_text, json_text}
+use Rattle.fb_text.specs.Texts.{spaced_text}
+use Rattle.fb_text.specs.declared.indents.Spacing.{Spacing}
 use Rattle.fb_text.specs.declared.faults.WriteFault.{WriteFault}
 use Rattle.fb_text.specs.declared.faults.WriteFault.TheVariants.{NoMemberName, WriteFailed}
 use Rattle.fb_text.specs.Printed.{IsPrinted}
@@ -24,10 +26,16 @@ nothing_stands s fine empty none = record {
   rest = subst (λ (b : Bool). IsLeft b s []) (sym fine) (sym empty);
 }
 
--- a value's text has its line feed
-pub some_text : (L : LaidSchema) (defaults : Bool) (d : Datum) → 0 < length (json_text L defaults d)
-some_text L defaults d =
-    rw (length-append (value_text L defaults [] (One (Table (record { 0 = L.schema.root }))) d) (10 ∷ [])) (omega arith)
+-- a table's text has its brackets
+pub some_text : (spacing : Spacing) (L : LaidSchema) (defaults : Bool) (b : Bytes) (t p : ℕ) (d : Datum)
+    → Lies L b (part_place (table_part t)) p d → 0 < length (spaced_text spacing L defaults d)
+some_text spacing L defaults b t p (a_table type es) lies = omega arith
+some_text spacing L defaults b t p (a_number n) lies = absurd lies
+some_text spacing L defaults b t p (a_text bytes) lies = absurd lies
+some_text spacing L defaults b t p (a_vector ds) lies = absurd lies
+some_text spacing L defaults b t p (a_struct ds) lies = absurd lies
+some_text spacing L defaults b t p (a_member c x) lies = absurd lies
+some_text spacing L defaults b t p (an_unknown c) lies = absurd lies
 
 pub whole_printed : {A : Type 0} (root : Place) (d : Datum) (text : List ℕ) (start known : Option (List ℕ))
     (r : Result A WriteFault) → is_whole d ≡ true → IsWritten start known text r → IsPrinted root d text start known r

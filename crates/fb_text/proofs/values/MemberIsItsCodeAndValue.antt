@@ -31,7 +31,7 @@ part_there (more_parts d ds) zero less = (d, refl)
 part_there (more_parts d ds) (suc i) less = part_there ds i (omega arith)
 
 -- A printed slot is its code, if it has one, and its name and value.
-pub entry_added : (L : LaidSchema) (defaults : Bool) (inner : List ℕ) (some : Bool) (f : DeclaredField)
+pub entry_added : (L : LaidSchema) (defaults : Bool) (inner : Option (List ℕ)) (some : Bool) (f : DeclaredField)
     (o : Option Datum) (more : Bool) (a b e : State) → true ≡ is_entry_printed defaults f o
     → ((d : Datum) → o ≡ Some d → Adds a b (code_text L.schema inner some f.name f.shape d))
     → ((d : Datum) → o ≡ Some d → more ≡ (some || has_code f.shape d))

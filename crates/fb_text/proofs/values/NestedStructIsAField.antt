@@ -1,6 +1,6 @@
 -- The text of a struct in a struct, and of what stands behind it.
 use Rattle.std.proofs.Common.{◌≡◌, ℕ, suc, ◌++◌, ◌||◌, List, [], Bool, true, false, None, Some, slice_get}
-use Rattle.std.proofs.Common.{is_some, refl, sym, ap, ◌∙◌, append_assoc}
+use Rattle.std.proofs.Common.{Option, is_some, refl, sym, ap, ◌∙◌, append_assoc}
 use Rattle.std.specs.Prelude.{codes}
 use Rattle.fb_schema.specs.declared.kinds.TypeId.{TypeId}
 use Rattle.fb_schema.specs.declared.kinds.Shape.{Shape}
@@ -23,7 +23,7 @@ or_true : (some : Bool) → (some || true) ≡ true
 or_true true = refl
 or_true false = refl
 
-module _ (L : LaidSchema) (defaults : Bool) (indent : List ℕ) (u : TypeId) (es : Parts) (depth k : ℕ) (some : Bool)
+module _ (L : LaidSchema) (defaults : Bool) (indent : Option (List ℕ)) (u : TypeId) (es : Parts) (depth k : ℕ) (some : Bool)
     (behind : List ℕ) where
   pub fields_next : (f : DeclaredField) → slice_get (parts_in (body_at L.schema u.0)) k ≡ Some f
       → part_text L defaults (deeper (suc depth) indent) some f (nth_part es k)
@@ -71,7 +71,7 @@ module _ (L : LaidSchema) (defaults : Bool) (indent : List ℕ) (u : TypeId) (es
       let value : value_text L defaults (deeper (suc depth) indent) has.field.shape (a_struct inner)
       ≡ codes "{" ++ fields =
       ap (λ (shape : Shape). value_text L defaults (deeper (suc depth) indent) shape (a_struct inner)) has.shape
-      ∙ ap (λ (i : List ℕ). codes
+      ∙ ap (λ (i : Option (List ℕ)). codes
       "{" ++ parts_text L defaults i (deeper (suc depth) indent) false (parts_in (body_at L.schema s.0)) inner)
       (inside_deeper (suc depth) indent) in
       ap (λ (l : List ℕ). line ++ (l ++ (tail ++ behind))) (sym value)

@@ -25,7 +25,7 @@ field_there [] k less = absurd (omega (arith, less))
 field_there (f ∷ fs) zero less = (f, refl)
 field_there (f ∷ fs) (suc k) less = field_there fs k (omega (arith, less))
 
-module _ (L : LaidSchema) (defaults : Bool) (inner indent : List ℕ) where
+module _ (L : LaidSchema) (defaults : Bool) (inner indent : Option (List ℕ)) where
   -- where no entries are left the bracket is closed
   members_none : (some : Bool) (fs : List DeclaredField)
       → members_text L defaults inner indent some fs no_entries ≡ closing indent some ++ codes "}"

@@ -37,6 +37,34 @@ const ASKED: &[(&str, &str)] = &[
         "check s -- - -o",
         "DoEach(Batch { schema: \"s\", files: [\"-\", \"-o\"], task: Check { raw: false } }, AtTerminal)",
     ),
+    (
+        "json --compact --size-prefixed --explain s b",
+        "DoFormed(Json { schema: \"s\", bin: \"b\", raw: false, defaults: false }, \
+        Form { size_prefixed: true, compact: true }, Always)",
+    ),
+    (
+        "check --size-prefixed s a b",
+        "DoEachFormed(Batch { schema: \"s\", files: [\"a\", \"b\"], task: Check { raw: false } }, \
+        Form { size_prefixed: true, compact: false }, AtTerminal)",
+    ),
+    (
+        "binary --lines --keep-going s - -",
+        "DoStream(Stream { schema: \"s\", input: \"-\", task: Binary { out: \"-\", unknown: false }, \
+        keep_going: true }, AtTerminal)",
+    ),
+    (
+        "json --raw-binary --lines s b",
+        "DoStream(Stream { schema: \"s\", input: \"b\", task: Json { raw: true, defaults: false }, \
+        keep_going: false }, AtTerminal)",
+    ),
+    (
+        "inspect --size-prefixed s b",
+        "Inspect(Bytes { schema: \"s\", bin: \"b\", raw: false, size_prefixed: true }, AtTerminal)",
+    ),
+    (
+        "inspect --header --terse b",
+        "Inspect(Header { bin: \"b\" }, Never)",
+    ),
     ("explain 73", "Explain(Some(\"73\"))"),
     ("explain", "Explain(None)"),
 ];
@@ -57,6 +85,14 @@ const REFUSED: &[&str] = &[
     "check --what s",
     "explain 1 2",
     "explain --explain 1",
+    "json --lines --compact s b",
+    "binary --lines -o d s j",
+    "check --lines s",
+    "check --keep-going s b",
+    "inspect b",
+    "inspect --header s b",
+    "inspect --header --raw-binary b",
+    "inspect - -",
 ];
 
 const HELP: &[&str] = &["--help", "-h", "json --help", "check -h", "help binary"];
@@ -112,6 +148,9 @@ fn lines_that_are_more_than_one_job(rt: HostRuntime) -> Result<(), Fail> {
         "explain 7",
         "check s b c",
         "json -o d s b",
+        "json --lines s b",
+        "json --compact s b",
+        "inspect s b",
         "what",
     ] {
         let words = words(rt.alloc(), line)?;

@@ -1,4 +1,4 @@
-use Rattle.flatc_cli.specs.Commands.{plain_app, binary_app, json_app, check_app, conform_app, explain_app}
+use Rattle.flatc_cli.specs.Commands.{plain_app, binary_app, json_app, check_app, conform_app, inspect_app, explain_app}
 use Rattle.flatc_cli.proofs.commands.flatc_command.Goals as goal
 
 pub returns : goal.returns
@@ -7,4 +7,5 @@ returns c =
     let with_json = c.in_ok-command-3.ensures _ with_binary json_app c.json_command.ensures in
     let with_check = c.in_ok-command-4.ensures _ with_json check_app c.check_command.ensures in
     let with_conform = c.in_ok-command-5.ensures _ with_check conform_app c.conform_command.ensures in
-    c.with_job-5.ensures _ with_conform explain_app c.explain_command.ensures
+    let with_inspect = c.in_ok-command-6.ensures _ with_conform inspect_app c.inspect_command.ensures in
+    c.with_job-6.ensures _ with_inspect explain_app c.explain_command.ensures

@@ -1,11 +1,11 @@
 use Rattle.std.proofs.Common.{Some, refl, sym, ◌∙◌}
 use Rattle.std.proofs.KnownBytes.{Appends-nil}
 use Rattle.fb_json.specs.Meant.{type_place}
-use Rattle.fb_text.specs.Texts.{json_text}
+use Rattle.fb_text.specs.Texts.{spaced_text}
 use Rattle.fb_text.proofs.text.WholeWhereEachUnionIsNamed.{named_whole, unnamed_part}
 use Rattle.fb_text.proofs.values.MemberIsItsCodeAndValue.{never_unnamed}
 use Rattle.fb_text.proofs.text.TextIsPrintedWhole.{some_text, whole_printed}
-use Rattle.fb_text.proofs.text.write_text.Goals as goal
+use Rattle.fb_text.proofs.text.write_spaced.Goals as goal
 
 pub returns-in-Some-clause-printed : goal.returns-in-Some-clause-printed
 returns-in-Some-clause-printed g c d lies =
@@ -20,7 +20,7 @@ returns-then-failed-clause-printed g c d lies =
     let found = rw c.type_id.ensures
     at (c.first_unnamed.ensures c.args.view.now.layout.now (Some d) (refl, d, refl, lies)) in
     let whole = named_whole (type_place c.args.view.now.table.0) d (sym c.in_default.is ∙ found) in
-    (whole, 0, some_text c.args.view.now.layout.now c.args.defaults d, Appends-nil _, refl)
+    (whole, 0, some_text c.args.spacing c.args.view.now.layout.now c.args.defaults _ _ _ d lies, Appends-nil _, refl)
 
 pub returns-clause-printed : goal.returns-clause-printed
 returns-clause-printed g c d lies =
@@ -29,7 +29,7 @@ returns-clause-printed g c d lies =
     at (c.first_unnamed.ensures c.args.view.now.layout.now (Some d) (refl, d, refl, lies)) in
     let whole = named_whole (type_place c.args.view.now.table.0) d (sym c.in_default.is ∙ found) in
     let written = rw c.layout.ensures at (c.write_root.ensures.written d (sym c.layout.ensures, d, refl, lies)) in
-    whole_printed (type_place c.args.view.now.table.0) d (json_text L c.args.defaults d) _ _ c.write_root.result whole
+    whole_printed (type_place c.args.view.now.table.0) d (spaced_text c.args.spacing L c.args.defaults d) _ _ c.write_root.result whole
     written
 
 pub returns-clause-untouched : goal.returns-clause-untouched

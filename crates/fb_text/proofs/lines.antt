@@ -1,0 +1,2 @@
+-- What the proofs of src/lines.rt use.
+pub mod MemberLineHasPieces
