@@ -1,6 +1,6 @@
 //! The flags of a line, as options of the calls.
 use crate::limits;
-use flatc_cli::{Form, Job, StreamTask, Task};
+use flatc_cli::{Form, Inspection, Job, StreamTask, Task};
 use flatc_tool::{DecodeOptions, EncodeOptions};
 
 /// What a line says of how buffers and JSON texts are read and written.
@@ -88,6 +88,23 @@ impl Flags {
                 raw_binary: *raw,
                 ..flags
             },
+        }
+    }
+
+    pub(crate) fn of_inspection(inspection: &Inspection) -> Flags {
+        match inspection {
+            Inspection::Bytes {
+                raw,
+                size_prefixed,
+                ..
+            } => Flags {
+                raw_binary: *raw,
+                ..plain(Form {
+                    size_prefixed: *size_prefixed,
+                    compact: false,
+                })
+            },
+            Inspection::Header { .. } => plain(USUAL),
         }
     }
 

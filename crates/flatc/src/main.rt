@@ -9,6 +9,7 @@ mod explained;
 mod faults;
 mod flags;
 mod hints;
+mod inspected;
 mod messages;
 mod terminal;
 
@@ -17,11 +18,12 @@ use crate::explained::{explain_number, explain_refusal, list_numbers, warn};
 use crate::faults::{Buffer, read_fault, write_fault};
 use crate::flags::{Flags, USUAL};
 use crate::hints::hint_for;
+use crate::inspected::inspect;
 use crate::messages::do_stream;
 use crate::terminal::is_explained;
 use clap::Error;
 use clap::error::ErrorKind;
-use flatc_cli::{Batch, Form, Inspection, Job, Request, request_of};
+use flatc_cli::{Batch, Form, Job, Request, request_of};
 use flatc_files::{Reasoned, Texts, write_out};
 use flatc_tool::command::report_noted;
 use flatc_tool::{
@@ -273,12 +275,6 @@ fn do_and_report(rt: &HostRuntime, job: &Job, form: Form, explained: bool) -> u8
         }
     }
     status
-}
-
-/// Shows what the bytes of a buffer are, and returns the status.
-fn inspect(rt: &HostRuntime, _inspection: &Inspection, _explained: bool) -> u8 {
-    let _told = eprintln!(rt; "error: nothing is inspected yet");
-    USAGE
 }
 
 /// Does a batch, and returns the status; a usage error where its outputs can't be named.

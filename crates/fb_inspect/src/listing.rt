@@ -1,0 +1,254 @@
+//! A listing of a buffer's bytes, some lines at a time.
+ghost use Rattle.std.specs.Prelude.{IfOk, IfSome, chars, length, min};
+ghost use Rattle.std.specs.String.{string_bytes};
+ghost use Rattle.fb_explain_pages.specs.Lines.{IsPage};
+ghost use Rattle.fb_inspect.specs.Covers.{CoversBelow};
+
+use crate::collecting::{Collector, Stop, u32_within};
+use crate::cover::without_gaps;
+use crate::details::{details_of, push_detail};
+use crate::nodes::Nodes;
+use crate::page_lines::begin_piece;
+use crate::parts_shown::push_head;
+use crate::paths::{Scene, push_path};
+use crate::pieces::{Piece, What};
+use fb_explain_pages::Page;
+use fb_layout::Layout;
+use fb_read::{ReadFault, Step};
+use std::alloc::{AllocError, Global};
+
+// How many columns a line has at most, and how many details are shown at a time.
+const COLUMNS: usize = 120;
+
+const AT_A_TIME: u32 = 64;
+
+/// What the bytes of a buffer are, in their order.
+///
+/// Each part is listed once for each type that it is reached as, however many references lead to it.
+#[derive(Drop)]
+pub struct Listing<'a> {
+    alloc: Global,
+    layout: &'a Layout,
+    bytes: &'a [u8],
+    nodes: Nodes,
+    pieces: Vec<Piece>,
+    /// Where the walk stopped, and the fault that is told.
+    stop: Option<Stop>,
+    fault: Option<ReadFault>,
+    /// The next piece, and the next of its details.
+    next: usize,
+    detail: u32,
+    /// Up to where bytes were listed, and where the last vtable begins.
+    covered: u32,
+    vtable: Option<u32>,
+    // each byte is in a piece
+    ghost whole: { ∥ CoversBelow pieces.items (min (length bytes.now) 4294967295) ∥₁ },
+}
+
+/// Whether a fault is of the header, so that nothing behind it is read.
+fn is_of_header(fault: ReadFault) -> bool {
+    matches!(
+        fault,
+        ReadFault::Short(_) | ReadFault::TooLong(_) | ReadFault::WrongIdentifier(_)
+    )
+}
+
+/// Whether the count in front of a size-prefixed buffer is right.
+fn is_counted(bytes: &[u8], front: u32) -> bool {
+    front == 0 || (u32_within(bytes, 0) as usize).saturating_add(4) == bytes.len()
+}
+
+/// Notes the pieces of a header, of which the reference to the root is at a position.
+fn note_header(collector: &mut Collector<'_>, front: u32) -> Result<(), ReadFault> {
+    let front = front as usize;
+    collector.note(0, 0, front, What::Count)?;
+    collector.note(0, front, 4, What::Root)?;
+    if collector.layout.schema().identifier().is_some() {
+        collector.note(0, front.saturating_add(4), 4, What::Identifier)?;
+    }
+    Ok(())
+}
+
+/// Ends each unknown field where the next piece begins, since how long it is isn't known.
+fn end_unknown(pieces: &mut Vec<Piece>) {
+    let mut next = u32::MAX;
+    for piece in pieces.iter_mut().rev() {
+        if matches!(piece.what, What::UnknownField(_)) && piece.start < next {
+            piece.end = piece.end.min(next);
+        }
+        next = piece.start;
+    }
+}
+
+impl<'a> Listing<'a> {
+    /// The listing of bytes that were verified with this outcome.
+    ///
+    /// The reference to the root is at `front`: 0, or 4 behind the count of a size-prefixed buffer. It takes
+    /// memory for a list of the parts, each with its fields, and fails where that is refused.
+    pub fn of(
+        alloc: Global,
+        layout: &'a Layout,
+        bytes: &'a [u8],
+        front: u32,
+        fault: Option<ReadFault>,
+    ) -> Result<Listing<'a>, AllocError> {
+        let mut collector = Collector::new(alloc, layout, bytes);
+        if collect(&mut collector, front, fault).is_err() {
+            return Err(AllocError);
+        }
+        let Collector {
+            nodes,
+            mut pieces,
+            stop,
+            ..
+        } = collector;
+        pieces.sort_by_key(|piece| piece.start)?;
+        end_unknown(&mut pieces);
+        let len = bytes.len().min(u32::MAX as usize) as u32;
+        let pieces = without_gaps(alloc, pieces.as_slice(), len)?;
+        Ok(Listing {
+            alloc,
+            layout,
+            bytes,
+            nodes,
+            pieces,
+            stop,
+            fault,
+            next: 0,
+            detail: 0,
+            covered: 0,
+            vtable: None,
+        })
+    }
+
+    fn scene(&self) -> Scene<'_> {
+        Scene {
+            alloc: self.alloc,
+            layout: self.layout,
+            bytes: self.bytes,
+            nodes: &self.nodes,
+        }
+    }
+
+    /// The next lines; None behind the last ones.
+    pub fn next_lines(&mut self) -> Result<Option<String>, AllocError>
+        ensures plain { IfOk result (λ lines. IfSome lines (λ text. IsPage (chars (string_bytes text)))) }
+    {
+        let Some(piece) = self.pieces.get(self.next).copied() else {
+            return Ok(None);
+        };
+        let mut page = Page::new(self.alloc, COLUMNS);
+        if self.detail == 0 {
+            self.push_first(&mut page, &piece);
+        }
+        self.push_details(&mut page, &piece);
+        Ok(Some(page.into_text()?))
+    }
+
+    /// Whether a piece begins before one above it ends. Tables of several types may have one vtable.
+    fn overlaps(&self, piece: &Piece) -> bool {
+        let is_again = match self.vtable {
+            Some(start) => matches!(piece.what, What::Vtable) && start == piece.start,
+            None => false,
+        };
+        piece.start < self.covered && !is_again
+    }
+
+    /// Notes that a piece was listed.
+    fn note_listed(&mut self, piece: &Piece) {
+        self.covered = self.covered.max(piece.end);
+        if let What::Vtable = piece.what {
+            self.vtable = Some(piece.start);
+        }
+    }
+
+    /// Adds the line of a piece that isn't the fault.
+    fn push_piece(&self, page: &mut Page, piece: &Piece) {
+        let is_whole = self.fault.is_none();
+        let overlaps = self.overlaps(piece);
+        push_head(page, self.scene(), piece, is_whole, overlaps);
+    }
+
+    /// Adds a piece's first line.
+    fn push_first(&mut self, page: &mut Page, piece: &Piece) {
+        match piece.what {
+            What::Fault => self.push_fault(page, piece),
+            _ => {
+                self.push_piece(page, piece);
+                self.note_listed(piece);
+            }
+        }
+    }
+
+    /// Adds the next of a piece's details, and goes on to the next piece behind the last one.
+    fn push_details(&mut self, page: &mut Page, piece: &Piece) {
+        let count = details_of(self.scene(), piece);
+        for _ in 0..AT_A_TIME {
+            if self.detail >= count {
+                break;
+            }
+            let detail = self.detail;
+            let pushed = push_detail(page, self.scene(), piece, detail);
+            page.keep(pushed);
+            self.detail = self.detail.saturating_add(1);
+        }
+        if self.detail >= count {
+            self.next = self.next.saturating_add(1);
+            self.detail = 0;
+        }
+    }
+
+    /// Adds the line of the fault.
+    fn push_fault(&self, page: &mut Page, piece: &Piece) {
+        begin_piece(page, self.bytes, piece);
+        let Some(fault) = self.fault else {
+            page.end_line();
+            return;
+        };
+        page.push_str("FAULT ");
+        page.push_number(u64::from(fault.number()));
+        page.push_str(" ");
+        page.push_str(fault.name());
+        if let Some(at) = fault.offset() {
+            page.push_str(" at ");
+            page.push_number(at);
+        }
+        if let ReadFault::MissingRequired(_, slot) = fault {
+            page.push_str(" slot ");
+            page.push_number(u64::from(slot));
+        }
+        if let Some(stop) = self.stop
+            && stop.fault == fault
+        {
+            page.push_str(" of ");
+            push_path(page, self.scene(), stop.node, stop.step);
+        }
+        page.end_line();
+    }
+}
+
+/// Notes all pieces, that of the fault last.
+fn collect(
+    collector: &mut Collector<'_>,
+    front: u32,
+    fault: Option<ReadFault>,
+) -> Result<(), ReadFault> {
+    note_header(collector, front)?;
+    match fault {
+        Some(fault) if is_of_header(fault) || !is_counted(collector.bytes, front) => {}
+        _ => collector.collect(front)?,
+    }
+    if let Some(fault) = fault {
+        let offset = fault.offset().unwrap_or(0);
+        let at = (collector.bytes.len() as u64)
+            .min(offset)
+            .min(u64::from(u32::MAX)) as u32;
+        collector.pieces.push(Piece {
+            start: at,
+            end: at,
+            node: 0,
+            what: What::Fault,
+        })?;
+    }
+    Ok(())
+}

@@ -1,0 +1,135 @@
+//! The parts of a buffer that are reached, each once for each type that it is reached as.
+use fb_index::HashKey;
+use fb_read::Step;
+use fb_schema::{Kind, TypeId};
+use indexmap::IndexSet;
+use std::alloc::{AllocError, Global};
+
+/// What a part is reached as.
+#[derive(Clone, Copy, Drop)]
+pub(crate) enum Lead {
+    Table(TypeId),
+    /// The vtable of a table of this type.
+    Vtable(TypeId),
+    Text,
+    /// A vector with elements of this kind.
+    Vector(Kind),
+}
+
+impl Lead {
+    /// A pair of numbers that no other type has.
+    fn key(self) -> (u8, u64) {
+        match self {
+            Lead::Table(table) => (0, table.0),
+            Lead::Vtable(table) => (1, table.0),
+            Lead::Text => (2, 0),
+            Lead::Vector(Kind::Text) => (3, 0),
+            Lead::Vector(Kind::Scalar(base)) => (4, base as u64),
+            Lead::Vector(Kind::Enum(values)) => (5, values.0),
+            Lead::Vector(Kind::Struct(structure)) => (6, structure.0),
+            Lead::Vector(Kind::Table(table)) => (7, table.0),
+            Lead::Vector(Kind::Union(union)) => (8, union.0),
+            Lead::Vector(Kind::Code(union)) => (9, union.0),
+        }
+    }
+}
+
+/// A part, and the reference that first led to it.
+#[derive(Clone, Copy, Drop)]
+pub(crate) struct Node {
+    pub lead: Lead,
+    pub at: u32,
+    /// The part that the reference is in, and which of its slots or elements it is. The root is its own parent.
+    pub parent: u32,
+    pub number: u32,
+    /// How many references lead to it.
+    pub references: u32,
+}
+
+/// The parts that were reached so far, by number.
+#[derive(Drop)]
+pub(crate) struct Nodes {
+    keys: IndexSet<(u32, (u8, u64)), HashKey>,
+    nodes: Vec<Node>,
+}
+
+// Each step but a reference's takes two characters of a path at least.
+const MOST_STEPS: usize = 64;
+
+impl Nodes {
+    /// None yet; the key is that of a hash of positions.
+    pub(crate) fn new(alloc: Global, key: HashKey) -> Nodes {
+        Nodes {
+            keys: IndexSet::with_hasher(alloc, key),
+            nodes: Vec::new(alloc),
+        }
+    }
+
+    /// The number of the part at a position, and whether it is reached for the first time.
+    pub(crate) fn reach(
+        &mut self,
+        lead: Lead,
+        at: u32,
+        parent: u32,
+        number: u32,
+    ) -> Result<(u32, bool), AllocError> {
+        let Ok((index, is_new)) = self.keys.insert_full((at, lead.key())) else {
+            return Err(AllocError);
+        };
+        if is_new {
+            let node = Node {
+                lead,
+                at,
+                parent,
+                number,
+                references: 1,
+            };
+            if self.nodes.push(node).is_err() {
+                return Err(AllocError);
+            }
+        } else if let Some(node) = self.nodes.get_mut(index) {
+            node.references = node.references.saturating_add(1);
+        }
+        match u32::try_from(index) {
+            Ok(number) => Ok((number, is_new)),
+            Err(_) => Err(AllocError),
+        }
+    }
+
+    /// A part by its number.
+    pub(crate) fn get(&self, number: u32) -> Option<Node> {
+        self.nodes.get(number as usize).copied()
+    }
+
+    /// The steps from the root to a part, the last one first, as far as a line may show them.
+    pub(crate) fn steps_back(&self, alloc: Global, number: u32) -> Result<Vec<Step>, AllocError> {
+        let mut steps = Vec::new(alloc);
+        let mut number = number;
+        for _ in 0..MOST_STEPS {
+            let Some(node) = self.get(number) else {
+                return Ok(steps);
+            };
+            if node.parent == number {
+                return Ok(steps);
+            }
+            if steps.push(self.step_to(&node)).is_err() {
+                return Err(AllocError);
+            }
+            number = node.parent;
+        }
+        Ok(steps)
+    }
+
+    /// The step to a part from the one that its reference is in.
+    fn step_to(&self, node: &Node) -> Step {
+        match self.get(node.parent) {
+            Some(
+                Node {
+                    lead: Lead::Table(table),
+                    ..
+                },
+            ) => Step::Slot(table, node.number.min(65535) as u16),
+            _ => Step::Element(node.number),
+        }
+    }
+}

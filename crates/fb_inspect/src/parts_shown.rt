@@ -1,0 +1,246 @@
+//! The first line of each piece.
+use crate::collecting::{u16_within, u32_within};
+use crate::nodes::{Lead, Node};
+use crate::page_lines::begin_piece;
+use crate::paths::{Scene, push_path};
+use crate::pieces::{Piece, What};
+use crate::values_shown::{push_code, push_number_at, push_numbers, push_text};
+use fb_explain_pages::Page;
+use fb_explain_words::shapes::{field_at, kind_name, push_shape, type_name};
+use fb_read::Step;
+use fb_schema::{Kind, Shape, TypeId};
+
+/// Adds that several references lead to a part.
+fn push_shared(page: &mut Page, node: &Node, what: &str) {
+    if node.references > 1 {
+        page.push_str(", shared by ");
+        page.push_number(u64::from(node.references));
+        page.push_str(what);
+    }
+}
+
+/// Adds where the reference at a position leads.
+fn push_target(page: &mut Page, bytes: &[u8], at: usize) {
+    page.push_str(" at ");
+    page.push_number((at as u64).saturating_add(u64::from(u32_within(bytes, at))));
+}
+
+/// Adds what a table has in a slot.
+fn push_field(page: &mut Page, scene: Scene<'_>, table: TypeId, slot: u16, at: usize) {
+    let schema = scene.layout.schema();
+    let Some(field) = field_at(schema, table, slot) else {
+        return;
+    };
+    if let Shape::One(Kind::Code(union)) = field.shape {
+        page.push_str("type of union ");
+        page.push_str(type_name(schema, union));
+        push_code(
+            page,
+            schema,
+            union,
+            scene.bytes.get(at).copied().unwrap_or(0),
+        );
+        return;
+    }
+    push_shape(page, schema, field.shape);
+    match field.shape {
+        Shape::One(Kind::Scalar(_) | Kind::Enum(_)) => {
+            if let Shape::One(kind) = field.shape {
+                push_number_at(page, scene.layout, scene.bytes, kind, at);
+            }
+        }
+        Shape::One(Kind::Text | Kind::Table(_)) | Shape::Many(_) => {
+            push_target(page, scene.bytes, at)
+        }
+        Shape::One(Kind::Struct(_) | Kind::Union(_) | Kind::Code(_)) => {}
+    }
+    if field.deprecated {
+        page.push_str(", deprecated");
+    }
+}
+
+/// Adds how long a string or a vector is.
+fn push_length(page: &mut Page, scene: Scene<'_>, node: &Node) {
+    let len = u64::from(u32_within(scene.bytes, node.at as usize));
+    match node.lead {
+        Lead::Vector(kind) => {
+            page.push_str("[");
+            page.push_str(kind_name(scene.layout.schema(), kind));
+            page.push_str("], ");
+            page.push_number(len);
+            page.push_str(if len == 1 { " element" } else { " elements" });
+        }
+        _ => {
+            page.push_str("string, ");
+            page.push_number(len);
+            page.push_str(if len == 1 { " byte" } else { " bytes" });
+        }
+    }
+    push_shared(page, node, " references");
+}
+
+/// Adds what a string or a vector has.
+fn push_content(page: &mut Page, scene: Scene<'_>, node: &Node, piece: &Piece) {
+    let at = piece.start as usize;
+    match node.lead {
+        Lead::Vector(kind) => {
+            page.push_str("[");
+            page.push_str(kind_name(scene.layout.schema(), kind));
+            page.push_str("]");
+            let count = u32_within(scene.bytes, node.at as usize) as usize;
+            push_numbers(page, scene.layout, scene.bytes, kind, at, count);
+        }
+        _ => {
+            let end = (piece.end as usize).saturating_sub(1);
+            let text = scene.bytes.get(at..end).unwrap_or(&[]);
+            if let Ok(text) = std::str::from_utf8(text) {
+                page.push_str("string = ");
+                push_text(page, text);
+            }
+        }
+    }
+}
+
+/// Adds what a piece of a part is.
+fn push_part(page: &mut Page, scene: Scene<'_>, piece: &Piece, node: &Node) {
+    let schema = scene.layout.schema();
+    let at = piece.start as usize;
+    let table = match node.lead {
+        Lead::Table(table) | Lead::Vtable(table) => table,
+        Lead::Text | Lead::Vector(_) => schema.root(),
+    };
+    match piece.what {
+        What::Vtable => {
+            page.push_str("vtable of ");
+            page.push_str(type_name(schema, table));
+            push_shared(page, node, " tables");
+        }
+        What::Table => {
+            push_path(page, scene, piece.node, Step::Reference);
+            page.push_str(": ");
+            page.push_str("table ");
+            page.push_str(type_name(schema, table));
+            page.push_str(", vtable at ");
+            let back = i64::from(u32_within(scene.bytes, at).cast_signed());
+            page.push_integer(i128::from(piece.start) - i128::from(back));
+            push_shared(page, node, " references");
+        }
+        What::Field(slot) => {
+            push_path(page, scene, piece.node, Step::Slot(table, slot));
+            page.push_str(": ");
+            push_field(page, scene, table, slot, at);
+        }
+        What::Member(slot, code) => {
+            push_path(page, scene, piece.node, Step::Slot(table, slot));
+            page.push_str(": ");
+            push_member(page, scene, table, slot, code);
+            push_target(page, scene.bytes, at);
+        }
+        What::UnknownMember(slot, code) => {
+            push_path(page, scene, piece.node, Step::Slot(table, slot));
+            page.push_str(": ");
+            page.push_str("value of a union under code ");
+            page.push_number(u64::from(code));
+            page.push_str(", which no member has");
+        }
+        What::UnknownField(slot) => {
+            push_path(page, scene, piece.node, Step::Reference);
+            page.push_str(": ");
+            page.push_str("field in slot ");
+            page.push_number(u64::from(slot));
+            page.push_str(", not in the schema");
+        }
+        What::Length => {
+            push_path(page, scene, piece.node, Step::Reference);
+            page.push_str(": ");
+            push_length(page, scene, node);
+        }
+        What::Content => {
+            push_path(page, scene, piece.node, Step::Reference);
+            page.push_str(": ");
+            push_content(page, scene, node, piece);
+        }
+        What::Count | What::Root | What::Identifier | What::Gap | What::Fault => {}
+    }
+}
+
+/// Adds a union's member.
+fn push_member(page: &mut Page, scene: Scene<'_>, table: TypeId, slot: u16, code: u8) {
+    let schema = scene.layout.schema();
+    if let Some(field) = field_at(schema, table, slot)
+        && let Shape::One(Kind::Union(union)) = field.shape
+        && let Some(member) = schema.member_by_code(union, code)
+    {
+        page.push_str(type_name(schema, member));
+        page.push_str(" of union ");
+        page.push_str(type_name(schema, union));
+    }
+}
+
+/// Adds what the header of a buffer has.
+fn push_front(page: &mut Page, scene: Scene<'_>, piece: &Piece) {
+    let at = piece.start as usize;
+    match piece.what {
+        What::Count => {
+            page.push_str("count of the bytes behind it: ");
+            page.push_number(u64::from(u32_within(scene.bytes, at)));
+        }
+        What::Root if piece.end < piece.start.saturating_add(4) => {
+            page.push_str("the bytes end inside the root's offset")
+        }
+        What::Root => {
+            page.push_str("root: ");
+            let schema = scene.layout.schema();
+            page.push_str(type_name(schema, schema.root()));
+            push_target(page, scene.bytes, at);
+        }
+        _ => {
+            page.push_str("file identifier ");
+            page.push_name(scene.bytes.get(at..piece.end as usize).unwrap_or(&[]));
+        }
+    }
+}
+
+/// What is said of bytes that nothing refers to.
+fn gap_words(scene: Scene<'_>, piece: &Piece, is_whole: bool) -> &'static str {
+    let bytes = scene
+        .bytes
+        .get(piece.start as usize..piece.end as usize)
+        .unwrap_or(&[]);
+    let are_zeros = bytes.iter().all(|byte| *byte == 0);
+    let is_short = bytes.len() < scene.layout.greatest() as usize;
+    match (are_zeros && is_short, is_whole) {
+        (true, _) => "padding",
+        (false, true) => "nothing refers to these bytes",
+        (false, false) => "not reached before the fault",
+    }
+}
+
+/// Adds the first line of a piece. `is_whole` is whether there is no fault.
+pub(crate) fn push_head(
+    page: &mut Page,
+    scene: Scene<'_>,
+    piece: &Piece,
+    is_whole: bool,
+    overlaps: bool,
+) {
+    begin_piece(page, scene.bytes, piece);
+    match piece.what {
+        What::Gap => page.push_str(gap_words(scene, piece, is_whole)),
+        What::Count | What::Root | What::Identifier => push_front(page, scene, piece),
+        _ => {
+            if let Some(node) = scene.nodes.get(piece.node) {
+                push_part(page, scene, piece, &node);
+            }
+        }
+    }
+    if overlaps {
+        page.push_str(" (overlaps what is above)");
+    }
+    page.end_line();
+}
+
+/// How many slots a vtable has numbers for.
+pub(crate) fn slots_held(bytes: &[u8], at: usize) -> u32 {
+    u32::from(u16_within(bytes, at).saturating_sub(4) / 2)
+}

@@ -1,0 +1,162 @@
+//! What is printed of the bytes of a buffer.
+use crate::explained::explain_refusal;
+use crate::faults::read_fault;
+use crate::flags::Flags;
+use crate::{limits, read_both, tell};
+use fb_inspect::{Listing, header_lines};
+use flatc_cli::Inspection;
+use flatc_files::{Reasoned, Texts};
+use flatc_tool::{Entries, ToolFault, WriteFault, schema_of, verify_framed};
+use std::io::Write;
+
+// How many bytes of lines are written at once.
+const AT_ONCE: usize = 65536;
+
+/// Writes bytes, and adds how many were written; returns whether that were all.
+fn send<W: Write>(out: &mut W, bytes: &[u8], written: &mut u64) -> bool {
+    let mut left = bytes;
+    for _ in 0..bytes.len() {
+        if left.is_empty() {
+            return true;
+        }
+        match out.write(left) {
+            Ok(count @ 1..) => {
+                *written = written.saturating_add(count as u64);
+                left = left.get(count..).unwrap_or(&[]);
+            }
+            _ => return false,
+        }
+    }
+    left.is_empty()
+}
+
+/// Prints all lines of a listing.
+fn print_lines<W: Write>(
+    rt: &HostRuntime,
+    listing: &mut Listing<'_>,
+    out: &mut W,
+) -> Result<(), ToolFault> {
+    let mut lines = String::new(rt.alloc());
+    let mut written = 0;
+    for _ in 0..u64::MAX {
+        let Ok(next) = listing.next_lines() else {
+            return Err(ToolFault::Memory);
+        };
+        let is_last = next.is_none();
+        if let Some(text) = next
+            && lines.push_str(text.as_str()).is_err()
+        {
+            return Err(ToolFault::Memory);
+        }
+        if is_last || lines.len() >= AT_ONCE {
+            if !send(out, lines.as_bytes(), &mut written) {
+                return Err(ToolFault::Write(WriteFault::WriteFailed(written)));
+            }
+            lines.clear();
+        }
+        if is_last {
+            return Ok(());
+        }
+    }
+    Ok(())
+}
+
+/// Prints what the bytes of a buffer are, and returns the buffer's fault behind the lines.
+fn print_listing(
+    rt: &HostRuntime,
+    texts: &mut Texts<'_>,
+    raw: bool,
+    size_prefixed: bool,
+) -> Result<(), ToolFault> {
+    let layout = match schema_of(rt.alloc(), texts.schema.bytes.as_slice()) {
+        Ok(layout) => layout,
+        Err(fault) => return Err(ToolFault::Schema(fault)),
+    };
+    let bytes = texts.input.bytes.as_slice();
+    let mut entries = Entries::new();
+    let fault = match verify_framed(&layout, bytes, limits(), raw, size_prefixed, &mut entries) {
+        Ok(_) => None,
+        Err(fault) => Some(fault),
+    };
+    let front = if size_prefixed { 4 } else { 0 };
+    let Ok(mut listing) = Listing::of(rt.alloc(), &layout, bytes, front, fault) else {
+        return Err(ToolFault::Memory);
+    };
+    let mut out = Reasoned::over(rt.stdout());
+    let printed = print_lines(rt, &mut listing, &mut out);
+    if let Some(error) = out.into_reason() {
+        texts.fail(rt, "standard output", &error);
+    }
+    printed?;
+    match fault {
+        Some(fault) => Err(ToolFault::Read(fault)),
+        None => Ok(()),
+    }
+}
+
+/// Prints what the bytes of a buffer are under a schema, line by line.
+///
+/// A damaged buffer is listed up to its fault, which is returned.
+fn inspect_file<'j>(
+    rt: &HostRuntime,
+    texts: &mut Texts<'j>,
+    paths: [&'j str; 2],
+    raw: bool,
+    size_prefixed: bool,
+) -> Result<(), ToolFault> {
+    read_both(rt, texts, paths)?;
+    print_listing(rt, texts, raw, size_prefixed)
+}
+
+/// Prints what the header of a file says, without a schema.
+fn inspect_header<'j>(
+    rt: &HostRuntime,
+    texts: &mut Texts<'j>,
+    path: &'j str,
+) -> Result<(), ToolFault> {
+    texts.read_input(rt, path).map_err(read_fault)?;
+    let Ok(lines) = header_lines(rt.alloc(), texts.input.bytes.as_slice()) else {
+        return Err(ToolFault::Memory);
+    };
+    let mut out = Reasoned::over(rt.stdout());
+    let mut written = 0;
+    let is_sent = send(&mut out, lines.as_bytes(), &mut written);
+    if let Some(error) = out.into_reason() {
+        texts.fail(rt, "standard output", &error);
+    }
+    if is_sent {
+        Ok(())
+    } else {
+        Err(ToolFault::Write(WriteFault::WriteFailed(written)))
+    }
+}
+
+/// Shows what the bytes of a buffer are, and returns the status.
+pub(crate) fn inspect(rt: &HostRuntime, inspection: &Inspection, is_explained: bool) -> u8 {
+    let mut texts = Texts::new(rt, is_explained);
+    let answer = match inspection {
+        Inspection::Bytes {
+            schema,
+            bin,
+            raw,
+            size_prefixed,
+        } => inspect_file(
+            rt,
+            &mut texts,
+            [schema.as_str(), bin.as_str()],
+            *raw,
+            *size_prefixed,
+        ),
+        Inspection::Header { bin } => inspect_header(rt, &mut texts, bin.as_str()),
+    };
+    match answer {
+        Ok(()) => 0,
+        Err(fault) => {
+            let status = tell(rt, Err(fault));
+            if is_explained {
+                explain_refusal(rt, Flags::of_inspection(inspection), &mut texts, fault);
+            }
+            status
+        }
+    }
+}
