@@ -42,7 +42,7 @@ fn try_owned(rt: &HostRuntime, example: &Example, layout: &Layout, arms: bool) -
 fn try_pieces(rt: &HostRuntime, example: &Example, layout: &Layout, arms: bool) -> Outcome {
     let limits = limits();
     arm(rt, arms);
-    let answer = encode_text(rt.alloc(), layout, example.json, limits, false, 8);
+    let answer = encode_text(rt.alloc(), layout, example.json, limits, false, 8, false);
     disarm(rt, arms);
     match answer {
         Ok(bytes) => Outcome::of(bytes.as_slice() == example.bytes),

@@ -25,7 +25,7 @@ fn outcome(
     unknown: bool,
     piece: usize,
 ) -> Result<Vec<u8>, TextFault> {
-    encode_text(alloc, layout, json, limits(), unknown, piece)
+    encode_text(alloc, layout, json, limits(), unknown, piece, false)
 }
 
 /// The first size of pieces with which a text has another outcome than at once.
