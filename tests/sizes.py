@@ -2,9 +2,11 @@
 
 A part of tests/soak.py, outside the gate.
 """
+import hashlib
 import json
 import os
 import subprocess
+import threading
 import time
 from array import array
 
@@ -21,6 +23,10 @@ HEAD = bytes.fromhex("0c000000 0000 0600 0800 0400 06000000 04000000")
 NUMBERS = 18_200_000
 FIRST = 4_000_000_000
 PIECE = 100_000
+# Lines of 1 kB, so that 2 GB of them come through a pipe; so many megabytes of memory are enough.
+LINES = 2_000_000
+LINE = 1_000
+ENOUGH = 20
 
 
 def measured(program, words, **more):
@@ -146,9 +152,43 @@ def many_monsters(tests, program):
     os.remove("horde.bin")
 
 
+def many_messages(tests, program):
+    """2 GB of JSON lines, made on the fly, become buffers, and these the same lines again."""
+    write("line.fbs", b"table T { n:uint; s:string; } root_type T;")
+    given, returned = hashlib.sha256(), hashlib.sha256()
+    words = [program, "binary", "--lines", "line.fbs", "-", "-"]
+    began = time.monotonic()
+    with subprocess.Popen(words, stdin=subprocess.PIPE, stdout=subprocess.PIPE) as there:
+        words = [program, "json", "--lines", "line.fbs", "-"]
+        with subprocess.Popen(words, stdin=there.stdout, stdout=subprocess.PIPE) as back:
+            there.stdout.close()
+
+            def give():
+                for start in range(1, LINES, PIECE // 100):
+                    texts = (b'{"n":%d,"s":"' % n for n in range(start, start + PIECE // 100))
+                    lines = b"".join(text + b"x" * (LINE - len(text) - 3) + b'"}\n' for text in texts)
+                    given.update(lines)
+                    there.stdin.write(lines)
+                there.stdin.close()
+
+            giver = threading.Thread(target=give)
+            giver.start()
+            while piece := back.stdout.read(1 << 20):
+                returned.update(piece)
+            giver.join()
+            ends = [os.wait4(child.pid, 0)[1:] for child in (there, back)]
+            there.returncode, back.returncode = (os.waitstatus_to_exitcode(status) for status, _ in ends)
+    memory = [usage.ru_maxrss // 1024 for _, usage in ends]
+    good = given.digest() == returned.digest() and (there.returncode, back.returncode) == (0, 0)
+    tests.tell("2 GB of messages there and back", good, f"{there.returncode} {back.returncode}")
+    tests.tell("the memory of 2 GB of messages", max(memory) < ENOUGH, f"{memory} MB")
+    seconds = time.monotonic() - began
+    print(f"sizes: 2 GB of messages there and back: {seconds:.1f} seconds, {memory} MB", flush=True)
+
+
 def sizes(program):
     def part(tests):
-        for one in (long_files, long_vector, long_text, many_monsters):
+        for one in (long_files, long_vector, long_text, many_monsters, many_messages):
             one(tests, program)
 
     return part
