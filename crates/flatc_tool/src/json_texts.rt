@@ -63,7 +63,12 @@ pub fn decode_to<W: Write>(
         Ok(view) => view,
         Err(fault) => return Err(ToolFault::Read(fault)),
     };
-    match write_spaced(&view, options.defaults_json, spacing_of(options.compact), out) {
+    match write_spaced(
+        &view,
+        options.defaults_json,
+        spacing_of(options.compact),
+        out,
+    ) {
         Ok(()) => Ok(()),
         Err(fault) => Err(ToolFault::Write(fault)),
     }
