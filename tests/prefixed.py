@@ -23,7 +23,7 @@ MESSAGE = bytes.fromhex("14000000 0c000000 0000 0600 0800 0400 06000000 07000000
 JSON = b'{"a":7}'
 PREFIXED = "--size-prefixed"
 SCHEMAS = 200
-MOST_SEEDS = 400
+MOST_SEEDS = 600
 THEIRS = shutil.which("flatc")
 HEADER = "/usr/include/flatbuffers/reflection.h"
 
@@ -66,7 +66,7 @@ def explained(tests):
     for flags in ([], [PREFIXED]):
         lines = told(tests, ["check", *flags, "--explain", "one.fbs", "two.bin"])
         tests.tell(f"two messages, {flags}", "2 size-prefixed buffers, one behind the other" in lines, lines)
-    write("bad.bin", SEVEN[:16])
+    write("bad.bin", SEVEN[:18])
     lines = told(tests, ["check", "--explain", "one.fbs", "bad.bin"])
     tests.tell("no word of a count without reason", "prefixed" not in lines, lines)
 
