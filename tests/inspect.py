@@ -7,15 +7,19 @@ usage: tests/inspect.py PROGRAM
 Of thousands of damaged buffers each byte is in the range of some line, each line is plain and has 120 columns at most,
 and status and fault are those of check. The last line is 'N passed, M failed'.
 """
+import os
 import random
 import re
 import struct
+import subprocess
 import sys
 from concurrent.futures import ThreadPoolExecutor
 
 from harness import Tests, program_of, write
 
 DAMAGED = 10_000
+# what README says that a table, string or vector takes in the list
+PART_BYTES = 400
 SHOWN = 8
 
 
@@ -600,6 +604,29 @@ def are_plain(out):
     return all(len(one) <= 120 and one.isprintable() for one in out.decode().splitlines())
 
 
+def large(tests):
+    """What a buffer of 100 MB takes, beside its own bytes."""
+    count, step = 100_000, 1008
+    first = 24 + 4 * count
+    string = text(980 * b"x") + bytes(23)
+    write("s.fbs", b"table T { a:[string]; } root_type T;")
+    with open("b.bin", "wb") as file:
+        file.write(SEVEN[:16] + u32(4, count))
+        for number in range(count):
+            at = 24 + 4 * number
+            file.write(u32(first + step * number - at))
+        for _ in range(count):
+            file.write(string)
+    size = first + step * count
+    child = subprocess.Popen([tests.program, "inspect", "s.fbs", "b.bin"], stdout=subprocess.DEVNULL)
+    _, status, usage = os.wait4(child.pid, 0)
+    child.returncode = os.waitstatus_to_exitcode(status)
+    beside = usage.ru_maxrss * 1024 - size
+    tests.tell("100 MB", child.returncode == 0 and size > 100_000_000, f"status {child.returncode}, {size} bytes")
+    tests.tell("the memory of 100 MB", beside <= PART_BYTES * count, f"{beside} bytes beside {size}")
+    os.remove("b.bin")
+
+
 def damaged(tests):
     """Bytes of the rows' buffers that were changed, cut off or moved."""
     chance = random.Random(65)
@@ -669,4 +696,4 @@ def headers(tests):
 
 if __name__ == "__main__":
     PROGRAM = program_of(sys.argv, __doc__)
-    sys.exit(Tests("inspect", PROGRAM).main([rows, faults, size_prefixed, many_ways, headers, damaged]))
+    sys.exit(Tests("inspect", PROGRAM).main([rows, faults, size_prefixed, many_ways, headers, large, damaged]))
