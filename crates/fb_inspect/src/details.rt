@@ -1,6 +1,6 @@
 //! The further lines of a piece: a vtable's slots, a struct's fields, a vector's elements.
-use crate::collecting::{u16_within, u32_within};
 use crate::nodes::Lead;
+use crate::notes::{u16_within, u32_within};
 use crate::page_lines::begin_line;
 use crate::parts_shown::slots_held;
 use crate::paths::{Scene, path_of, push_cut_path};

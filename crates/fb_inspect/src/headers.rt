@@ -3,7 +3,7 @@ ghost use Rattle.std.specs.Prelude.{IfOk, chars};
 ghost use Rattle.std.specs.String.{string_bytes};
 ghost use Rattle.fb_explain_pages.specs.Lines.{IsPage};
 
-use crate::collecting::u32_within;
+use crate::notes::u32_within;
 use fb_explain_pages::Page;
 use std::alloc::{AllocError, Global};
 

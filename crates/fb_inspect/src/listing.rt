@@ -1,20 +1,23 @@
 //! A listing of a buffer's bytes, some lines at a time.
-ghost use Rattle.std.specs.Prelude.{IfOk, IfSome, chars, length, min};
+ghost use Rattle.std.specs.Prelude.{◌≡◌, IfOk, IfSome, chars, length, min};
 ghost use Rattle.std.specs.String.{string_bytes};
 ghost use Rattle.fb_explain_pages.specs.Lines.{IsPage};
+ghost use Rattle.fb_value.specs.Holds.{framed_fault};
 ghost use Rattle.fb_inspect.specs.Covers.{CoversBelow};
 
-use crate::collecting::{Collector, Stop, u32_within};
 use crate::cover::without_gaps;
 use crate::details::{details_of, push_detail};
+use crate::lister::Lister;
 use crate::nodes::Nodes;
+use crate::notes::Notes;
 use crate::page_lines::begin_piece;
 use crate::parts_shown::push_head;
-use crate::paths::{Scene, push_path};
+use crate::paths::{Scene, path_back, push_cut_path};
 use crate::pieces::{Piece, What};
 use fb_explain_pages::Page;
 use fb_layout::Layout;
-use fb_read::{ReadFault, Step};
+use fb_read::{Buffer, ReadFault, Step, visit_buffer};
+use fb_value::{Limits, front_of};
 use std::alloc::{AllocError, Global};
 
 // How many columns a line has at most, and how many details are shown at a time.
@@ -32,9 +35,9 @@ pub struct Listing<'a> {
     bytes: &'a [u8],
     nodes: Nodes,
     pieces: Vec<Piece>,
-    /// Where the walk stopped, and the fault that is told.
-    stop: Option<Stop>,
     fault: Option<ReadFault>,
+    /// The steps back from a fault that isn't of the front, the last one first.
+    way_back: Option<Vec<Step>>,
     /// The next piece, and the next of its details.
     next: usize,
     detail: u32,
@@ -45,28 +48,54 @@ pub struct Listing<'a> {
     ghost whole: { ∥ CoversBelow pieces.items (min (length bytes.now) 4294967295) ∥₁ },
 }
 
-/// Whether a fault is of the header, so that nothing behind it is read.
-fn is_of_header(fault: ReadFault) -> bool {
-    matches!(
-        fault,
-        ReadFault::Short(_) | ReadFault::TooLong(_) | ReadFault::WrongIdentifier(_)
-    )
-}
-
-/// Whether the count in front of a size-prefixed buffer is right.
-fn is_counted(bytes: &[u8], front: u32) -> bool {
-    front == 0 || (u32_within(bytes, 0) as usize).saturating_add(4) == bytes.len()
-}
-
-/// Notes the pieces of a header, of which the reference to the root is at a position.
-fn note_header(collector: &mut Collector<'_>, front: u32) -> Result<(), ReadFault> {
-    let front = front as usize;
-    collector.note(0, 0, front, What::Count)?;
-    collector.note(0, front, 4, What::Root)?;
-    if collector.layout.schema().identifier().is_some() {
-        collector.note(0, front.saturating_add(4), 4, What::Identifier)?;
+/// Notes the pieces of a buffer's front: a count, the reference to the root, and the identifier.
+fn note_front(notes: &mut Notes<'_>, front: usize) {
+    notes.note(0, 0, front, What::Count);
+    notes.note(0, front, 4, What::Root);
+    if notes.layout.schema().identifier().is_some() {
+        notes.note(0, front.saturating_add(4), 4, What::Identifier);
     }
-    Ok(())
+}
+
+/// Notes what is in a buffer along a walk over it, and returns its fault, if it has one.
+fn collect<'a>(
+    alloc: Global,
+    layout: &'a Layout,
+    bytes: &'a [u8],
+    limits: Limits,
+    raw: bool,
+    prefixed: bool,
+) -> (Notes<'a>, Option<ReadFault>)
+    ensures fault { result.1 ≡ framed_fault prefixed layout.now limits raw bytes.now }
+{
+    let mut notes = Notes::new(alloc, layout, bytes);
+    note_front(&mut notes, front_of(prefixed));
+    let buffer = match Buffer::checked(layout, bytes, limits, raw, prefixed) {
+        Ok(buffer) => buffer,
+        Err(fault) => return (notes, Some(fault)),
+    };
+    let lister = Lister::new(alloc, buffer, notes);
+    let (lister, visited) = visit_buffer(&buffer, lister, prefixed);
+    let mut notes = lister.into_notes();
+    notes.is_walked = true;
+    (notes, visited.err())
+}
+
+/// Notes where a fault is.
+fn note_fault(notes: &mut Notes<'_>, fault: ReadFault) {
+    let offset = fault.offset().unwrap_or(0);
+    let at = (notes.bytes.len() as u64)
+        .min(offset)
+        .min(u64::from(u32::MAX)) as u32;
+    let piece = Piece {
+        start: at,
+        end: at,
+        node: 0,
+        what: What::Fault,
+    };
+    if notes.pieces.push(piece).is_err() {
+        notes.is_cut = true;
+    }
 }
 
 /// Ends each unknown field where the next piece begins, since how long it is isn't known.
@@ -81,27 +110,36 @@ fn end_unknown(pieces: &mut Vec<Piece>) {
 }
 
 impl<'a> Listing<'a> {
-    /// The listing of bytes that were verified with this outcome.
+    /// The listing of a buffer, up to its fault if it has one.
     ///
-    /// The reference to the root is at `front`: 0, or 4 behind the count of a size-prefixed buffer. It takes
+    /// `raw` skips the file identifier check, and a `prefixed` buffer has the count of its bytes in front. It takes
     /// memory for a list of the parts, each with its fields, and fails where that is refused.
     pub fn of(
         alloc: Global,
         layout: &'a Layout,
         bytes: &'a [u8],
-        front: u32,
-        fault: Option<ReadFault>,
-    ) -> Result<Listing<'a>, AllocError> {
-        let mut collector = Collector::new(alloc, layout, bytes);
-        if collect(&mut collector, front, fault).is_err() {
-            return Err(AllocError);
+        limits: Limits,
+        raw: bool,
+        prefixed: bool,
+    ) -> Result<Listing<'a>, AllocError>
+        ensures fault { IfOk result (λ listing. listing.fault ≡ framed_fault prefixed layout.now limits raw
+            bytes.now) }
+    {
+        let (mut notes, fault) = collect(alloc, layout, bytes, limits, raw, prefixed);
+        if let Some(fault) = fault {
+            note_fault(&mut notes, fault);
         }
-        let Collector {
+        let Notes {
             nodes,
             mut pieces,
-            stop,
+            way_back,
+            is_walked,
+            is_cut,
             ..
-        } = collector;
+        } = notes;
+        if is_cut {
+            return Err(AllocError);
+        }
         pieces.sort_by_key(|piece| piece.start)?;
         end_unknown(&mut pieces);
         let len = bytes.len().min(u32::MAX as usize) as u32;
@@ -112,13 +150,20 @@ impl<'a> Listing<'a> {
             bytes,
             nodes,
             pieces,
-            stop,
             fault,
+            way_back: if is_walked { Some(way_back) } else { None },
             next: 0,
             detail: 0,
             covered: 0,
             vtable: None,
         })
+    }
+
+    /// The fault of the buffer, if it has one.
+    pub fn fault(&self) -> Option<ReadFault>
+        ensures { result ≡ self.now.fault }
+    {
+        self.fault
     }
 
     fn scene(&self) -> Scene<'_> {
@@ -217,38 +262,13 @@ impl<'a> Listing<'a> {
             page.push_str(" slot ");
             page.push_number(u64::from(slot));
         }
-        if let Some(stop) = self.stop
-            && stop.fault == fault
-        {
+        if let Some(steps) = &self.way_back {
             page.push_str(" of ");
-            push_path(page, self.scene(), stop.node, stop.step);
+            let path = path_back(self.alloc, self.layout, steps.as_slice());
+            if let Some(path) = page.keep(path) {
+                push_cut_path(page, path.as_str());
+            }
         }
         page.end_line();
     }
-}
-
-/// Notes all pieces, that of the fault last.
-fn collect(
-    collector: &mut Collector<'_>,
-    front: u32,
-    fault: Option<ReadFault>,
-) -> Result<(), ReadFault> {
-    note_header(collector, front)?;
-    match fault {
-        Some(fault) if is_of_header(fault) || !is_counted(collector.bytes, front) => {}
-        _ => collector.collect(front)?,
-    }
-    if let Some(fault) = fault {
-        let offset = fault.offset().unwrap_or(0);
-        let at = (collector.bytes.len() as u64)
-            .min(offset)
-            .min(u64::from(u32::MAX)) as u32;
-        collector.pieces.push(Piece {
-            start: at,
-            end: at,
-            node: 0,
-            what: What::Fault,
-        })?;
-    }
-    Ok(())
 }

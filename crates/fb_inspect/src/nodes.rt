@@ -1,6 +1,6 @@
 //! The parts of a buffer that are reached, each once for each type that it is reached as.
 use fb_index::HashKey;
-use fb_read::Step;
+use fb_read::{Part, Step};
 use fb_schema::{Kind, TypeId};
 use indexmap::IndexSet;
 use std::alloc::{AllocError, Global};
@@ -17,6 +17,15 @@ pub(crate) enum Lead {
 }
 
 impl Lead {
+    /// What a part is reached as.
+    pub(crate) fn of(part: Part) -> Lead {
+        match part {
+            Part::Table(table) => Lead::Table(table),
+            Part::Text => Lead::Text,
+            Part::Vector(kind) => Lead::Vector(kind),
+        }
+    }
+
     /// A pair of numbers that no other type has.
     fn key(self) -> (u8, u64) {
         match self {
@@ -44,6 +53,8 @@ pub(crate) struct Node {
     pub number: u32,
     /// How many references lead to it.
     pub references: u32,
+    /// The number of what is known of its visit.
+    pub visit: Option<usize>,
 }
 
 /// The parts that were reached so far, by number.
@@ -66,13 +77,17 @@ impl Nodes {
     }
 
     /// The number of the part at a position, and whether it is reached for the first time.
+    ///
+    /// `from` is the part that the reference is in, and which of its slots or elements it is. Whether it `counts`
+    /// among the references to the part is told.
     pub(crate) fn reach(
         &mut self,
         lead: Lead,
         at: u32,
-        parent: u32,
-        number: u32,
+        from: (u32, u32),
+        counts: bool,
     ) -> Result<(u32, bool), AllocError> {
+        let (parent, number) = from;
         let Ok((index, is_new)) = self.keys.insert_full((at, lead.key())) else {
             return Err(AllocError);
         };
@@ -83,11 +98,12 @@ impl Nodes {
                 parent,
                 number,
                 references: 1,
+                visit: None,
             };
             if self.nodes.push(node).is_err() {
                 return Err(AllocError);
             }
-        } else if let Some(node) = self.nodes.get_mut(index) {
+        } else if counts && let Some(node) = self.nodes.get_mut(index) {
             node.references = node.references.saturating_add(1);
         }
         match u32::try_from(index) {
@@ -96,14 +112,29 @@ impl Nodes {
         }
     }
 
+    /// Notes the number of what is known of a part's visit.
+    pub(crate) fn set_visit(&mut self, number: u32, visit: Option<usize>) {
+        if let Some(node) = self.nodes.get_mut(number as usize) {
+            node.visit = visit;
+        }
+    }
+
     /// A part by its number.
     pub(crate) fn get(&self, number: u32) -> Option<Node> {
         self.nodes.get(number as usize).copied()
     }
 
-    /// The steps from the root to a part, the last one first, as far as a line may show them.
-    pub(crate) fn steps_back(&self, alloc: Global, number: u32) -> Result<Vec<Step>, AllocError> {
+    /// The steps from the root to a part and a step further, the last one first, as far as a line may show them.
+    pub(crate) fn steps_back(
+        &self,
+        alloc: Global,
+        number: u32,
+        last: Step,
+    ) -> Result<Vec<Step>, AllocError> {
         let mut steps = Vec::new(alloc);
+        if steps.push(last).is_err() {
+            return Err(AllocError);
+        }
         let mut number = number;
         for _ in 0..MOST_STEPS {
             let Some(node) = self.get(number) else {

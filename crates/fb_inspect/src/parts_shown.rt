@@ -1,6 +1,6 @@
 //! The first line of each piece.
-use crate::collecting::{u16_within, u32_within};
 use crate::nodes::{Lead, Node};
+use crate::notes::{u16_within, u32_within};
 use crate::page_lines::begin_piece;
 use crate::paths::{Scene, push_path};
 use crate::pieces::{Piece, What};

@@ -41,18 +41,26 @@ fn put_step(path: &mut String, layout: &Layout, step: Step) -> Result<(), AllocE
     Ok(())
 }
 
-/// The path to a part, and a step further.
-pub(crate) fn path_of(scene: Scene<'_>, node: u32, last: Step) -> Result<String, AllocError> {
-    let steps = scene.nodes.steps_back(scene.alloc, node)?;
-    let mut path = String::new(scene.alloc);
+/// The path of steps, the last one of which comes first.
+pub(crate) fn path_back(
+    alloc: Global,
+    layout: &Layout,
+    steps: &[Step],
+) -> Result<String, AllocError> {
+    let mut path = String::new(alloc);
     for step in steps.iter().rev() {
-        put_step(&mut path, scene.layout, *step)?;
+        put_step(&mut path, layout, *step)?;
     }
-    put_step(&mut path, scene.layout, last)?;
     if path.is_empty() {
         path.push_str("root")?;
     }
     Ok(path)
+}
+
+/// The path to a part, and a step further.
+pub(crate) fn path_of(scene: Scene<'_>, node: u32, last: Step) -> Result<String, AllocError> {
+    let steps = scene.nodes.steps_back(scene.alloc, node, last)?;
+    path_back(scene.alloc, scene.layout, steps.as_slice())
 }
 
 /// Adds a path, of a long one three dots and its end.

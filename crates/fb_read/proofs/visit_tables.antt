@@ -5,3 +5,4 @@ pub mod HearsTheWayBack
 pub mod KeepsWhatLies
 pub mod StepLeadsToTheLeast
 pub mod VisitsOnePlaceAfterAnother
+pub mod VisitsTakeTheSameAgain

@@ -27,6 +27,10 @@ abbrev pub Gives : {T : Type 0} → Type 0 → Result T ReadFault → ℕ → Re
 Gives takes_memory result after given = MatchResult result (λ _. given ≡ Ok after)
     (λ f. MemoryLasts takes_memory f → given ≡ Err f)
 
+-- A walk found no fault where there is none, else the first one.
+abbrev pub Finds : {T : Type 0} → Result T ReadFault → Option ReadFault → Type 0
+Finds result first = MatchResult result (λ _. first ≡ None) (λ f. first ≡ Some f)
+
 -- An entry is kept: there is none, or what is kept of it stands for it.
 abbrev pub KeepsEntry : {K : Type 0} → (K → Datum → Type 0) → Option K → Option Datum → Type 0
 KeepsEntry keeps None o = o ≡ None

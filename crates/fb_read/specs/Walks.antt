@@ -1,6 +1,6 @@
 -- What a walk over a buffer gives.
 use Rattle.std.specs.Prelude.{ℕ, ◌+◌, ◌^◌, ◌≡◌, ◌<◌, ◌≤◌, List, length, Option, None, Some, Result, MatchResult}
-use Rattle.fb_layout.specs.Laid.{Slot, StoredKind}
+use Rattle.fb_layout.specs.Laid.{LaidSchema, Slot, StoredKind}
 use Rattle.fb_value.specs.declared.faults.ReadFault.{ReadFault}
 use Rattle.fb_value.specs.Bounds.{Bounds}
 use Rattle.fb_value.specs.Datum.{Datum, Parts, SlotEntries, count}
@@ -20,6 +20,13 @@ place sort at = record { sort = sort; at = at }
 abbrev pub limits_of : Buffer → Bounds
 limits_of buffer = record { depth = buffer.most_depth; cells = buffer.most_cells }
 
+-- A buffer has this layout, these bytes and limits.
+pub record IsBufferOf (L : LaidSchema) (b : Bytes) (most : Bounds) (buffer : Buffer) : Type 0 where
+  pub layout : buffer.layout.now ≡ L
+  pub bytes : buffer.bytes.now ≡ b
+  pub depth : buffer.most_depth ≡ most.depth
+  pub cells : buffer.most_cells ≡ most.cells
+
 abbrev pub visit_in : Buffer → Place → ℕ → ℕ → Result ℕ ReadFault
 visit_in buffer x tables spent = visit buffer.layout.now buffer.bytes.now (limits_of buffer) x tables spent
 
@@ -29,10 +36,12 @@ visit_each_in buffer xs tables spent = visit_each buffer.layout.now buffer.bytes
 abbrev pub visit_entry_in : Buffer → Option Place → ℕ → ℕ → Result ℕ ReadFault
 visit_entry_in buffer x tables spent = visit_entry buffer.layout.now buffer.bytes.now (limits_of buffer) x tables spent
 
--- A walk keeps to the limits, with so many tables above it.
-pub record IsWithin {V : Type 0} (buffer : Buffer) (tables : ℕ) (walk : Walk V) : Type 0 where
+-- A walk keeps to the limits, with so many tables above it, and what its visitor knows is of the buffer.
+pub record IsWithin {V : Type 0} (knows : V → Buffer → Type 0) (buffer : Buffer) (tables : ℕ) (walk : Walk V)
+    : Type 0 where
   pub flat : tables ≤ buffer.most_depth
   pub few : walk.spent ≤ buffer.most_cells
+  pub known : knows walk.visitor buffer
 
 -- A table has a valid vtable.
 pub record HasVtable (b : Bytes) (table : TableAt) : Type 0 where

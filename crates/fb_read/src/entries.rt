@@ -1,5 +1,5 @@
 //! A counter of parts that contracts see and no run holds.
-ghost use Rattle.std.specs.Prelude.{◌≡◌, ℕ, ◌+◌};
+ghost use Rattle.std.specs.Prelude.{◌≡◌, ℕ, ◌+◌, ◌-◌};
 ghost use Rattle.std.specs.Borrow.{ftrue};
 
 use std::marker::Model;
@@ -36,10 +36,29 @@ impl Entries {
         *self = self.next();
     }
 
-    fn with(&self, more: &Entries) -> Entries
-        ensures { result.count ≡ self.now.count + more.now.count }
+    // What this one and another have counted beyond a third.
+    fn with(&self, more: &Entries, less: &Entries) -> Entries
+        ensures { result.count ≡ self.now.count + more.now.count - less.now.count }
     {
         Entries {}
+    }
+
+    /// The same count.
+    #[inline(always)]
+    pub(crate) fn copied(&self) -> Entries
+        ensures { result.count ≡ self.now.count }
+    {
+        let none = Entries::new();
+        self.with(&none, &none)
+    }
+
+    /// What was counted beyond another count.
+    #[inline(always)]
+    pub(crate) fn less(&self, other: &Entries) -> Entries
+        ensures { result.count ≡ self.now.count - other.now.count }
+    {
+        let none = Entries::new();
+        self.with(&none, other)
     }
 
     /// Counts what another counter has counted.
@@ -47,7 +66,8 @@ impl Entries {
     pub(crate) fn add(&mut self, more: &Entries)
         ensures { self.new.count ≡ self.old.count + more.now.count }
     {
-        *self = self.with(more);
+        let none = Entries::new();
+        *self = self.with(more, &none);
     }
 }
 

@@ -1,11 +1,14 @@
 //! The rules of a buffer's front: its count, if it has one, and its header.
-ghost use Rattle.std.specs.Prelude.{◌≡◌, ◌≤◌, ◌<◌, ◌+◌, ◌^◌, List, length, MatchResult, OnOk, None, Some, Err};
+ghost use Rattle.std.specs.Prelude.{◌≡◌, ◌≤◌, ◌<◌, ◌+◌, ◌^◌, List, length, MatchResult, OnOk};
+ghost use Rattle.std.specs.Prelude.{IfOk, None, Some, Err};
 ghost use Rattle.fb_value.specs.Rules.{Rule, first_failing};
 ghost use Rattle.fb_value.specs.Holds.{header_rules, count_rules, front_of, front_fault, checked_identifier};
+ghost use Rattle.fb_read.specs.Walks.{IsBufferOf};
 
+use crate::buffer::Buffer;
 use crate::numbers::u32_at;
 use fb_layout::Layout;
-use fb_value::ReadFault;
+use fb_value::{Limits, ReadFault};
 
 // The maximum length of a buffer.
 const MOST_BYTES: usize = 2_147_483_647;
@@ -104,5 +107,35 @@ pub fn identifier_of(layout: &Layout, raw: bool) -> Option<[u8; 4]>
         None
     } else {
         layout.schema().identifier()
+    }
+}
+
+impl<'a> Buffer<'a> {
+    /// A buffer with a front that keeps its rules: the header, and the count before it where it is `prefixed`.
+    ///
+    /// `raw` skips the file identifier check.
+    #[tactic(auto, using(crate::proofs::buffer::AlignmentsArePositive::layout_sizes))]
+    pub fn checked(
+        layout: &'a Layout,
+        bytes: &'a [u8],
+        limits: Limits,
+        raw: bool,
+        prefixed: bool,
+    ) -> Result<Buffer<'a>, ReadFault>
+        ensures front { MatchResult result
+            (λ _. front_fault prefixed bytes.now (checked_identifier layout.now raw) ≡ None)
+            (λ f. front_fault prefixed bytes.now (checked_identifier layout.now raw) ≡ Some f) }
+        ensures buffer { IfOk result (IsBufferOf layout.now bytes.now limits) }
+        ensures long { IfOk result (λ _. front_of prefixed + 4 ≤ length bytes.now) }
+        ensures rule { result ≡ Err ReadFault.Memory → ⊥ }
+    {
+        let _schema = layout.schema(); // its contract: the layout is well made
+        check_front(bytes, identifier_of(layout, raw), prefixed)?;
+        Ok(Buffer {
+            layout,
+            bytes,
+            most_depth: limits.most_depth(),
+            most_cells: limits.most_cells(),
+        })
     }
 }

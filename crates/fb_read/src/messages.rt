@@ -8,9 +8,9 @@ use fb_value::ReadFault;
 
 /// The first message of a stream of size-prefixed buffers, its count included, and what is behind it.
 ///
-/// None where the stream has ended. `Short` where fewer than four bytes are left, and `OutOfBounds` at 0 where the count
-/// is more than what follows it: then the stream is cut, or more of it is to be read. What the message holds isn't
-/// checked.
+/// None where the stream has ended. `Short` where fewer than four bytes are left, and `OutOfBounds` at 0 where the
+/// count is more than what follows it: then the stream is cut, or more of it is to be read. What the message holds
+/// isn't checked.
 #[tactic(auto, unfolding(fb_value::specs::Rules::first_failing))]
 pub fn split_prefixed(bytes: &[u8]) -> Result<Option<(&[u8], &[u8])>, ReadFault>
     ensures message { IfOk result (λ found. MatchOption found (length bytes.now ≡ 0)

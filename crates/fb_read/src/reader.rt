@@ -6,6 +6,10 @@ ghost use Rattle.fb_value.specs.Counts.{depth, entered, nesting};
 ghost use Rattle.fb_value.specs.Fits.{FitsRoot};
 ghost use Rattle.fb_value.specs.Holds.{Holds, RootKeeps, Refuses};
 ghost use Rattle.fb_value.specs.Holds.{HoldsFramed, RootKeepsFramed, RefusesFramed};
+ghost use Rattle.fb_value.specs.Holds.{root_at, front_of};
+ghost use Rattle.fb_value.specs.Faults.{fault_from};
+ghost use Rattle.fb_read.specs.Values.{Finds};
+ghost use Rattle.fb_read.specs.Walks.{limits_of};
 ghost use Rattle.fb_read.specs.Memory.{PartIsReached, PartIsReachedFramed};
 ghost use Rattle.fb_read.specs.Shows.{Shows};
 
@@ -20,6 +24,7 @@ use crate::values::Values;
 use crate::verdict::{Nobody, Verdict};
 use crate::view::View;
 use crate::visit_tables::visit_table_behind;
+use crate::visitor::Hearer;
 use crate::walk::Walk;
 use fb_layout::Layout;
 use fb_value::{Limits, ReadFault, Value, front_of};
@@ -61,8 +66,8 @@ pub fn read<'a>(
     read_framed(alloc, layout, bytes, limits, raw, false, entries)
 }
 
-/// The same of a buffer that may be `prefixed`: with the count of its bytes in front, from which positions and alignment
-/// count.
+/// The same of a buffer that may be `prefixed`: with the count of its bytes in front, from which positions and
+/// alignment count.
 #[tactic(auto, using(crate::proofs::buffer::AlignmentsArePositive::layout_sizes))]
 pub fn read_framed<'a>(
     alloc: Global,
@@ -132,8 +137,8 @@ pub fn verify<'a>(
     verify_framed(layout, bytes, limits, raw, false, entries)
 }
 
-/// The same of a buffer that may be `prefixed`: with the count of its bytes in front, from which positions and alignment
-/// count.
+/// The same of a buffer that may be `prefixed`: with the count of its bytes in front, from which positions and
+/// alignment count.
 #[tactic(auto, using(crate::proofs::buffer::AlignmentsArePositive::layout_sizes))]
 pub fn verify_framed<'a>(
     layout: &'a Layout,
@@ -180,4 +185,24 @@ pub fn verify_framed<'a>(
         table: schema.root(),
         at,
     })
+}
+
+/// Walks over all that is reached from the root of a buffer, which may be `prefixed`, and gives back who heard of it.
+pub fn visit_buffer<H: Hearer>(
+    buffer: &Buffer,
+    hearer: H,
+    prefixed: bool,
+) -> (H, Result<(), ReadFault>)
+    requires knows { H.knows hearer buffer.now }
+    ensures finds { Finds result.1 (fault_from buffer.now.layout.now buffer.now.bytes.now (limits_of buffer.now)
+        (root_at buffer.now.layout.now (front_of prefixed)) 0 0) }
+{
+    let mut walk = Walk {
+        spent: 0,
+        ticks: Ticks::new(),
+        visitor: Verdict { hearer },
+    };
+    let root = buffer.layout.schema().root();
+    let visited = visit_table_behind(buffer, &mut walk, root, front_of(prefixed), 0);
+    (walk.visitor.hearer, visited)
 }

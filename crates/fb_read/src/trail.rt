@@ -1,7 +1,10 @@
 //! A hearer that keeps the way back from a fault.
 ghost use Rattle.std.specs.Prelude.{◌≡◌, [], false, reverse, IfOk};
 
+use crate::buffer::Buffer;
+use crate::part::Part;
 use crate::step::Step;
+use crate::visited::Visited;
 use crate::visitor::Hearer;
 use std::alloc::{AllocError, Global};
 
@@ -43,6 +46,24 @@ impl Hearer for Trail {
 
     ghost told = { λ first steps last. last.cut ≡ false
         → (first.cut ≡ false) × (last.steps.items ≡ first.steps.items ++ reverse steps) };
+
+    ghost knows = { λ _ _. Unit {0} };
+
+    #[inline(always)]
+    fn come_to(
+        &mut self,
+        _buffer: &Buffer,
+        _part: Part,
+        _reference_at: usize,
+        _at: usize,
+        _tables: u8,
+        _spent: u64,
+    ) -> Option<Visited> {
+        None
+    }
+
+    #[inline(always)]
+    fn leave(&mut self, _buffer: &Buffer, _part: Part, _at: usize, _visited: Visited) {}
 
     fn hear(&mut self, step: Step) {
         if self.steps.push(step).is_err() {

@@ -1,6 +1,9 @@
 //! A visitor that makes values.
+use crate::buffer::Buffer;
 use crate::inlines::{read_inline, read_inlines};
+use crate::part::Part;
 use crate::step::Step;
+use crate::visited::Visited;
 use crate::visitor::Visitor;
 use fb_layout::Layout;
 use fb_schema::{Kind, TypeId};
@@ -32,7 +35,25 @@ impl Visitor for Values {
 
     ghost takes_memory = { Unit {0} };
 
+    ghost knows = { λ _ _. Unit {0} };
+
     ghost told = { λ _ _ _. Unit {0} };
+
+    #[inline(always)]
+    fn come_to(
+        &mut self,
+        _buffer: &Buffer,
+        _part: Part,
+        _reference_at: usize,
+        _at: usize,
+        _tables: u8,
+        _spent: u64,
+    ) -> Option<(Value, Visited)> {
+        None
+    }
+
+    #[inline(always)]
+    fn leave(&mut self, _buffer: &Buffer, _part: Part, _at: usize, _visited: Visited) {}
 
     fn number(&self, number: i128) -> Value {
         Value::Number(number)

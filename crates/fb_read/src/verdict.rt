@@ -1,5 +1,8 @@
 //! A visitor that keeps no value.
+use crate::buffer::Buffer;
+use crate::part::Part;
 use crate::step::Step;
+use crate::visited::Visited;
 use crate::visitor::{Hearer, Visitor};
 use fb_layout::Layout;
 use fb_schema::{Kind, TypeId};
@@ -16,7 +19,25 @@ pub struct Verdict<H> {
 pub struct Nobody;
 
 impl Hearer for Nobody {
+    ghost knows = { λ _ _. Unit {0} };
+
     ghost told = { λ _ _ _. Unit {0} };
+
+    #[inline(always)]
+    fn come_to(
+        &mut self,
+        _buffer: &Buffer,
+        _part: Part,
+        _reference_at: usize,
+        _at: usize,
+        _tables: u8,
+        _spent: u64,
+    ) -> Option<Visited> {
+        None
+    }
+
+    #[inline(always)]
+    fn leave(&mut self, _buffer: &Buffer, _part: Part, _at: usize, _visited: Visited) {}
 
     #[inline(always)]
     fn hear(&mut self, _step: Step) {}
@@ -39,7 +60,30 @@ impl<H: Hearer> Visitor for Verdict<H> {
 
     ghost takes_memory = { ⊥ };
 
+    ghost knows = { λ verdict buffer. H.knows verdict.hearer buffer };
+
     ghost told = { λ first steps last. H.told first.hearer steps last.hearer };
+
+    #[inline(always)]
+    fn come_to(
+        &mut self,
+        buffer: &Buffer,
+        part: Part,
+        reference_at: usize,
+        at: usize,
+        tables: u8,
+        spent: u64,
+    ) -> Option<((), Visited)> {
+        let visited = self
+            .hearer
+            .come_to(buffer, part, reference_at, at, tables, spent)?;
+        Some(((), visited))
+    }
+
+    #[inline(always)]
+    fn leave(&mut self, buffer: &Buffer, part: Part, at: usize, visited: Visited) {
+        self.hearer.leave(buffer, part, at, visited);
+    }
 
     #[inline(always)]
     fn number(&self, _number: i128) {}

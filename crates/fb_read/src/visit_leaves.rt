@@ -12,16 +12,17 @@ ghost use Rattle.fb_read.specs.Stored.{number_entry, defaults_of};
 ghost use Rattle.fb_read.specs.Tails.{entries_from, entry_before};
 ghost use Rattle.fb_read.specs.Visits.{Visits, slot_seen, slots_seen};
 ghost use Rattle.fb_read.specs.FaultPaths.{Hears};
-ghost use Rattle.fb_read.specs.Walks.{place, visit_in, visit_entry_in, HasVtable, TicksWithin, EntersAt, EntersSlot};
+ghost use Rattle.fb_read.specs.Walks.{place, visit_in, visit_entry_in, HasVtable, IsWithin};
+ghost use Rattle.fb_read.specs.Walks.{TicksWithin, EntersAt, EntersSlot};
 
 use crate::buffer::Buffer;
 use crate::kinds::base_of;
+use crate::part::Part;
 use crate::places::{follow, held_slot, is_stored};
 use crate::rules::{check_code, check_inline, check_number, open_text};
-use crate::step::Step;
 use crate::stored::default_of;
 use crate::visitor::Visitor;
-use crate::walk::{TableAt, Walk, tell};
+use crate::walk::{TableAt, Walk, leave, pass_over};
 use fb_layout::Layout;
 use fb_schema::{FieldInfo, Kind, Shape};
 use fb_value::ReadFault;
@@ -65,22 +66,27 @@ pub fn visit_text_behind<V: Visitor>(
     buffer: &Buffer,
     walk: &mut Walk<V>,
     at: usize,
+    tables: u8,
 ) -> Result<V::Kept, ReadFault>
     requires low { at < 2 ^ 33 }
-    requires few { walk.old.spent ≤ buffer.now.most_cells }
-    ensures visit { (tables : ℕ) → Gives V.takes_memory result walk.new.spent (visit_in buffer.now (place
+    requires limits { IsWithin V.knows buffer.now tables walk.old }
+    ensures visit { Gives V.takes_memory result walk.new.spent (visit_in buffer.now (place
         (ref_place text_part) at) tables walk.old.spent) }
     ensures few { OnOk result (walk.new.spent ≤ buffer.now.most_cells) }
     ensures ticks { TicksWithin buffer.now walk.old walk.new result }
     ensures each { OnOk result (EntersAt buffer.now (place
         (ref_place text_part) at) walk.old.ticks walk.new.ticks) }
-    ensures hears { (tables : ℕ) → Hears V.takes_memory V.told buffer.now (Some (place (ref_place text_part) at)) tables
+    ensures hears { Hears V.takes_memory V.told buffer.now (Some (place (ref_place text_part) at)) tables
         walk.old.spent walk.old.visitor walk.new.visitor result }
     ensures kept { IfOk result (KeepsAt V.keeps buffer.now (place (ref_place text_part) at)) }
 {
     let target = follow(buffer.bytes, at)?;
+    if let Some(kept) = pass_over(buffer, walk, Part::Text, at, target, tables) {
+        return Ok(kept);
+    }
+    let mark = walk.mark();
     let visited = visit_text(buffer, walk, target);
-    tell(walk, Step::Reference, &visited);
+    leave(buffer, walk, Part::Text, target, tables, mark, &visited);
     visited
 }
 

@@ -18,6 +18,7 @@ ghost use Rattle.fb_read.specs.Walks.{TicksWithin, EntersAt, EntersSlot, EntersS
 
 use crate::buffer::Buffer;
 use crate::kinds::{align_in, reference_of, size_in};
+use crate::part::Part;
 use crate::places::{follow, held_slot, stored_slots};
 use crate::reference::Reference;
 use crate::rules::{enter_table, open_vector, union_code};
@@ -27,7 +28,7 @@ use crate::visit_leaves::{
     visit_text_behind,
 };
 use crate::visitor::Visitor;
-use crate::walk::{TableAt, Walk, tell};
+use crate::walk::{TableAt, Walk, leave, pass_over, tell};
 use fb_schema::{FieldInfo, Kind, Shape, TypeId};
 use fb_value::ReadFault;
 
@@ -43,7 +44,7 @@ pub fn visit_table_behind<V: Visitor>(
     tables: u8,
 ) -> Result<V::Kept, ReadFault>
     requires low { at < 2 ^ 33 }
-    requires limits { IsWithin buffer.now tables walk.old }
+    requires limits { IsWithin V.knows buffer.now tables walk.old }
     ensures visit { Gives V.takes_memory result walk.new.spent (visit_in buffer.now (place (ref_place
         (table_part table.0)) at) tables walk.old.spent) }
     ensures few { OnOk result (walk.new.spent ≤ buffer.now.most_cells) }
@@ -56,8 +57,13 @@ pub fn visit_table_behind<V: Visitor>(
     ensures open { result ≡ Err ReadFault.Memory → IsOpenBehind buffer.now table.0 at tables walk.old.spent }
 {
     let target = follow(buffer.bytes, at)?;
+    let part = Part::Table(table);
+    if let Some(kept) = pass_over(buffer, walk, part, at, target, tables) {
+        return Ok(kept);
+    }
+    let mark = walk.mark();
     let visited = visit_table(buffer, walk, table, target, tables);
-    tell(walk, Step::Reference, &visited);
+    leave(buffer, walk, part, target, tables, mark, &visited);
     visited
 }
 
@@ -71,7 +77,7 @@ fn visit_table<V: Visitor>(
     tables: u8,
 ) -> Result<V::Kept, ReadFault>
     requires low { at < 2 ^ 33 }
-    requires limits { IsWithin buffer.now tables walk.old }
+    requires limits { IsWithin V.knows buffer.now tables walk.old }
     ensures visit { Gives V.takes_memory result walk.new.spent (visit_in buffer.now (place (part_place
         (table_part table.0)) at) tables walk.old.spent) }
     ensures few { OnOk result (walk.new.spent ≤ buffer.now.most_cells) }
@@ -110,7 +116,7 @@ fn visit_slots<V: Visitor>(
 ) -> Result<V::KeptEntries, ReadFault>
     requires vtable { HasVtable buffer.now.bytes.now table }
     requires slots { length slots.now < 2 ^ 15 }
-    requires limits { IsWithin buffer.now tables walk.old }
+    requires limits { IsWithin V.knows buffer.now tables walk.old }
     ensures visit { Gives V.takes_memory result walk.new.spent (visit_each_in buffer.now
         (named_slots buffer.now.layout.now buffer.now.bytes.now table.at 0
         (slots_seen buffer.now.layout.now slots.now)) tables walk.old.spent) }
@@ -160,7 +166,7 @@ fn visit_slot<V: Visitor>(
     requires vtable { HasVtable buffer.now.bytes.now table }
     requires held { 6 + 2 * slot ≤ num buffer.now.bytes.now table.vtable_at 2 }
     requires slots { slot < 2 ^ 15 }
-    requires limits { IsWithin buffer.now tables walk.old }
+    requires limits { IsWithin V.knows buffer.now tables walk.old }
     ensures visit { Gives V.takes_memory result walk.new.spent (visit_entry_in buffer.now (slot_place
         buffer.now.layout.now buffer.now.bytes.now table.at slot (slots_seen buffer.now.layout.now later.now)
         (slot_seen buffer.now.layout.now field.now)) tables walk.old.spent) }
@@ -186,7 +192,7 @@ fn visit_slot<V: Visitor>(
     let found = table.at + offset;
     match field.shape {
         Shape::Many(kind) => Ok(Some(visit_vector_behind(buffer, walk, kind, found, tables)?)),
-        Shape::One(Kind::Text) => Ok(Some(visit_text_behind(buffer, walk, found)?)),
+        Shape::One(Kind::Text) => Ok(Some(visit_text_behind(buffer, walk, found, tables)?)),
         Shape::One(Kind::Table(type_id)) => Ok(Some(visit_table_behind(
             buffer, walk, type_id, found, tables,
         )?)),
@@ -222,7 +228,7 @@ fn visit_union<V: Visitor>(
     tables: u8,
 ) -> Result<Option<V::Kept>, ReadFault>
     requires low { at < 2 ^ 33 }
-    requires limits { IsWithin buffer.now tables walk.old }
+    requires limits { IsWithin V.knows buffer.now tables walk.old }
     ensures visit { Gives V.takes_memory result walk.new.spent (visit_entry_in buffer.now (union_place code at
         (member_by_code buffer.now.layout.now union.0 code)) tables walk.old.spent) }
     ensures few { OnOk result (walk.new.spent ≤ buffer.now.most_cells) }
@@ -256,7 +262,7 @@ pub fn visit_vector_behind<V: Visitor>(
     tables: u8,
 ) -> Result<V::Kept, ReadFault>
     requires low { at < 2 ^ 33 }
-    requires limits { IsWithin buffer.now tables walk.old }
+    requires limits { IsWithin V.knows buffer.now tables walk.old }
     ensures visit { Gives V.takes_memory result walk.new.spent (visit_in buffer.now (place (ref_place (vector_part
         (stored_kind buffer.now.layout.now.schema kind))) at) tables walk.old.spent) }
     ensures few { OnOk result (walk.new.spent ≤ buffer.now.most_cells) }
@@ -270,8 +276,13 @@ pub fn visit_vector_behind<V: Visitor>(
         (stored_kind buffer.now.layout.now.schema kind))) at)) }
 {
     let target = follow(buffer.bytes, at)?;
+    let part = Part::Vector(kind);
+    if let Some(kept) = pass_over(buffer, walk, part, at, target, tables) {
+        return Ok(kept);
+    }
+    let mark = walk.mark();
     let visited = visit_vector(buffer, walk, kind, target, tables);
-    tell(walk, Step::Reference, &visited);
+    leave(buffer, walk, part, target, tables, mark, &visited);
     visited
 }
 
@@ -286,7 +297,7 @@ fn visit_vector<V: Visitor>(
     tables: u8,
 ) -> Result<V::Kept, ReadFault>
     requires low { at < 2 ^ 33 }
-    requires limits { IsWithin buffer.now tables walk.old }
+    requires limits { IsWithin V.knows buffer.now tables walk.old }
     ensures visit { Gives V.takes_memory result walk.new.spent (visit_in buffer.now (place (part_place (vector_part
         (stored_kind buffer.now.layout.now.schema kind))) at) tables walk.old.spent) }
     ensures few { OnOk result (walk.new.spent ≤ buffer.now.most_cells) }
@@ -333,7 +344,7 @@ fn visit_elements<V: Visitor>(
     tables: u8,
 ) -> Result<V::Kept, ReadFault>
     requires within { at + count * 4 ≤ length buffer.now.bytes.now }
-    requires limits { IsWithin buffer.now tables walk.old }
+    requires limits { IsWithin V.knows buffer.now tables walk.old }
     ensures visit { Gives V.takes_memory result walk.new.spent (visit_each_in buffer.now
         (named_elements (led_to reference) at count) tables walk.old.spent) }
     ensures few { OnOk result (walk.new.spent ≤ buffer.now.most_cells) }
@@ -365,7 +376,7 @@ fn visit_behind<V: Visitor>(
     tables: u8,
 ) -> Result<V::Kept, ReadFault>
     requires low { at < 2 ^ 33 }
-    requires limits { IsWithin buffer.now tables walk.old }
+    requires limits { IsWithin V.knows buffer.now tables walk.old }
     ensures visit { Gives V.takes_memory result walk.new.spent (visit_in buffer.now (place
         (ref_place (led_to reference)) at) tables walk.old.spent) }
     ensures few { OnOk result (walk.new.spent ≤ buffer.now.most_cells) }
@@ -377,7 +388,7 @@ fn visit_behind<V: Visitor>(
     ensures kept { IfOk result (KeepsAt V.keeps buffer.now (place (ref_place (led_to reference)) at)) }
 {
     match reference {
-        Reference::ToText => visit_text_behind(buffer, walk, at),
+        Reference::ToText => visit_text_behind(buffer, walk, at, tables),
         Reference::ToTable(table) => visit_table_behind(buffer, walk, table, at, tables),
     }
 }

@@ -1,24 +1,54 @@
 //! What becomes of what a walk passes.
 ghost use Rattle.std.specs.Prelude.{◌≡◌, ℕ, ◌+◌, ◌*◌, ◌≤◌, ◌<◌, ◌^◌, List, [], ◌∷◌, length};
-ghost use Rattle.std.specs.Prelude.{IfOk, IfErr, OnOk, IsTrue};
+ghost use Rattle.std.specs.Prelude.{IfOk, IfErr, IfSome, OnOk, IsTrue};
 ghost use Rattle.fb_layout.specs.Laid.{stored_kind, size_of};
 ghost use Rattle.fb_value.specs.Datum.{Datum, Parts, SlotEntries, no_parts, more_parts, no_entries};
 ghost use Rattle.fb_value.specs.Datum.{absent_entry, present_entry};
 ghost use Rattle.fb_value.specs.Datum.{a_number, a_text, a_vector, a_table, a_member, an_unknown};
 ghost use Rattle.fb_value.specs.Places.{target_of};
 ghost use Rattle.fb_read.specs.declared.step.Step.{Step};
-ghost use Rattle.fb_read.specs.Values.{KeepsInline, KeepsItems};
+ghost use Rattle.fb_read.specs.declared.buffer.Buffer.{Buffer};
+ghost use Rattle.fb_read.specs.Values.{KeepsAt, KeepsInline, KeepsItems};
+ghost use Rattle.fb_read.specs.Visited.{part_at, Takes, IsVisited};
 ghost use Rattle.fb_read.specs.Tails.{entries_from, parts_from};
 
+use crate::buffer::Buffer;
+use crate::part::Part;
 use crate::step::Step;
+use crate::visited::Visited;
 use fb_layout::Layout;
 use fb_schema::{Kind, TypeId};
 use std::alloc::AllocError;
 
-/// Who hears of the way back from a refusal, the last step first.
+/// Who hears of the parts that a walk comes to, and of the way back from a refusal, the last step first.
 pub trait Hearer {
     // Between one state and another it was told these steps.
     ghost told: { Self → List Step → Self → Type 0 };
+
+    // What it knows of parts is of this buffer.
+    ghost knows: { Self → Buffer → Type 0 };
+
+    /// Hears of a part behind the reference at a position, with so many tables above it and cells spent before it.
+    /// What a visit takes, where it knows that: then the walk passes over the part.
+    fn come_to(
+        &mut self,
+        buffer: &Buffer,
+        part: Part,
+        reference_at: usize,
+        at: usize,
+        tables: u8,
+        spent: u64,
+    ) -> Option<Visited>
+        requires knows { knows self.old buffer.now }
+        requires low { at < 2 ^ 33 }
+        ensures same { self.new ≡ self.old }
+        ensures visit { IfSome result (Takes buffer.now (part_at buffer.now part at) tables spent) };
+
+    /// Hears what the visit of a part has taken that found no fault.
+    fn leave(&mut self, buffer: &Buffer, part: Part, at: usize, visited: Visited)
+        requires knows { knows self.old buffer.now }
+        requires visited { IsVisited buffer.now (part_at buffer.now part at) visited }
+        ensures same { self.new ≡ self.old };
 
     /// Hears of the step before those that it was told so far.
     fn hear(&mut self, step: Step)
@@ -48,6 +78,32 @@ pub trait Visitor {
 
     // Between one state and another it was told these steps.
     ghost told: { Self → List Step → Self → Type 0 };
+
+    // What it knows of parts is of this buffer.
+    ghost knows: { Self → Buffer → Type 0 };
+
+    /// Comes to a part behind the reference at a position, with so many tables above it and cells spent before it.
+    /// What is kept of the part and what a visit takes, where it knows that: then the walk passes over the part.
+    fn come_to(
+        &mut self,
+        buffer: &Buffer,
+        part: Part,
+        reference_at: usize,
+        at: usize,
+        tables: u8,
+        spent: u64,
+    ) -> Option<(Self::Kept, Visited)>
+        requires knows { knows self.old buffer.now }
+        requires low { at < 2 ^ 33 }
+        ensures same { self.new ≡ self.old }
+        ensures visit { IfSome result (λ known. Takes buffer.now (part_at buffer.now part at) tables spent known.1) }
+        ensures kept { IfSome result (λ known. KeepsAt keeps buffer.now (part_at buffer.now part at) known.0) };
+
+    /// Leaves a part, the visit of which has found no fault and taken so much.
+    fn leave(&mut self, buffer: &Buffer, part: Part, at: usize, visited: Visited)
+        requires knows { knows self.old buffer.now }
+        requires visited { IsVisited buffer.now (part_at buffer.now part at) visited }
+        ensures same { self.new ≡ self.old };
 
     /// What is kept of a number.
     fn number(&self, number: i128) -> Self::Kept

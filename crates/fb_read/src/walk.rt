@@ -1,9 +1,16 @@
 //! What a walk carries along.
-ghost use Rattle.std.specs.Prelude.{◌≡◌, List, ◌∷◌, MatchResult};
+ghost use Rattle.std.specs.Prelude.{◌≡◌, ◌+◌, ◌<◌, ◌≤◌, ◌^◌, List, ◌∷◌, None, Ok};
+ghost use Rattle.std.specs.Prelude.{IfSome, OnOk, MatchResult};
 ghost use Rattle.fb_read.specs.declared.step.Step.{Step};
+ghost use Rattle.fb_read.specs.Values.{KeepsAt};
+ghost use Rattle.fb_read.specs.Visited.{part_at};
+ghost use Rattle.fb_read.specs.Walks.{visit_in, EntersAt};
 
-use crate::reader::ticks::Ticks;
+use crate::buffer::Buffer;
+use crate::part::Part;
+use crate::reader::ticks::{Counted, Ticks};
 use crate::step::Step;
+use crate::visited::Visited;
 use crate::visitor::Visitor;
 use fb_value::ReadFault;
 
@@ -26,6 +33,95 @@ pub fn tell<V: Visitor, T>(walk: &mut Walk<V>, step: Step, visited: &Result<T, R
 {
     if visited.is_err() {
         walk.visitor.hear(step);
+    }
+}
+
+/// What a walk had spent and entered when it came to a part.
+#[derive(Drop)]
+pub struct Mark {
+    pub spent: u64,
+    pub parts: Counted,
+}
+
+impl<V> Walk<V> {
+    /// What it has spent and entered so far.
+    #[inline(always)]
+    pub fn mark(&self) -> Mark
+        ensures spent { result.spent ≡ self.now.spent }
+        ensures parts { result.parts ≡ self.now.ticks }
+    {
+        Mark {
+            spent: self.spent,
+            parts: self.ticks.counted(),
+        }
+    }
+}
+
+/// Comes to a part behind the reference at a position, and passes over it where the visitor knows what its visit
+/// takes.
+#[inline(always)]
+pub fn pass_over<V: Visitor>(
+    buffer: &Buffer,
+    walk: &mut Walk<V>,
+    part: Part,
+    reference_at: usize,
+    at: usize,
+    tables: u8,
+) -> Option<V::Kept>
+    requires knows { V.knows walk.old.visitor buffer.now }
+    requires low { at < 2 ^ 33 }
+    ensures silent { walk.new.visitor ≡ walk.old.visitor }
+    ensures spent { result ≡ None → walk.new.spent ≡ walk.old.spent }
+    ensures entered { result ≡ None → walk.new.ticks ≡ walk.old.ticks }
+    ensures visit { IfSome result (λ _. visit_in buffer.now (part_at buffer.now part at) tables walk.old.spent
+        ≡ Ok walk.new.spent) }
+    ensures few { IfSome result (λ _. walk.new.spent ≤ buffer.now.most_cells) }
+    ensures ticks { IfSome result (λ _. walk.new.ticks + walk.old.spent ≤ walk.old.ticks + walk.new.spent) }
+    ensures each { IfSome result (λ _. EntersAt buffer.now (part_at buffer.now part at) walk.old.ticks
+        walk.new.ticks) }
+    ensures kept { IfSome result (KeepsAt V.keeps buffer.now (part_at buffer.now part at)) }
+{
+    let known = walk
+        .visitor
+        .come_to(buffer, part, reference_at, at, tables, walk.spent);
+    let (kept, visited) = known?;
+    walk.spent += visited.cells;
+    walk.ticks.count_again(&visited.parts);
+    Some(kept)
+}
+
+/// Leaves a part: tells the visitor what its visit has taken, or the way back from its fault.
+#[inline(always)]
+pub fn leave<V: Visitor, T>(
+    buffer: &Buffer,
+    walk: &mut Walk<V>,
+    part: Part,
+    at: usize,
+    tables: u8,
+    mark: Mark,
+    visited: &Result<T, ReadFault>,
+)
+    requires knows { OnOk visited.now (V.knows walk.old.visitor buffer.now) }
+    requires visit { OnOk visited.now (visit_in buffer.now (part_at buffer.now part at) tables mark.spent
+        ≡ Ok walk.old.spent) }
+    requires ticks { OnOk visited.now (walk.old.ticks + mark.spent ≤ mark.parts + walk.old.spent) }
+    requires each { OnOk visited.now (EntersAt buffer.now (part_at buffer.now part at) mark.parts walk.old.ticks) }
+    ensures spent { walk.new.spent ≡ walk.old.spent }
+    ensures ticks { walk.new.ticks ≡ walk.old.ticks }
+    ensures told { MatchResult visited.now (λ _. walk.new.visitor ≡ walk.old.visitor)
+        (λ _. (first : V) (steps : List Step) → V.told first steps walk.old.visitor
+        → V.told first (Step.Reference ∷ steps) walk.new.visitor) }
+{
+    match visited {
+        Ok(_) => {
+            let taken = Visited {
+                tables,
+                cells: walk.spent - mark.spent,
+                parts: walk.ticks.counted_since(&mark.parts),
+            };
+            walk.visitor.leave(buffer, part, at, taken);
+        }
+        Err(_) => walk.visitor.hear(Step::Reference),
     }
 }
 

@@ -6,7 +6,7 @@ use crate::{limits, read_both, tell};
 use fb_inspect::{Listing, header_lines};
 use flatc_cli::Inspection;
 use flatc_files::{Reasoned, Texts};
-use flatc_tool::{Entries, Layout, ReadFault, ToolFault, WriteFault, schema_of, verify_framed};
+use flatc_tool::{ToolFault, WriteFault, schema_of};
 use std::io::Write;
 
 // How many bytes of lines are written at once.
@@ -61,31 +61,6 @@ fn print_lines<W: Write>(
     Ok(())
 }
 
-/// The fault of a buffer, if it has one.
-fn fault_of(layout: &Layout, bytes: &[u8], raw: bool, size_prefixed: bool) -> Option<ReadFault> {
-    let mut entries = Entries::new();
-    match verify_framed(layout, bytes, limits(), raw, size_prefixed, &mut entries) {
-        Ok(_view) => None,
-        Err(fault) => Some(fault),
-    }
-}
-
-/// Prints what bytes are up to their fault, if they have one.
-fn print_listing<W: Write>(
-    rt: &HostRuntime,
-    layout: &Layout,
-    bytes: &[u8],
-    size_prefixed: bool,
-    fault: Option<ReadFault>,
-    out: &mut W,
-) -> Result<(), ToolFault> {
-    let front = if size_prefixed { 4 } else { 0 };
-    match Listing::of(rt.alloc(), layout, bytes, front, fault) {
-        Ok(mut listing) => print_lines(rt, &mut listing, out),
-        Err(_) => Err(ToolFault::Memory),
-    }
-}
-
 /// Prints what the bytes of the input are, and returns their fault behind the lines.
 fn print_input(
     rt: &HostRuntime,
@@ -98,13 +73,15 @@ fn print_input(
         Err(fault) => return Err(ToolFault::Schema(fault)),
     };
     let bytes = texts.input.bytes.as_slice();
-    let fault = fault_of(&layout, bytes, raw, size_prefixed);
+    let Ok(mut listing) = Listing::of(rt.alloc(), &layout, bytes, limits(), raw, size_prefixed) else {
+        return Err(ToolFault::Memory);
+    };
     let mut out = Reasoned::over(rt.stdout());
-    let printed = print_listing(rt, &layout, bytes, size_prefixed, fault, &mut out);
+    let printed = print_lines(rt, &mut listing, &mut out);
     if let Some(error) = out.into_reason() {
         texts.fail(rt, "standard output", &error);
     }
-    match (printed, fault) {
+    match (printed, listing.fault()) {
         (Err(fault), _) => Err(fault),
         (Ok(()), Some(fault)) => Err(ToolFault::Read(fault)),
         (Ok(()), None) => Ok(()),

@@ -1,5 +1,5 @@
 -- A visit from the root decides whether the buffer holds a value.
-use Rattle.std.proofs.Common.{◌≡◌, ℕ, ◌+◌, Option, None, Some, Ok, Err, refl}
+use Rattle.std.proofs.Common.{◌≡◌, ℕ, ◌+◌, Option, None, Some, Result, Ok, Err, refl}
 use Rattle.fb_layout.specs.Laid.{LaidSchema}
 use Rattle.fb_layout.specs.WellMade.{IsWellMade}
 use Rattle.fb_value.specs.declared.faults.ReadFault.{ReadFault}
@@ -7,11 +7,12 @@ use Rattle.fb_value.specs.Bounds.{Bounds}
 use Rattle.fb_value.specs.Datum.{Datum}
 use Rattle.fb_value.specs.Num.{Bytes, num}
 use Rattle.fb_value.specs.Lies.{Lies}
-use Rattle.fb_value.specs.Places.{part_place, table_part}
+use Rattle.fb_value.specs.Places.{part_place, table_part, Place}
 use Rattle.fb_value.specs.Faults.{fault_from}
 use Rattle.fb_value.proofs.rules.ComputedFaultIsTheLeast.{from_none}
 use Rattle.fb_value.specs.Holds.{HoldsBehind, NoFaultBehind, RefusesBehind, root_at}
 use Rattle.fb_value.proofs.held.BytesHoldAValueOrAFault.{outcome_shown}
+use Rattle.fb_read.specs.Values.{Gives, Finds}
 use Rattle.fb_read.specs.Visits.{outcome, visit}
 
 pub err_told : (o : Option ReadFault) (n : ℕ) (f : ReadFault) → outcome o n ≡ Err f → o ≡ Some f
@@ -21,6 +22,15 @@ err_told (Some g) n f e = let is : g ≡ f = cc in rw is refl
 pub ok_told : (o : Option ReadFault) (n m : ℕ) → outcome o n ≡ Ok m → o ≡ None
 ok_told None n m e = refl
 ok_told (Some g) n m e = cc
+
+-- A visit that takes no memory finds the first fault, if there is one.
+pub visit_finds : {T : Type 0} (L : LaidSchema) (b : Bytes) (most : Bounds) (x : Place) (tables spent after : ℕ)
+    (r : Result T ReadFault) → Gives ⊥ r after (visit L b most x tables spent)
+    → Finds r (fault_from L b most x tables spent)
+unfolding visit
+visit_finds L b most x tables spent after (Ok y) gives = ok_told (fault_from L b most x tables spent) _ after gives
+visit_finds L b most x tables spent after (Err f) gives =
+    err_told (fault_from L b most x tables spent) _ f (gives (λ never. absurd never))
 
 module _ (p : ℕ) (front : Option ReadFault) (L : LaidSchema) (most : Bounds) (b : Bytes) (made : IsWellMade L) where
   -- refused behind a front that keeps its rules

@@ -1,5 +1,6 @@
 -- What a visitor hears of a place, by what it hears of those that the place names.
-use Rattle.std.proofs.Common.{◌≡◌, ℕ, ◌+◌, ◌<◌, ◌≤◌, List, [], ◌∷◌, None, Some, Result, Ok, Err, MatchResult}
+use Rattle.std.proofs.Common.{◌≡◌, ℕ, ◌+◌, ◌<◌, ◌≤◌, List, [], ◌∷◌, None, Some, Option, Result, Ok}
+use Rattle.std.proofs.Common.{Err, MatchResult, OnOk}
 use Rattle.std.proofs.Common.{refl, sym, ap, ◌∙◌, arith, add-zero}
 use Rattle.fb_schema.specs.declared.kinds.TypeId.{TypeId}
 use Rattle.fb_layout.specs.Laid.{StoredKind, slots_of}
@@ -53,6 +54,13 @@ module _ {V : Type 0} (takes : Type 0) (told : V → List Step → V → Type 0)
   leaf_hears x tables spent n v (Err f) none visits = λ lasts. leaf_heard x tables spent f v none (visits lasts)
 
   -- ---- references
+
+  -- A visitor that has heard of no fault knows what it knew.
+  pub still_known : {T : Type 0} (knows : V → Buffer → Type 0) (o : Option Place) (tables spent : ℕ) (v w : V)
+      (r : Result T ReadFault) → Hears takes told buffer o tables spent v w r → knows v buffer
+      → OnOk r (knows w buffer)
+  still_known knows o tables spent v w (Ok y) hears known = rw hears known
+  still_known knows o tables spent v w (Err f) hears known = tt
 
   pub ref_hears : {T : Type 0} (X : Target) (p q tables spent : ℕ) (v w z : V) (r : Result T ReadFault)
       → Keeps buffer.layout.now buffer.bytes.now (ref_place X) p → q ≡ p + num buffer.bytes.now p 4

@@ -1,6 +1,6 @@
 -- A visit of several places is one of each, place after place.
 use Rattle.std.proofs.Common.{◌==◌, ◌≡◌, ℕ, ◌+◌, ◌<◌, ◌≤◌, List, [], ◌∷◌, Bool, true, false, Option}
-use Rattle.std.proofs.Common.{None, Some, Result, Ok, Err, nat_le, cond, refl, sym, ap, ◌∙◌, arith, add-zero, add_assoc}
+use Rattle.std.proofs.Common.{None, Some, Result, Ok, Err, OnOk, nat_le, cond, refl, sym, ap, ◌∙◌, arith, add-zero, add_assoc}
 use Rattle.std.proofs.lemmas.Bool.{le-leb}
 use Rattle.std.proofs.lemmas.Bool.Decides.{nat_tests}
 use Rattle.fb_layout.specs.Laid.{LaidSchema, StoredKind, slots_of}
@@ -16,7 +16,14 @@ use Rattle.fb_value.specs.Faults.{own_cells, own_tables, sum_over, all, or_else,
 use Rattle.fb_value.specs.Faults.{first_among, fault_from}
 use Rattle.fb_value.proofs.rules.ComputedFaultIsTheLeast.{all_is}
 use Rattle.fb_value.proofs.rules.FaultOfAPlaceByOneStep.{fault_from_is}
+use Rattle.fb_read.specs.Values.{Gives}
 use Rattle.fb_read.specs.Visits.{outcome, visit, visit_each, visit_entry, union_place}
+
+-- Where a visit returned a result, it is what it gives.
+pub gives_ok : {T : Type 0} (takes : Type 0) (r : Result T ReadFault) (after : ℕ) (given : Result ℕ ReadFault)
+    → Gives takes r after given → OnOk r (given ≡ Ok after)
+gives_ok takes (Ok x) after given gives = gives
+gives_ok takes (Err f) after given gives = tt
 
 module _ (L : LaidSchema) (b : Bytes) (most : Bounds) where
   pub each_nil : (tables spent : ℕ) → visit_each L b most [] tables spent ≡ Ok spent

@@ -18,8 +18,8 @@ use std::alloc::{AllocError, Global};
 
 /// The steps from the root to the least fault of the bytes.
 ///
-/// None where the bytes hold a value, and where the fault is the count's or the header's. A step of a slot has the table's
-/// type, so a layout is enough to name what each step leads to. `raw` skips the file identifier check, and a
+/// None where the bytes hold a value, and where the fault is the count's or the header's. A step of a slot has the
+/// table's type, so a layout is enough to name what each step leads to. `raw` skips the file identifier check, and a
 /// `prefixed` buffer has the count of its bytes in front.
 ///
 /// It checks the bytes once more, and is for a buffer that was refused.

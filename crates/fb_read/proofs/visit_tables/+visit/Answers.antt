@@ -14,13 +14,14 @@ use Rattle.fb_read.proofs.visit_tables.EnteredPartsAreCounted.{slot_step, rest_e
 use Rattle.fb_read.proofs.visit_tables.EnteredPartsAreCounted.{vector_entered, items_free, member_slot_entered}
 use Rattle.fb_read.proofs.visit_tables.EnteredPartsAreCounted.{inline_slot_entered, on_ok, on_any}
 use Rattle.fb_read.proofs.visit_tables.VisitsOnePlaceAfterAnother.{visit_fault, visit_table, visit_vector, visit_member}
-use Rattle.fb_read.proofs.visit_tables.VisitsOnePlaceAfterAnother.{visit_no_member, no_references, each_nil}
+use Rattle.fb_read.proofs.visit_tables.VisitsOnePlaceAfterAnother.{visit_no_member, no_references, each_nil, gives_ok}
 use Rattle.fb_read.proofs.visit_tables.FrontIsFreeOfFaults.{front_next, front_fails, front_whole, slots_rest_free}
 use Rattle.fb_read.proofs.visit_tables.FrontIsFreeOfFaults.{slot_found, element_named, elements_long}
 use Rattle.fb_read.proofs.visit_tables.KeepsWhatLies.{if_ok, slot_entry, element_part, defaults_left}
 use Rattle.fb_read.proofs.visit_tables.KeepsWhatLies.{table_kept, vector_kept, member_kept, ref_slot_kept, seen_count}
 use Rattle.fb_read.proofs.values.OneValueMore.{parts_end as last_part}
 use Rattle.fb_read.proofs.visit_tables.HearsTheWayBack.{rule_heard, leaf_heard, leaf_hears, ref_hears, table_deep_heard}
+use Rattle.fb_read.proofs.visit_tables.HearsTheWayBack.{still_known}
 use Rattle.fb_read.proofs.visit_tables.HearsTheWayBack.{table_over_heard, table_heard, vector_over_heard, vector_hears}
 use Rattle.fb_read.proofs.visit_tables.HearsTheWayBack.{member_heard}
 use Rattle.fb_read.proofs.visit_tables.+visit.Goals as goal
@@ -302,10 +303,22 @@ visit_table_behind-returns-in_err-target-clause-hears g t c =
 pub visit_table_behind-returns-clause-hears : goal.visit_table_behind-returns-clause-hears
 visit_table_behind-returns-clause-hears g t c =
     let rules = c.in_ok-target.ensures.rules c.args.buffer.now.layout.now (table_part c.args.table.0) in
-    ref_hears g.V.Visitor.takes_memory g.V.Visitor.told g.met.V.Visitor.silent c.args.buffer.now (table_part
-    c.args.table.0) c.args.at
-    c.in_ok-target.target c.args.tables c.args.walk.now.spent _ _ _ c.visit_table-visited.result rules.0 rules.1
-    c.visit_table-visited.ensures.hears c.tell.ensures.told
+    let spent = c.pass_over.ensures.spent c.in_default.is in
+    rw (← c.pass_over.ensures.silent, ← spent) (ref_hears g.V.Visitor.takes_memory g.V.Visitor.told
+    g.met.V.Visitor.silent c.args.buffer.now (table_part c.args.table.0) c.args.at c.in_ok-target.target c.args.tables
+    c.pass_over.new.walk.spent _ _ _ c.visit_table-visited.result rules.0 rules.1 c.visit_table-visited.ensures.hears
+    c.leave.ensures.told)
+
+pub visit_table_behind-leave-requires-clause-knows : goal.visit_table_behind-leave-requires-clause-knows
+visit_table_behind-leave-requires-clause-knows g t c =
+    still_known g.V.Visitor.takes_memory g.V.Visitor.told g.met.V.Visitor.silent c.args.buffer.now g.V.Visitor.knows
+    _ c.args.tables c.pass_over.new.walk.spent _ _ c.visit_table-visited.result c.visit_table-visited.ensures.hears
+    (rw c.pass_over.ensures.silent c.requires.limits.known)
+
+pub visit_table_behind-leave-requires-clause-visit : goal.visit_table_behind-leave-requires-clause-visit
+visit_table_behind-leave-requires-clause-visit g t c =
+    rw c.mark-mark.ensures.spent (gives_ok g.V.Visitor.takes_memory c.visit_table-visited.result _ _
+    c.visit_table-visited.ensures.visit)
 
 pub visit_vector_behind-returns-in_err-target-clause-hears : goal.visit_vector_behind-returns-in_err-target-clause-hears
 visit_vector_behind-returns-in_err-target-clause-hears g t c =
@@ -318,12 +331,24 @@ visit_vector_behind-returns-in_err-target-clause-hears g t c =
 
 pub visit_vector_behind-returns-clause-hears : goal.visit_vector_behind-returns-clause-hears
 visit_vector_behind-returns-clause-hears g t c =
-    let L = c.args.buffer.now.layout.now in
-    let X = vector_part (stored_kind L.schema c.args.kind) in
-    let rules = c.in_ok-target.ensures.rules L X in
-    ref_hears g.V.Visitor.takes_memory g.V.Visitor.told g.met.V.Visitor.silent c.args.buffer.now X c.args.at
-    c.in_ok-target.target c.args.tables c.args.walk.now.spent _ _ _ c.visit_vector-visited.result rules.0 rules.1
-    c.visit_vector-visited.ensures.hears c.tell.ensures.told
+    let X = vector_part (stored_kind c.args.buffer.now.layout.now.schema c.args.kind) in
+    let rules = c.in_ok-target.ensures.rules c.args.buffer.now.layout.now X in
+    let spent = c.pass_over.ensures.spent c.in_default.is in
+    rw (← c.pass_over.ensures.silent, ← spent) (ref_hears g.V.Visitor.takes_memory g.V.Visitor.told
+    g.met.V.Visitor.silent c.args.buffer.now X c.args.at c.in_ok-target.target c.args.tables
+    c.pass_over.new.walk.spent _ _ _ c.visit_vector-visited.result rules.0 rules.1 c.visit_vector-visited.ensures.hears
+    c.leave.ensures.told)
+
+pub visit_vector_behind-leave-requires-clause-knows : goal.visit_vector_behind-leave-requires-clause-knows
+visit_vector_behind-leave-requires-clause-knows g t c =
+    still_known g.V.Visitor.takes_memory g.V.Visitor.told g.met.V.Visitor.silent c.args.buffer.now g.V.Visitor.knows
+    _ c.args.tables c.pass_over.new.walk.spent _ _ c.visit_vector-visited.result c.visit_vector-visited.ensures.hears
+    (rw c.pass_over.ensures.silent c.requires.limits.known)
+
+pub visit_vector_behind-leave-requires-clause-visit : goal.visit_vector_behind-leave-requires-clause-visit
+visit_vector_behind-leave-requires-clause-visit g t c =
+    rw c.mark-mark.ensures.spent (gives_ok g.V.Visitor.takes_memory c.visit_vector-visited.result _ _
+    c.visit_vector-visited.ensures.visit)
 
 pub visit_table-returns-in_err-vtable_at-clause-hears : goal.visit_table-returns-in_err-vtable_at-clause-hears
 visit_table-returns-in_err-vtable_at-clause-hears g t c =
@@ -540,7 +565,7 @@ visit_slot-returns-in_ok-visit_code-in-One-Code-clause-visit g t c =
 pub visit_slot-returns-in_ok-visit_text_behind-in-One-Text-clause-hears :
     goal.visit_slot-returns-in_ok-visit_text_behind-in-One-Text-clause-hears
 visit_slot-returns-in_ok-visit_text_behind-in-One-Text-clause-hears g t c =
-    c.in_ok-visit_text_behind-in-One-Text.ensures.hears c.args.tables
+    c.in_ok-visit_text_behind-in-One-Text.ensures.hears
 
 pub visit_slot-returns-in-One-Union-clause-visit : goal.visit_slot-returns-in-One-Union-clause-visit
 visit_slot-returns-in-One-Union-clause-visit g t c =
@@ -554,7 +579,8 @@ visit_slot-returns-in-One-Union-clause-visit g t c =
 pub visit_table_behind-returns-clause-open : goal.visit_table_behind-returns-clause-open
 visit_table_behind-returns-clause-open g t c memory =
     let rules = c.in_ok-target.ensures.rules c.args.buffer.now.layout.now (table_part c.args.table.0) in
-    (rules.0, rw rules.1 at (c.visit_table-visited.ensures.open memory))
+    let spent = c.pass_over.ensures.spent c.in_default.is in
+    (rules.0, rw (spent, rules.1) at (c.visit_table-visited.ensures.open memory))
 
 pub visit_union-returns-in_err-behind-in-Some-clause-visit :
     goal.visit_union-returns-in_err-behind-in-Some-clause-visit

@@ -1,7 +1,7 @@
 -- `with` picks the count of the new counter.
 use mathlib.Core.Path.{refl}
 use mathlib.Core.List.{[], ◌∷◌}
-use Prim.Native.Nat.{◌+◌}
+use Prim.Native.Nat.{◌+◌, ◌-◌}
 use seplogic.Ra.Ura.{Ura}
 use mir.Syntax.{named}
 use mir.Val.{Val, vptr, vstruct, vnil}
@@ -37,52 +37,67 @@ use Rattle.fb_read.specs.contracts.entries.Entries as entries
 abbrev stayed : Stays (f.ended).signature.params (f.ended).kept
 stayed = (
   stay_none_ref (0 ∷ []) tt (plain (λ _. entries.the_row)) yes,
-  (stay_none_ref (1 ∷ []) tt (plain (λ _. entries.the_row)) yes, tt),
+  (
+    stay_none_ref (1 ∷ []) tt (plain (λ _. entries.the_row)) yes,
+    (stay_none_ref (2 ∷ []) tt (plain (λ _. entries.the_row)) yes, tt),
+  ),
 )
 
 module _ {M : Type 1} {𝓤 : Ura M} (𝓛 : Logic 𝓤) (mem : Memory → SProp 𝓤) (run : Routine
     → Fun 𝓤) (C : Calls 𝓤 𝓛.H) (Λ : Loops 𝓤 𝓛.H) where
   open 𝓛 use {H}
 
-  module _ (κs : Lfts 2) (qs : Shares 2) (a : Args f.signature κs) where
+  module _ (κs : Lfts 3) (qs : Shares 3) (a : Args f.signature κs) where
     abbrev before : Val
     before = vptr a.0.ref_ptr.0 a.0.ref_ptr.1
 
     abbrev more : Val
     more = vptr a.1.0.ref_ptr.0 a.1.0.ref_ptr.1
 
+    abbrev less : Val
+    less = vptr a.1.1.0.ref_ptr.0 a.1.1.0.ref_ptr.1
+
     abbrev bound : (walk_of 𝓛 f.ended stayed (f.clauses 𝓛 mem run)).Ghost
-    bound = ((κs, qs, tt, a, (before ∷ [], (more ∷ [], tt))), tt)
+    bound = ((κs, qs, tt, a, (before ∷ [], (more ∷ [], (less ∷ [], tt)))), tt)
 
     abbrev passed : Fml
-    passed = owns (types_at f.signature.params κs) a (before ∷ [], (more ∷ [], tt))
+    passed = owns (types_at f.signature.params κs) a (before ∷ [], (more ∷ [], (less ∷ [], tt)))
 
-    walk : ent 𝓤 (on_entry 𝓛 f.signature κs qs a (before ∷ [], (more ∷ [], tt)))
-        (WpFn 𝓤 H C Λ code.function (before ∷ more ∷ []) ((walk_of 𝓛 f.ended stayed (f.clauses 𝓛 mem run)).post bound))
+    walk : ent 𝓤 (on_entry 𝓛 f.signature κs qs a (before ∷ [], (more ∷ [], (less ∷ [], tt))))
+        (WpFn 𝓤 H C Λ code.function (before ∷ more ∷ less ∷ []) ((walk_of 𝓛 f.ended stayed (f.clauses 𝓛 mem run)).post bound))
     walk =
-        qed 𝓛 (raw (alive 𝓛 f.signature κs qs) ∷ ‵ passed ∷ []) ∵ enter ! C Λ code.function (before ∷ more ∷ []) _ $
-        alloc_all ! (λ l. pass_all ! refl ((tt, tt), ((tt, tt), tt)) $ sets ! (agg ! (no_more !)) refl (tt, tt) $
+        qed 𝓛 (raw (alive 𝓛 f.signature κs qs) ∷ ‵ passed ∷ []) ∵ enter ! C Λ code.function (before ∷ more ∷ less ∷ []) _ $
+        alloc_all ! (λ l. pass_all ! refl ((tt, tt), ((tt, tt), ((tt, tt), tt))) $ sets ! (agg ! (no_more !)) refl (tt, tt) $
         returns ! (look_at ! 0 refl) $ free_all ! refl $
         suffices ! _ (ends_at 𝓛 f.ended stayed (f.clauses 𝓛 mem run) bound (vstruct vnil) (record {
           count =
-              a.0.now.count + a.1.0.now.count;
-        }) (tt, (tt, tt)) (tt, (tt, tt))) $
-        says ! refl $ pure_i ! (entries.the_row.own_val (record { count = a.0.now.count + a.1.0.now.count })
+              a.0.now.count + a.1.0.now.count - a.1.1.0.now.count;
+        }) (tt, (tt, (tt, tt))) (tt, (tt, (tt, tt)))) $
+        says ! refl $ pure_i ! (entries.the_row.own_val (record { count = a.0.now.count + a.1.0.now.count - a.1.1.0.now.count })
         (vstruct vnil ∷ [])) ((λ vss. (tt, tt)), tt) ((tt, (refl, tt)), tt) $
         move ! (1 ∷ 2 ∷ 0 ∷ []) $ done !)
 
   walks : Walks 𝓛 f.ended stayed (WpFn 𝓤 H C Λ code.function) (f.clauses 𝓛 mem run)
   walks =
-      walked 𝓛 f.ended stayed (f.clauses 𝓛 mem run) (WpFn 𝓤 H C Λ code.function) (λ κs. (shr_vals, (shr_vals, tt)))
-      (λ κs. (shr_Tells (named 0) κs.0 entries.the_row, (shr_Tells (named 1) κs.1.0 entries.the_row, tt)))
+      walked 𝓛 f.ended stayed (f.clauses 𝓛 mem run) (WpFn 𝓤 H C Λ code.function) (λ κs. (shr_vals, (shr_vals, (shr_vals, tt))))
+      (λ κs. (
+        shr_Tells (named 0) κs.0 entries.the_row,
+        (
+          shr_Tells (named 1) κs.1.0 entries.the_row,
+          (shr_Tells (named 2) κs.1.1.0 entries.the_row, tt),
+        ),
+      ))
       (λ κs qs bounds a g are. via 𝓤 _ (fst∗ 𝓤 _ (emp 𝓤)) (walk κs qs a))
 
 meets : {M : Type 1} {𝓤 : Ura M} (𝓛 : Logic 𝓤) (mem : Memory → SProp 𝓤) (run : Routine → Fun 𝓤) (𝓣 : Tables 𝓤 𝓛.H)
     → Meets 𝓛 f.signature (WpFn 𝓤 𝓛.H 𝓣.C 𝓣.Λ code.function) (f.spec 𝓛 mem run)
 meets {𝓤 = 𝓤} 𝓛 mem run 𝓣 =
     walk_Meets 𝓛 f.ended stayed (
-      Goes-none_ref 𝓛 2 (0 ∷ []) tt (plain (λ _. entries.the_row)) yes,
-      (Goes-none_ref 𝓛 2 (1 ∷ []) tt (plain (λ _. entries.the_row)) yes, tt),
+      Goes-none_ref 𝓛 3 (0 ∷ []) tt (plain (λ _. entries.the_row)) yes,
+      (
+        Goes-none_ref 𝓛 3 (1 ∷ []) tt (plain (λ _. entries.the_row)) yes,
+        (Goes-none_ref 𝓛 3 (2 ∷ []) tt (plain (λ _. entries.the_row)) yes, tt),
+      ),
     ) (f.clauses 𝓛 mem run)
     (WpFn 𝓤 𝓛.H 𝓣.C 𝓣.Λ code.function)
     (WpFn-mono 𝓤 𝓛.H 𝓛.laws 𝓣 code.function) (walks 𝓛 mem run 𝓣.C 𝓣.Λ)

@@ -1,0 +1,39 @@
+-- What a visit of a part takes, so that a part that is reached again needs no visit.
+-- From the FlatBuffers documentation, "FlatBuffer Internals": an offset may lead to a part that another one leads to.
+use Rattle.std.specs.Prelude.{ℕ, ◌+◌, ◌≡◌, ◌≤◌, Ok}
+use Rattle.fb_layout.specs.Laid.{LaidSchema, stored_kind}
+use Rattle.fb_value.specs.Datum.{Datum}
+use Rattle.fb_value.specs.Counts.{entered}
+use Rattle.fb_value.specs.Lies.{LiesAt}
+use Rattle.fb_value.specs.Places.{Target, table_part, text_part, vector_part, part_place, Place}
+use Rattle.fb_read.specs.declared.part.Part.{Part}
+use Rattle.fb_read.specs.declared.part.Part.TheVariants.{Text, Table, Vector}
+use Rattle.fb_read.specs.declared.buffer.Buffer.{Buffer}
+use Rattle.fb_read.specs.declared.visited.Visited.{Visited}
+use Rattle.fb_read.specs.Walks.{visit_in}
+
+-- what a part is a target for
+abbrev pub target_in : LaidSchema → Part → Target
+target_in L Text = text_part
+target_in L (Table table) = table_part table.0
+target_in L (Vector kind) = vector_part (stored_kind L.schema kind)
+
+abbrev pub part_at : Buffer → Part → ℕ → Place
+part_at buffer part p = record { sort = part_place (target_in buffer.layout.now part); at = p }
+
+-- Of what lies at a place so many parts are entered, no more than it has cells.
+pub record IsCounted (buffer : Buffer) (x : Place) (visited : Visited) : Type 0 where
+  pub few : visited.parts ≤ visited.cells
+  pub each : (d : Datum) → LiesAt buffer.layout.now buffer.bytes.now x.sort x.at d → visited.parts ≡ entered d
+
+-- A visit of a place, with so many tables above it and cells spent before it, finds no fault and takes so many cells.
+pub record Takes (buffer : Buffer) (x : Place) (tables spent : ℕ) (visited : Visited) : Type 0 where
+  pub visit : visit_in buffer x tables spent ≡ Ok (spent + visited.cells)
+  pub few : spent + visited.cells ≤ buffer.most_cells
+  pub counted : IsCounted buffer x visited
+
+-- Each visit of a place does so that has as many tables above it, and cells left.
+pub record IsVisited (buffer : Buffer) (x : Place) (visited : Visited) : Type 0 where
+  pub visit : (tables spent : ℕ) → tables ≤ visited.tables → spent + visited.cells ≤ buffer.most_cells
+      → visit_in buffer x tables spent ≡ Ok (spent + visited.cells)
+  pub counted : IsCounted buffer x visited

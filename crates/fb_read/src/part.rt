@@ -1,0 +1,11 @@
+//! Parts of a buffer that references lead to.
+use fb_schema::{Kind, TypeId};
+
+/// What the part behind a reference is.
+#[derive(Clone, Copy, PartialEq, Eq, Drop)]
+pub enum Part {
+    Text,
+    Table(TypeId),
+    /// A vector with elements of this kind.
+    Vector(Kind),
+}
