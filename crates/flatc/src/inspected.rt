@@ -6,7 +6,7 @@ use crate::{limits, read_both, tell};
 use fb_inspect::{Listing, header_lines};
 use flatc_cli::Inspection;
 use flatc_files::{Reasoned, Texts};
-use flatc_tool::{ToolFault, WriteFault, schema_of};
+use flatc_tool::{Layout, ReadFault, ToolFault, WriteFault, schema_of};
 use std::io::Write;
 
 // How many bytes of lines are written at once.
@@ -61,6 +61,23 @@ fn print_lines<W: Write>(
     Ok(())
 }
 
+/// Prints what bytes are up to their fault, which is returned if they have one.
+fn print_listing<W: Write>(
+    rt: &HostRuntime,
+    layout: &Layout,
+    bytes: &[u8],
+    raw: bool,
+    size_prefixed: bool,
+    out: &mut W,
+) -> Result<Option<ReadFault>, ToolFault> {
+    let Ok(mut listing) = Listing::of(rt.alloc(), layout, bytes, limits(), raw, size_prefixed)
+    else {
+        return Err(ToolFault::Memory);
+    };
+    print_lines(rt, &mut listing, out)?;
+    Ok(listing.fault())
+}
+
 /// Prints what the bytes of the input are, and returns their fault behind the lines.
 fn print_input(
     rt: &HostRuntime,
@@ -73,18 +90,14 @@ fn print_input(
         Err(fault) => return Err(ToolFault::Schema(fault)),
     };
     let bytes = texts.input.bytes.as_slice();
-    let Ok(mut listing) = Listing::of(rt.alloc(), &layout, bytes, limits(), raw, size_prefixed) else {
-        return Err(ToolFault::Memory);
-    };
     let mut out = Reasoned::over(rt.stdout());
-    let printed = print_lines(rt, &mut listing, &mut out);
+    let printed = print_listing(rt, &layout, bytes, raw, size_prefixed, &mut out);
     if let Some(error) = out.into_reason() {
         texts.fail(rt, "standard output", &error);
     }
-    match (printed, listing.fault()) {
-        (Err(fault), _) => Err(fault),
-        (Ok(()), Some(fault)) => Err(ToolFault::Read(fault)),
-        (Ok(()), None) => Ok(()),
+    match printed? {
+        Some(fault) => Err(ToolFault::Read(fault)),
+        None => Ok(()),
     }
 }
 
