@@ -8,14 +8,14 @@ use crate::unchanged::{holds, touch};
 use flatc_cli::is_standard_output;
 use std::alloc::Global;
 use std::fs::{self, File, Metadata, OpenOptions, Permissions};
-use std::io::{self, BufWriter, ErrorKind, Write};
+use std::io::{self, ErrorKind, Write};
 use std::os::unix::fs::{MetadataExt, OpenOptionsExt, PermissionsExt, chown};
 use std::path::{Path, PathBuf};
 use std::process;
 
 /// What is written to an output.
 pub trait Content {
-    /// Writes all of it. After an error some of its first bytes may have been written.
+    /// Writes all of it, many bytes at once. After an error some of its first bytes may have been written.
     fn write_to<W: Write>(&mut self, out: &mut W) -> io::Result<()>;
 
     /// How many bytes it has, where that is known before they are written.
@@ -111,13 +111,6 @@ fn take_over(rt: &HostRuntime, file: &File, path: &str, old: &Metadata) -> io::R
     file.set_permissions(Permissions::from_mode(old.mode() & PERMISSION_BITS))
 }
 
-/// Writes to a new file, small pieces together.
-fn fill<C: Content>(alloc: Global, content: &mut C, file: &mut File) -> io::Result<()> {
-    let mut out = BufWriter::new(alloc, file)?;
-    content.write_to(&mut out)?;
-    out.flush()
-}
-
 fn fill_and_rename<C: Content>(
     rt: &HostRuntime,
     (path, mut file): (&str, File),
@@ -125,7 +118,7 @@ fn fill_and_rename<C: Content>(
     content: &mut C,
     old: Option<&Metadata>,
 ) -> io::Result<()> {
-    fill(rt.alloc(), content, &mut file)?;
+    content.write_to(&mut file)?;
     if let Some(old) = old {
         take_over(rt, &file, path, old)?;
     }
