@@ -2,10 +2,7 @@ pub mod WordsOf
 pub mod PathsNamed
 pub mod PathsGrown
 pub mod WordsSplit
-pub mod Outward
 pub mod PathsLeft
-pub mod Noting
 pub mod MapsKept
 pub mod MapsMade
 pub mod NamedTypesKept
-pub mod Inherited

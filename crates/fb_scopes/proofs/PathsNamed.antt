@@ -8,7 +8,8 @@ use Rattle.std.specs.Str.{bytes_eq}
 use Rattle.std.proofs.Math.Seq.{take-suc, take-append_seam}
 use Rattle.std.proofs.lemmas.List.{append_cancel_left, map-append, length-map, length-take-le}
 use Rattle.std.proofs.lemmas.Slice.Eq.{bytes_eq-Decides, slice_eq-Decides}
-use Rattle.fb_scopes.specs.Words.{Name, last_some, Path, same_path, place_of_path, beginnings, prefixes, meant_inside}
+use Rattle.fb_scopes.specs.Words.{Name, Path, same_path, place_of_path}
+use Rattle.fb_scopes.specs.Innermost.{last_some, beginnings, prefixes, meant_inside}
 
 -- the test tells whether two paths are one
 same_path-pointwise : (p q : Path) → same_path p q ≡ pointwise bytes_eq p q

@@ -1,4 +1,5 @@
 pub mod Words
+pub mod Innermost
 pub mod PathTree
 pub mod Maps
 pub mod NamedTypes

@@ -1,6 +1,7 @@
 -- Which type each used name means in each namespace.
 use Rattle.std.specs.Prelude.{ℕ, ◌≡◌, ◌<◌, List, [], Some, length, map, reverse, get_or, slice_get}
-use Rattle.fb_scopes.specs.Words.{Name, Path, words, meant_inside}
+use Rattle.fb_scopes.specs.Words.{Name, Path, words}
+use Rattle.fb_scopes.specs.Innermost.{meant_inside}
 use Rattle.fb_scopes.specs.PathTree.{paths, IsTree}
 use Rattle.fb_scopes.specs.declared.path_tree.PathTree.{PathTree}
 use Rattle.fb_scopes.specs.NamedTypes.{noted_at, HasRoom}

@@ -1,8 +1,8 @@
--- Names as paths of words, and which of several types a name means inside a namespace.
+-- Names as paths of words.
 -- From the FlatBuffers documentation, "Writing a schema": Namespaces.
-use Rattle.std.specs.Prelude.{ℕ, suc, ◌==◌, ◌&&◌, ◌++◌, Bool, true, false, List, [], ◌∷◌, map, reverse}
+use Rattle.std.specs.Prelude.{ℕ, suc, ◌==◌, ◌&&◌, ◌++◌, Bool, true, false, List, [], ◌∷◌, reverse}
 use Rattle.std.specs.Prelude.{Option, None, Some, get_or, if◌then◌else◌}
-use Rattle.std.specs.Option.{option_or, option_map}
+use Rattle.std.specs.Option.{option_map}
 use Rattle.std.specs.Str.{bytes_eq}
 
 abbrev pub dot : ℕ
@@ -39,21 +39,3 @@ place_of_path (p ∷ ps) path = if same_path path p then Some 0 else option_map 
 -- the path of a name, whose words are kept last first, behind a namespace's
 abbrev pub named : List Path → List Path → ℕ → ℕ → Path
 named paths names path name = get_or paths path [] ++ reverse (get_or names name [])
-
--- the beginnings of a path that have a word, the shortest first
-abbrev pub beginnings : Path → List Path
-beginnings [] = []
-beginnings (w ∷ ws) = (w ∷ []) ∷ map (λ p. w ∷ p) (beginnings ws)
-
--- a namespace and those around it, the outermost first, which has no name
-abbrev pub prefixes : Path → List Path
-prefixes p = [] ∷ beginnings p
-
--- the last that is there
-abbrev pub last_some : List (Option ℕ) → Option ℕ
-last_some [] = None
-last_some (o ∷ os) = option_or (last_some os) o
-
--- the type that a path means inside a namespace: the first of that full name in the innermost namespace that has one
-abbrev pub meant_inside : List Path → Path → Path → Option ℕ
-meant_inside types scope path = last_some (map (λ p. place_of_path types (p ++ path)) (prefixes scope))

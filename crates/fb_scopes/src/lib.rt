@@ -2,6 +2,7 @@
 //! however many types have the last word.
 #![tactic(auto)]
 
+mod innermost;
 mod maps;
 mod named_types;
 mod path_tree;

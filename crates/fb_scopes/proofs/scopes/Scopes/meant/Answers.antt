@@ -4,7 +4,8 @@ use Rattle.std.proofs.lemmas.Option.{get_or_from_slice_get, same_Some}
 use Rattle.fb_scopes.specs.PathTree.{paths, IsTree}
 use Rattle.fb_scopes.specs.declared.path_tree.PathTree.{PathTree}
 use Rattle.fb_scopes.specs.Scopes.{IsUse}
-use Rattle.fb_scopes.specs.Words.{Name, words, meant_inside}
+use Rattle.fb_scopes.specs.Words.{Name, words}
+use Rattle.fb_scopes.specs.Innermost.{meant_inside}
 use Rattle.fb_scopes.proofs.scopes.Scopes.meant.Goals as goal
 
 words_some : (s : Name) → words s ≢ []

@@ -1,8 +1,8 @@
 use Rattle.std.proofs.Common.{rules, ◌∙◌, [], ℕ, get_or, Option, subst, arith}
 use Rattle.fb_scopes.specs.PathTree.{paths}
 use Rattle.fb_scopes.specs.NamedTypes.{noted_at}
-use Rattle.fb_scopes.proofs.Noting.{Noting, noting_first, noting_more, outward_of}
-use Rattle.fb_scopes.proofs.scopes.note_type.Goals as goal
+use Rattle.fb_scopes.proofs.innermost.TypeIsNotedForEachUse.{Noting, noting_first, noting_more, outward_of}
+use Rattle.fb_scopes.proofs.innermost.note_type.Goals as goal
 
 pub loop-next-init : goal.loop-next-init
 loop-next-init c = record {

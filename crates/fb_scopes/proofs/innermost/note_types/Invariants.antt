@@ -2,7 +2,7 @@ use Rattle.std.proofs.Common.{◌≡◌, ◌<◌, [], ℕ, length, get_or, map, 
 use Rattle.fb_scopes.specs.PathTree.{paths}
 use Rattle.fb_scopes.specs.NamedTypes.{noted_at, HasRoom}
 use Rattle.fb_scopes.specs.Words.{named, place_of_path}
-use Rattle.fb_scopes.proofs.scopes.note_types.Given as goal
+use Rattle.fb_scopes.proofs.innermost.note_types.Given as goal
 
 abbrev pub invariant-loop-number : goal.invariant-loop-number
 invariant-loop-number l = record {

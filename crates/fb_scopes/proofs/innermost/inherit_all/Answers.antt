@@ -1,8 +1,8 @@
 use Rattle.std.proofs.Common.{rules, arith}
 use Rattle.fb_scopes.specs.PathTree.{paths}
 use Rattle.fb_scopes.specs.NamedTypes.{noted_at}
-use Rattle.fb_scopes.proofs.Inherited.{inherited-more, inherited-all, inherited-first}
-use Rattle.fb_scopes.proofs.scopes.inherit_all.Goals as goal
+use Rattle.fb_scopes.proofs.innermost.InnermostIsMeant.{inherited-more, inherited-all, inherited-first}
+use Rattle.fb_scopes.proofs.innermost.inherit_all.Goals as goal
 
 pub loop-path-init : goal.loop-path-init
 loop-path-init c = record {

@@ -1,8 +1,9 @@
 use Rattle.std.proofs.Common.{◌≡◌, ◌<◌, ◌++◌, [], ℕ, List, length, get_or, nat_lt, if◌then◌else◌}
 use Rattle.fb_scopes.specs.PathTree.{paths}
 use Rattle.fb_scopes.specs.NamedTypes.{noted_at, path_count, name_count, HasMaps}
-use Rattle.fb_scopes.specs.Words.{Path, place_of_path, meant_inside}
-use Rattle.fb_scopes.proofs.scopes.inherit_all.Given as goal
+use Rattle.fb_scopes.specs.Words.{Path, place_of_path}
+use Rattle.fb_scopes.specs.Innermost.{meant_inside}
+use Rattle.fb_scopes.proofs.innermost.inherit_all.Given as goal
 
 abbrev pub invariant-loop-path : goal.invariant-loop-path
 invariant-loop-path l = record {

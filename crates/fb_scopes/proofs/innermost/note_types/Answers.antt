@@ -3,7 +3,7 @@ use Rattle.fb_scopes.specs.PathTree.{paths}
 use Rattle.fb_scopes.specs.NamedTypes.{HasRoom}
 use Rattle.fb_scopes.specs.Words.{named, same_path}
 use Rattle.fb_scopes.proofs.PathsNamed.{place_of_path-next}
-use Rattle.fb_scopes.proofs.scopes.note_types.Goals as goal
+use Rattle.fb_scopes.proofs.innermost.note_types.Goals as goal
 
 pub loop-number-preserved : goal.loop-number-preserved
 loop-number-preserved c =

@@ -5,7 +5,8 @@ use Rattle.std.proofs.lemmas.Bool.{lt-ltb, le-ltb}
 use Rattle.std.proofs.lemmas.Bool.Decides.{nat_tests, eqb_tells}
 use Rattle.std.proofs.lemmas.Option.{get_or_from_slice_get}
 use Rattle.std.specs.Option.{option_or}
-use Rattle.fb_scopes.specs.Words.{Name, Path, place_of_path, meant_inside}
+use Rattle.fb_scopes.specs.Words.{Name, Path, place_of_path}
+use Rattle.fb_scopes.specs.Innermost.{meant_inside}
 use Rattle.fb_scopes.specs.declared.path_tree.PathTree.{PathTree}
 use Rattle.fb_scopes.specs.PathTree.{paths, IsTree, child_of}
 use Rattle.fb_scopes.proofs.PathsNamed.{meant_inside-end}

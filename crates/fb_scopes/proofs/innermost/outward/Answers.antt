@@ -1,8 +1,8 @@
 use Rattle.std.proofs.Common.{rules}
 use Rattle.fb_scopes.specs.PathTree.{paths}
 use Rattle.fb_scopes.proofs.PathsLeft.{if_none}
-use Rattle.fb_scopes.proofs.Outward.{no_shorter}
-use Rattle.fb_scopes.proofs.scopes.outward.Goals as goal
+use Rattle.fb_scopes.proofs.innermost.LastWordMovesToTheName.{no_shorter}
+use Rattle.fb_scopes.proofs.innermost.outward.Goals as goal
 
 pub returns-in_err-longer-clause-last : goal.returns-in_err-longer-clause-last
 returns-in_err-longer-clause-last c = if_none {P = Unit {0}} c.from_residual-in_err-longer.result

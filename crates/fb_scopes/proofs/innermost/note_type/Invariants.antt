@@ -1,8 +1,8 @@
 use Rattle.std.proofs.Common.{◌+◌, [], ℕ, length, get_or, Option, None, Some}
 use Rattle.fb_scopes.specs.PathTree.{paths}
 use Rattle.fb_scopes.specs.NamedTypes.{noted_at, HasRoom}
-use Rattle.fb_scopes.proofs.Noting.{Noting}
-use Rattle.fb_scopes.proofs.scopes.note_type.Given as goal
+use Rattle.fb_scopes.proofs.innermost.TypeIsNotedForEachUse.{Noting}
+use Rattle.fb_scopes.proofs.innermost.note_type.Given as goal
 
 abbrev pub invariant-loop-next : goal.invariant-loop-next
 invariant-loop-next l = record {

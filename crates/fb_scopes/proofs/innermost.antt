@@ -1,0 +1,3 @@
+mod LastWordMovesToTheName
+mod TypeIsNotedForEachUse
+mod InnermostIsMeant
