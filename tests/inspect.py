@@ -79,6 +79,19 @@ SEVEN_ROWS = [
     (16, 20, "a: int = 7"),
 ]
 
+# A table of two fields of 4 bytes each, up to the first.
+TWO_FIELDS = u32(12) + u16(8, 12, 4, 8) + i32(8)
+
+
+def two_fields(first, second):
+    """The lines of what is before the fields, which have these names."""
+    return [
+        (0, 4, "root: T at 12"),
+        *vtable("T", 4, 8, 12, (first, 4), (second, 8)),
+        (12, 16, "root: table T, vtable at 4"),
+    ]
+
+
 # A struct of 12 bytes, in which another of 4 bytes begins at 4.
 STRUCTS = (
     "struct In { a:short; b:ubyte; } struct Out { x:int; in:In; y:ushort; } table T { s:Out; v:[In]; } root_type T;"
@@ -247,11 +260,9 @@ ROWS = [
     (
         "a string in a vector's elements",
         "table T { v:[ubyte]; s:string; } root_type T;",
-        u32(12) + u16(8, 12, 4, 8) + i32(8) + u32(8) + u32(8) + u32(8) + text(b"abc"),
+        TWO_FIELDS + u32(8) + u32(8) + u32(8) + text(b"abc"),
         [
-            (0, 4, "root: T at 12"),
-            *vtable("T", 4, 8, 12, ("v", 4), ("s", 8)),
-            (12, 16, "root: table T, vtable at 4"),
+            *two_fields("v", "s"),
             (16, 20, "v: [ubyte] at 24"),
             (20, 24, "s: string at 28"),
             (24, 28, "v: [ubyte], 8 elements"),
@@ -263,11 +274,9 @@ ROWS = [
     (
         "one place as two types",
         "table T { v:[byte]; s:string; } root_type T;",
-        u32(12) + u16(8, 12, 4, 8) + i32(8) + u32(8) + u32(4) + text(b"abc"),
+        TWO_FIELDS + u32(8) + u32(4) + text(b"abc"),
         [
-            (0, 4, "root: T at 12"),
-            *vtable("T", 4, 8, 12, ("v", 4), ("s", 8)),
-            (12, 16, "root: table T, vtable at 4"),
+            *two_fields("v", "s"),
             (16, 20, "v: [byte] at 24"),
             (20, 24, "s: string at 24"),
             (24, 28, "v: [byte], 3 elements"),
@@ -279,11 +288,9 @@ ROWS = [
     (
         "a slot that the schema doesn't have",
         "table T { a:ubyte; } root_type T;",
-        u32(12) + u16(8, 12, 4, 8) + i32(8) + u8(5, 0, 0, 0) + i32(-1),
+        TWO_FIELDS + u8(5, 0, 0, 0) + i32(-1),
         [
-            (0, 4, "root: T at 12"),
-            *vtable("T", 4, 8, 12, ("a", 4), ("not in the schema", 8)),
-            (12, 16, "root: table T, vtable at 4"),
+            *two_fields("a", "not in the schema"),
             (16, 17, "a: ubyte = 5"),
             (17, 20, "padding"),
             (20, 24, "root: field in slot 1, not in the schema"),
@@ -292,11 +299,9 @@ ROWS = [
     (
         "a deprecated field",
         "table T { a:int (deprecated); b:ubyte; } root_type T;",
-        u32(12) + u16(8, 12, 4, 8) + i32(8) + i32(-1) + u8(5, 0, 0, 0),
+        TWO_FIELDS + i32(-1) + u8(5, 0, 0, 0),
         [
-            (0, 4, "root: T at 12"),
-            *vtable("T", 4, 8, 12, ("a", 4), ("b", 8)),
-            (12, 16, "root: table T, vtable at 4"),
+            *two_fields("a", "b"),
             (16, 20, "a: int = -1, deprecated"),
             (20, 21, "b: ubyte = 5"),
             (21, 24, "padding"),
@@ -305,12 +310,10 @@ ROWS = [
     (
         "two types over one vtable",
         "table A { n:int; } table B { m:int; } table T { a:A; b:B; } root_type T;",
-        u32(12) + u16(8, 12, 4, 8) + i32(8) + u32(16) + u32(20)
+        TWO_FIELDS + u32(16) + u32(20)
         + u16(6, 8, 4, 0) + i32(8, 1) + i32(16, 2),
         [
-            (0, 4, "root: T at 12"),
-            *vtable("T", 4, 8, 12, ("a", 4), ("b", 8)),
-            (12, 16, "root: table T, vtable at 4"),
+            *two_fields("a", "b"),
             (16, 20, "a: A at 32"),
             (20, 24, "b: B at 40"),
             *vtable("A", 24, 6, 8, ("n", 4)),
@@ -325,13 +328,11 @@ ROWS = [
     (
         "characters that aren't plain, and a long string",
         "table T { a:string; b:string; } root_type T;",
-        u32(12) + u16(8, 12, 4, 8) + i32(8) + u32(8) + u32(20)
+        TWO_FIELDS + u32(8) + u32(20)
         + text(b'q"\\\n\x1b\xe2\x80\xae\xc3\xa9') + u8(0)
         + text(b"0123456789" * 4) + u8(0, 0, 0),
         [
-            (0, 4, "root: T at 12"),
-            *vtable("T", 4, 8, 12, ("a", 4), ("b", 8)),
-            (12, 16, "root: table T, vtable at 4"),
+            *two_fields("a", "b"),
             (16, 20, "a: string at 24"),
             (20, 24, "b: string at 40"),
             (24, 28, "a: string, 10 bytes"),
