@@ -22,7 +22,7 @@ use Rattle.fb_json.specs.declared.faults.JsonFault.TheVariants.{WrongShape, NotW
 use Rattle.fb_json.specs.declared.faults.JsonFault.TheVariants.{UnknownMember, MissingMember, MissingRequired}
 use Rattle.fb_json.specs.declared.faults.JsonFault.TheVariants.{UnionMismatch}
 use Rattle.fb_json.specs.Meant.{type_place, slot_place, names_known}
-use Rattle.fb_json.specs.EnumTexts.{number_told}
+use Rattle.fb_json.specs.Flags.{number_told}
 use Rattle.fb_json.specs.Means.{CodeAt, member_called}
 
 -- ---- trees without members and elements

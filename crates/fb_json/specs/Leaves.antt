@@ -17,7 +17,7 @@ use Rattle.fb_json.specs.declared.faults.Place.{Place}
 use Rattle.fb_json.specs.declared.faults.JsonFault.{JsonFault}
 use Rattle.fb_json.specs.declared.faults.JsonFault.TheVariants.{WrongShape, NotWhole, OutOfRange, UnknownName}
 use Rattle.fb_json.specs.Outcome.{◌>>=◌, Counted, or_fault, spent}
-use Rattle.fb_json.specs.EnumTexts.{number_told}
+use Rattle.fb_json.specs.Flags.{number_told}
 
 abbrev pub in_range : Base → Place → Option ℤ → Result ℤ JsonFault
 in_range base at None = Err (NotWhole at)

@@ -1,5 +1,5 @@
 pub mod Outcome
-pub mod EnumTexts
+pub mod Flags
 pub mod Leaves
 pub mod Meant
 pub mod SlotMembers

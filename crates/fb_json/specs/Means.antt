@@ -19,7 +19,7 @@ use Rattle.fb_value.specs.Bounds.{Bounds}
 use Rattle.fb_value.specs.Counts.{cells, depth}
 use Rattle.fb_value.specs.Datum.{Datum, a_number, a_text, a_vector, a_struct, a_table, a_member, Parts, no_parts}
 use Rattle.fb_value.specs.Datum.{more_parts, SlotEntries, no_entries, absent_entry, present_entry}
-use Rattle.fb_json.specs.EnumTexts.{number_told}
+use Rattle.fb_json.specs.Flags.{number_told}
 use Rattle.fb_json.specs.Meant.{names_known}
 
 -- ---- numbers

@@ -5,8 +5,8 @@ mod absent;
 mod codes;
 mod elements;
 mod entries;
-mod enums;
 mod faults;
+mod flags;
 mod laws;
 mod leaves;
 mod members;
@@ -25,8 +25,8 @@ mod tree;
 pub use absent::{is_absent, is_null, without};
 pub use codes::code_of_slot;
 pub use elements::element_of;
-pub use enums::has_flags;
 pub use faults::{JsonFault, Place};
+pub use flags::has_flags;
 pub use laws::{
     all_that_is_meant, faults_are_broken, first_fault_refuses, limits_are_reached, meant_fits,
     meant_is_whole, only_what_is_meant,

@@ -3,8 +3,8 @@ ghost use Rattle.std.specs.Prelude.{◌≡◌};
 ghost use Rattle.serde_json.specs.View.{view as tree_view};
 ghost use Rattle.fb_json.specs.Leaves.{in_range, scalar_meant, enum_meant};
 
-use crate::enums::number_told;
 use crate::faults::{JsonFault, Place};
+use crate::flags::number_told;
 use fb_layout::Layout;
 use fb_schema::{Base, TypeId};
 use serde_json::{Number, Value as Json};

@@ -18,7 +18,7 @@ use Rattle.fb_schema.specs.Found.{name_numbered}
 use Rattle.fb_layout.specs.Laid.{LaidSchema}
 use Rattle.fb_value.specs.Datum.{Datum, a_number, a_text, a_vector, a_struct, a_table, a_member, Parts, no_parts}
 use Rattle.fb_value.specs.Datum.{more_parts, SlotEntries, absent_entry, present_entry}
-use Rattle.fb_json.specs.EnumTexts.{has_flags}
+use Rattle.fb_json.specs.Flags.{has_flags}
 use Rattle.fb_text.specs.declared.indents.Spacing.{Spacing}
 use Rattle.fb_text.specs.declared.indents.Spacing.TheVariants.{Indented, Compact}
 

@@ -13,7 +13,7 @@ use Rattle.fb_schema.specs.Found.{name_at, number_named, code_named, member_code
 use Rattle.fb_schema.specs.Paths.{name_in_path, found_by_path, number_by_path, code_by_path}
 use Rattle.fb_layout.specs.Laid.{LaidSchema}
 use Rattle.fb_layout.specs.WellMade.{IsWellMade}
-use Rattle.fb_json.specs.EnumTexts.{words, flags_named, has_flags, number_told}
+use Rattle.fb_json.specs.Flags.{words, flags_named, has_flags, number_told}
 use Rattle.fb_json.specs.Means.{EnumMeans, CodeMeans}
 use Rattle.fb_conform.specs.declared.breaches.Breach.TheVariants.{EnumChanged}
 use Rattle.fb_conform.specs.Conforms.{SameKind, KeepsValues, Conforms}

@@ -20,7 +20,7 @@ use Rattle.fb_json.specs.declared.faults.Place.{Place}
 use Rattle.fb_json.specs.declared.faults.JsonFault.TheVariants.{OutOfRange, UnknownName}
 use Rattle.fb_json.specs.Outcome.{spent}
 use Rattle.fb_schema.specs.Paths.{code_by_path}
-use Rattle.fb_json.specs.EnumTexts.{number_told}
+use Rattle.fb_json.specs.Flags.{number_told}
 use Rattle.fb_json.specs.Leaves.{in_range, boolean_in, scalar_meant, enum_meant, text_meant, leaf_meant, code_numbered}
 use Rattle.fb_json.specs.Leaves.{code_told}
 use Rattle.fb_json.specs.Meant.{Meaner, present, code_in, code_after, as_absent, as_member, union_meant, plain_meant}

@@ -16,7 +16,7 @@ use Rattle.fb_schema.specs.Schema.{DeclaredSchema, body_in, body_at, base_in}
 use Rattle.fb_schema.specs.WellDeclared.{InRange, IsFlag, is_unsigned, IsBody, IsDeclared}
 use Rattle.fb_schema.specs.Found.{name_at, number_named}
 use Rattle.fb_schema.specs.Paths.{name_in_path, number_by_path}
-use Rattle.fb_json.specs.EnumTexts.{has_flags, flags_named, words, number_told}
+use Rattle.fb_json.specs.Flags.{has_flags, flags_named, words, number_told}
 
 found_keeps : {X : Type 0} (P : X → Type 0) (p : X → Bool) (xs : List X) → All P xs → (v : X) → find p xs ≡ Some v → P v
 found_keeps P p [] all v e = cc

@@ -17,7 +17,7 @@ use Rattle.fb_schema.specs.Found.{name_numbered}
 use Rattle.fb_layout.specs.Laid.{LaidSchema}
 use Rattle.fb_value.specs.Datum.{Datum, a_number, a_text, a_vector, a_struct, a_table, a_member, Parts, no_parts}
 use Rattle.fb_value.specs.Datum.{more_parts, SlotEntries, no_entries, absent_entry, present_entry}
-use Rattle.fb_json.specs.EnumTexts.{has_flags}
+use Rattle.fb_json.specs.Flags.{has_flags}
 use Rattle.fb_text.specs.Texts.{in_quotes, is_odd, bit_text, bits_text, bits_of, are_flags, flags_text, enum_text}
 use Rattle.fb_text.specs.Texts.{number_text, edge, inside, new_line, line, closing, colon, is_printed, member_line}
 use Rattle.fb_text.specs.Texts.{member_name, code_text, has_code, entry_text, value_text, items_text, parts_text}

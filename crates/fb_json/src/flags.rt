@@ -1,8 +1,8 @@
-//! Numbers that texts name in enums.
+//! Numbers that texts name in enums: a text names flags with one blank between two.
 ghost use Rattle.std.specs.Prelude.{◌≡◌, pos};
 ghost use Rattle.fb_schema.specs.Schema.{body_at};
 ghost use Rattle.fb_schema.specs.Paths.{number_by_path};
-ghost use Rattle.fb_json.specs.EnumTexts.{has_flags, flags_named, number_told, words};
+ghost use Rattle.fb_json.specs.Flags.{has_flags, flags_named, number_told, words};
 
 use fb_schema::{Schema, TypeId};
 
@@ -34,7 +34,7 @@ fn flags_of(schema: &Schema, enumeration: TypeId, names: &str) -> Option<i128>
 }
 
 /// The number that a text names: that of a value, or of several flags with one blank between them.
-#[tactic(auto, unfolding(crate::specs::EnumTexts::number_told))]
+#[tactic(auto, unfolding(crate::specs::Flags::number_told))]
 pub(crate) fn number_told(schema: &Schema, enumeration: TypeId, text: &str) -> Option<i128>
     ensures { result ≡ number_told schema.now enumeration.0 text.now }
 {

@@ -1,8 +1,8 @@
 use Rattle.std.proofs.Common.{◌≡◌, length, IsUtf8}
 use Rattle.std.specs.Prelude.{pos}
 use Rattle.fb_schema.specs.Paths.{number_by_path}
-use Rattle.fb_json.specs.EnumTexts.{flags_named, words}
-use Rattle.fb_json.proofs.enums.flags_of.Given as goal
+use Rattle.fb_json.specs.Flags.{flags_named, words}
+use Rattle.fb_json.proofs.flags.flags_of.Given as goal
 
 abbrev pub invariant-loop-name : goal.invariant-loop-name
 invariant-loop-name l = record {

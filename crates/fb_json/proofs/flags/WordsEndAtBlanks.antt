@@ -4,7 +4,7 @@ use Rattle.std.proofs.Common.{refl, ap, sym, arith, ne_eqb}
 use Rattle.std.specs.Int.{int_bit_or, w128, cast_signed, cast_unsigned}
 use Rattle.std.proofs.Math.Facts.{of_z-to_z}
 use mir.Val.{Fits}
-use Rattle.fb_json.specs.EnumTexts.{blank, words, flags_named}
+use Rattle.fb_json.specs.Flags.{blank, words, flags_named}
 
 -- no blank stands in it
 abbrev pub HasNoBlank : List ℕ → Type 0

@@ -2,9 +2,9 @@ use Rattle.std.proofs.Common.{Some, None, ap, sym, ◌∙◌, arith, rules}
 use Rattle.std.proofs.lemmas.Str.Pattern.{split_parts}
 use Rattle.std.specs.Int.{w128, cast_signed}
 use Rattle.fb_schema.specs.Paths.{number_by_path}
-use Rattle.fb_json.specs.EnumTexts.{flags_named, words}
-use Rattle.fb_json.proofs.enums.WordsEndAtBlanks.{flag_taken, flag_last, none_named, none_last, or_bits}
-use Rattle.fb_json.proofs.enums.flags_of.Goals as goal
+use Rattle.fb_json.specs.Flags.{flags_named, words}
+use Rattle.fb_json.proofs.flags.WordsEndAtBlanks.{flag_taken, flag_last, none_named, none_last, or_bits}
+use Rattle.fb_json.proofs.flags.flags_of.Goals as goal
 
 pub returns-in_err-flags : goal.returns-in_err-flags
 returns-in_err-flags c =

@@ -1,5 +1,5 @@
--- Which number a text names in an enum: that of a value; with `bit_flags` that of several values, with one blank
--- between their names, joined by or.
+-- Which number a text names in an enum: that of a value; with `bit_flags` a text names flags, one blank between two,
+-- and they are joined by or.
 -- From the FlatBuffers documentation, "JSON parsing" and "Writing a schema": Enums, Attributes (`bit_flags`).
 use Rattle.std.specs.Prelude.{ℕ, ◌==◌, List, [], ◌∷◌, Bool, false, Option, Some, ℤ, pos, if◌then◌else◌}
 use Rattle.std.specs.Int.{int_bit_or, w128}

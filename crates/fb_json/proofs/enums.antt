@@ -1,2 +1,0 @@
--- What the proofs of src/enums.rt use.
-pub mod WordsEndAtBlanks

@@ -1,0 +1,2 @@
+-- What the proofs of src/flags.rt use.
+pub mod WordsEndAtBlanks
