@@ -1,3 +1,2 @@
-mod LastWordMovesToTheName
 mod TypeIsNotedForEachUse
 mod InnermostIsMeant

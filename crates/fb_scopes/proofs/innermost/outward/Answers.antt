@@ -1,7 +1,7 @@
 use Rattle.std.proofs.Common.{rules}
 use Rattle.fb_scopes.specs.PathTree.{paths}
 use Rattle.fb_scopes.proofs.PathsLeft.{if_none}
-use Rattle.fb_scopes.proofs.innermost.LastWordMovesToTheName.{no_shorter}
+use Rattle.fb_scopes.proofs.LastWordMoves.{no_shorter}
 use Rattle.fb_scopes.proofs.innermost.outward.Goals as goal
 
 pub returns-in_err-longer-clause-last : goal.returns-in_err-longer-clause-last
