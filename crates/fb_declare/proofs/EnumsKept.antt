@@ -31,9 +31,9 @@ use Rattle.fb_resolve.specs.ResolvedFields.{ResolvedValue, ResolvedEnum}
 use Rattle.fb_declare.specs.AttributeFaults.{may_stand, metadata_faults}
 use Rattle.fb_resolve.specs.EnumValues.{name_of_value, integer_type, has_flags, value_number, may_be_written}
 use Rattle.fb_resolve.specs.EnumValues.{base_or_ubyte, value_over, values_over}
-use Rattle.fb_declare.specs.FaultRows.{when, faults_in_turn, underlying_faults, is_out_of_range, value_faults}
+use Rattle.fb_declare.specs.FaultRows.{when, faults_in_turn}
+use Rattle.fb_declare.specs.EnumFaults.{underlying_faults, is_out_of_range, value_faults, host_of_enum, enum_faults}
 use Rattle.fb_resolve.specs.RepeatedNames.{is_again}
-use Rattle.fb_declare.specs.TypeFaults.{host_of_enum, enum_faults}
 use Rattle.fb_declare.proofs.FaultFree.{either-none, keys_distinct, keys_apart, pairs_map, both_none, three_none}
 use Rattle.fb_declare.proofs.FaultFree.{none_behind, when-none, noted_stands}
 

@@ -36,7 +36,7 @@ use Rattle.fb_syntax.specs.Located.{Located}
 use Rattle.fb_resolve.specs.Outline.{TypeRead, RootRead, Outline, name_of_type}
 use Rattle.fb_resolve.specs.Meaning.{meaning_of}
 use Rattle.fb_resolve.specs.ResolvedType.{ResolvedType}
-use Rattle.fb_resolve.specs.SlotsRead.{are_ids_wrong}
+use Rattle.fb_resolve.specs.Ids.{are_ids_wrong}
 use Rattle.fb_resolve.specs.Resolved.{resolved_declaration, resolved_type, resolved_types, meaning_of_root}
 use Rattle.fb_resolve.specs.declared.resolved.ResolvedDecl.{ResolvedDecl}
 use Rattle.fb_resolve.specs.declared.resolved.ResolvedDecl.TheVariants as resolved

@@ -14,7 +14,7 @@ use Rattle.fb_resolve.specs.declared.resolved.ResolvedDecl.TheVariants as resolv
 use Rattle.fb_schema.specs.Schema.{DeclaredField, DeclaredBody, table_body, struct_body, enum_body, union_body}
 use Rattle.fb_schema.specs.Schema.{DeclaredType, DeclaredSchema}
 use Rattle.fb_resolve.specs.Outline.{outline_of}
-use Rattle.fb_resolve.specs.SlotsRead.{slots_read, AreInPlace}
+use Rattle.fb_resolve.specs.Ids.{slots_read, AreInPlace}
 use Rattle.fb_declare.specs.Declares.{HasBody, IsType, Declares}
 
 -- The slot at a place stands there in each order.

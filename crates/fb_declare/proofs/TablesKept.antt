@@ -24,9 +24,9 @@ use Rattle.fb_resolve.specs.Outline.{TypeRead}
 use Rattle.fb_schema.specs.Ranges.{holds}
 use Rattle.fb_resolve.specs.EnumValues.{underlying_at, value_at}
 use Rattle.fb_resolve.specs.Defaults.{number_within, null_or_wrong, scalar_named, enum_named, given_to, given_by}
-use Rattle.fb_resolve.specs.SlotsRead.{number_given, is_null, union_of, shape_of, value_slot, slots_read, AreInPlace}
-use Rattle.fb_resolve.specs.SlotsRead.{are_ids_wrong, union_in, slots_by_union, slots_of_field, slots_in_order}
-use Rattle.fb_resolve.specs.SlotsRead.{slot_by_id, slots_by_id, have_ids, code_slot}
+use Rattle.fb_resolve.specs.SlotsRead.{number_given, is_null, union_of, shape_of, value_slot, code_slot}
+use Rattle.fb_resolve.specs.SlotsRead.{union_in, slots_by_union, slots_of_field, slots_in_order}
+use Rattle.fb_resolve.specs.Ids.{slots_read, AreInPlace, are_ids_wrong, slot_by_id, slots_by_id, have_ids}
 use Rattle.fb_resolve.specs.declared.meanings.Meaning.TheVariants.{Known}
 use Rattle.fb_resolve.specs.declared.defaults.Given.{Given}
 use Rattle.fb_resolve.specs.declared.defaults.Given.TheVariants.{Number, Null, Wrong}

@@ -12,7 +12,7 @@ use Rattle.fb_resolve.specs.ResolvedType.{ResolvedType}
 use Rattle.fb_resolve.specs.declared.resolved.ResolvedDecl.{ResolvedDecl}
 use Rattle.fb_resolve.specs.declared.resolved.ResolvedDecl.TheVariants as resolved
 use Rattle.fb_resolve.specs.EnumValues.{integer_type, base_or_ubyte, values_over}
-use Rattle.fb_resolve.specs.SlotsRead.{slots_read, AreInPlace, are_ids_wrong}
+use Rattle.fb_resolve.specs.Ids.{slots_read, AreInPlace, are_ids_wrong}
 use Rattle.fb_resolve.specs.StructsRead.{parts_from, forced_align}
 use Rattle.fb_resolve.specs.MembersRead.{member_read, table_of}
 use Rattle.fb_declare.specs.TypeFaults.{faults_of}

@@ -1,11 +1,10 @@
--- Where each rule on declarations fails: of names, types, defaults, ids, structs, enums, unions, the root and the
--- identifier.
+-- Where each rule on declarations fails: of names, types, defaults, ids, structs, unions, the root and the identifier.
+-- Those of enums are in EnumFaults.
 -- From the FlatBuffers documentation, "Writing a schema".
-use Rattle.std.specs.Prelude.{ℕ, ◌==◌, ◌++◌, ◌&&◌, ◌||◌, not, Bool, false, List, [], ◌∷◌, length, Option, None, Some, ℤ}
+use Rattle.std.specs.Prelude.{ℕ, ◌==◌, ◌++◌, ◌&&◌, ◌||◌, not, Bool, List, [], ◌∷◌, length, Option, None, Some}
 use Rattle.std.specs.Prelude.{codes, if◌then◌else◌, nat_le}
 use Rattle.std.specs.List.{list_any, list_all}
 use Rattle.std.specs.Option.{is_none}
-use Rattle.std.specs.Ordering.{int_eq}
 use Rattle.std.specs.Str.{bytes_eq}
 use Rattle.fb_syntax.specs.Located.{Located}
 use Rattle.fb_syntax.specs.declared.declarations.FieldType.{FieldType}
@@ -16,10 +15,8 @@ use Rattle.fb_schema.specs.Schema.{Name}
 use Rattle.fb_resolve.specs.Outline.{RootRead}
 use Rattle.fb_resolve.specs.RepeatedNames.{is_again}
 use Rattle.fb_resolve.specs.Meaning.{type_name}
-use Rattle.fb_resolve.specs.EnumValues.{may_be_written, integer_type, name_of_value}
 use Rattle.fb_resolve.specs.MembersRead.{table_of}
-use Rattle.fb_resolve.specs.ResolvedFields.{ResolvedMember, ResolvedValue}
-use Rattle.fb_schema.specs.declared.kinds.Base.{Base}
+use Rattle.fb_resolve.specs.ResolvedFields.{ResolvedMember}
 use Rattle.fb_schema.specs.declared.kinds.Kind.TheVariants.{Scalar, Enum, Struct, Union}
 use Rattle.fb_resolve.specs.declared.meanings.Meaning.{Meaning}
 use Rattle.fb_resolve.specs.declared.meanings.Meaning.TheVariants.{Known, Float, Unknown}
@@ -29,7 +26,7 @@ use Rattle.fb_declare.specs.declared.field_faults.FieldHost.{FieldHost}
 use Rattle.fb_declare.specs.declared.field_faults.FieldHost.TheVariants as fields
 use Rattle.fb_declare.specs.declared.faults.SchemaFault.{SchemaFault}
 use Rattle.fb_declare.specs.declared.faults.SchemaFault.TheVariants.{DuplicateName, UnknownType, BadDefault}
-use Rattle.fb_declare.specs.declared.faults.SchemaFault.TheVariants.{IncompleteStruct, Unsupported, BadEnumValue}
+use Rattle.fb_declare.specs.declared.faults.SchemaFault.TheVariants.{IncompleteStruct, Unsupported}
 use Rattle.fb_declare.specs.declared.faults.SchemaFault.TheVariants.{BadMember, BadRoot, BadIdentifier}
 
 abbrev pub when : Bool → SchemaFault → List SchemaFault
@@ -81,22 +78,6 @@ default_at (Named t) = t.at
 abbrev pub bad_default : Option DefaultValue → Given → List SchemaFault
 bad_default (Some d) Wrong = BadDefault (default_at d) ∷ []
 bad_default _ _ = []
-
--- the type under an enum
-abbrev pub underlying_faults : Meaning → ℕ → List SchemaFault
-underlying_faults Unknown at = UnknownType at ∷ []
-underlying_faults m at = when (is_none (integer_type m)) (Unsupported at)
-
-abbrev pub is_out_of_range : Option Base → Bool → ℤ → Bool
-is_out_of_range None flags n = false
-is_out_of_range (Some base) flags n = not (may_be_written base flags n)
-
--- a value that has the name of one before it; and one whose number is out of range, or that of one before it
-abbrev pub value_faults : Option Base → Bool → List ResolvedValue → ResolvedValue → List SchemaFault
-value_faults base flags before v =
-    when (is_again bytes_eq name_of_value before v) (DuplicateName v.value.name.at)
-    ++ when (is_out_of_range base flags v.number || is_again int_eq (λ w. w.number) before v)
-    (BadEnumValue v.value.name.at)
 
 -- a member that is called NONE or like one before it, isn't a table, or is past the 255th
 abbrev pub member_faults : List ResolvedMember → ResolvedMember → List SchemaFault

@@ -1,5 +1,6 @@
 pub mod AttributeFaults
 pub mod FaultRows
+pub mod EnumFaults
 pub mod TypeFaults
 pub mod Declares
 pub mod FaultTable

@@ -1,26 +1,26 @@
 -- The faults of a table, struct, enum or union, and of all that a text declares.
 -- From the FlatBuffers documentation, "Writing a schema".
-use Rattle.std.specs.Prelude.{ℕ, ◌++◌, ◌==◌, ◌||◌, Bool, List, [], ◌∷◌, length, Option, None, Some, if◌then◌else◌}
+use Rattle.std.specs.Prelude.{ℕ, ◌++◌, ◌==◌, ◌||◌, Bool, List, [], ◌∷◌, length}
 use Rattle.std.specs.List.{flat_map, fold}
 use Rattle.std.specs.Str.{bytes_eq}
 use Rattle.fb_syntax.specs.DeclsRead.{DeclsRead}
 use Rattle.fb_schema.specs.Schema.{Name}
-use Rattle.fb_schema.specs.WellDeclared.{names_of, is_unsigned}
+use Rattle.fb_schema.specs.WellDeclared.{names_of}
 use Rattle.fb_resolve.specs.Outline.{TypeRead, Outline, outline_of, name_of_type, word_of}
-use Rattle.fb_resolve.specs.ResolvedFields.{ResolvedField, ResolvedTable, ResolvedEnum, ResolvedUnion}
+use Rattle.fb_resolve.specs.ResolvedFields.{ResolvedField, ResolvedTable, ResolvedUnion}
 use Rattle.fb_resolve.specs.ResolvedType.{ResolvedType}
 use Rattle.fb_resolve.specs.Resolved.{resolved_types, meaning_of_root}
 use Rattle.fb_resolve.specs.declared.resolved.ResolvedDecl.{ResolvedDecl}
 use Rattle.fb_resolve.specs.declared.resolved.ResolvedDecl.TheVariants as resolved
 use Rattle.fb_declare.specs.AttributeFaults.{metadata_faults}
-use Rattle.fb_resolve.specs.EnumValues.{integer_type}
-use Rattle.fb_resolve.specs.SlotsRead.{slots_of_field, are_ids_wrong}
+use Rattle.fb_resolve.specs.SlotsRead.{slots_of_field}
+use Rattle.fb_resolve.specs.Ids.{are_ids_wrong}
 use Rattle.fb_resolve.specs.StructsRead.{natural_align, align_of_type}
 use Rattle.fb_declare.specs.FaultRows.{when, faults_behind, faults_in_turn, is_among, name_again, field_type}
-use Rattle.fb_declare.specs.FaultRows.{bad_default, underlying_faults, value_faults, member_faults, root_faults}
+use Rattle.fb_declare.specs.FaultRows.{bad_default, member_faults, root_faults}
+use Rattle.fb_declare.specs.EnumFaults.{enum_faults}
 use Rattle.fb_declare.specs.FaultRows.{identifier_faults}
 use Rattle.fb_resolve.specs.RepeatedNames.{is_again}
-use Rattle.fb_schema.specs.declared.kinds.Base.{Base}
 use Rattle.fb_schema.specs.declared.kinds.Kind.TheVariants.{Scalar, Enum}
 use Rattle.fb_syntax.specs.declared.declarations.FieldType.{FieldType}
 use Rattle.fb_syntax.specs.declared.declarations.FieldType.TheVariants.{One}
@@ -77,17 +77,6 @@ struct_faults types declared lower s =
     metadata_faults declared (hosts.Struct (natural_align types lower s.fields)) s.declared.attributes
     ++ when (length s.fields == 0) (EmptyStruct s.declared.name.at)
     ++ faults_in_turn (field_behind declared (fields.Struct (length lower))) s.fields
-
--- Flags need an unsigned type. Where the type is at fault `bit_flags` is ignored.
-abbrev pub host_of_enum : Option Base → AttributeHost
-host_of_enum None = hosts.Enum
-host_of_enum (Some base) = if is_unsigned base then hosts.Enum else hosts.SignedEnum
-
-abbrev pub enum_faults : (Name → Bool) → ResolvedEnum → List SchemaFault
-enum_faults declared e = let base = integer_type e.underlying in
-    underlying_faults e.underlying e.declared.underlying.at
-    ++ metadata_faults declared (host_of_enum base) e.declared.attributes
-    ++ faults_in_turn (value_faults base e.bit_flags) e.values
 
 abbrev pub union_faults : (Name → Bool) → ResolvedUnion → List SchemaFault
 union_faults declared u =

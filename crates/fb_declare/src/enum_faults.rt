@@ -1,9 +1,10 @@
-//! Enums: what is wrong with one.
+//! The faults of an enum: its values' numbers differ, and are within its underlying type.
 ghost use Rattle.std.specs.Prelude.{◌≡◌, ◌||◌, IfOk};
 ghost use Rattle.fb_declare.specs.Faults.{least_of};
-ghost use Rattle.fb_declare.specs.FaultRows.{underlying_faults, is_out_of_range, faults_in_turn, value_faults};
+ghost use Rattle.fb_declare.specs.EnumFaults.{underlying_faults, is_out_of_range, value_faults};
+ghost use Rattle.fb_declare.specs.EnumFaults.{host_of_enum, enum_faults};
+ghost use Rattle.fb_declare.specs.FaultRows.{faults_in_turn};
 ghost use Rattle.fb_declare.specs.NameSet.{is_met};
-ghost use Rattle.fb_declare.specs.TypeFaults.{host_of_enum, enum_faults};
 
 use crate::attribute_faults::{AttributeHost, metadata_fault};
 use crate::faults::{SchemaFault, earlier, when};

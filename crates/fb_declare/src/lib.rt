@@ -2,7 +2,7 @@
 #![tactic(auto)]
 
 mod attribute_faults;
-mod enums;
+mod enum_faults;
 mod faults;
 mod field_faults;
 mod name_set;

@@ -10,7 +10,7 @@ ghost use Rattle.std.specs.List.{AllZip};
 ghost use Rattle.fb_schema.specs.Seen.{body_seen, type_seen};
 ghost use Rattle.fb_declare.specs.Declares.{HasBody, IsType, IsBuildable, AreBuildable};
 
-use crate::enums::enum_fault;
+use crate::enum_faults::enum_fault;
 use crate::faults::{SchemaFault, earlier, when};
 use crate::name_set::NameSet;
 use crate::tables::{struct_fault, table_fault};

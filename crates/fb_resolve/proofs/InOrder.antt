@@ -11,8 +11,8 @@ use Rattle.fb_schema.specs.declared.types.FieldInfo.{FieldInfo}
 use Rattle.fb_schema.specs.declared.kinds.TypeId.{TypeId}
 use Rattle.fb_resolve.specs.ResolvedFields.{ResolvedField}
 use Rattle.fb_resolve.specs.SlotsRead.{union_in, value_slot, code_slot, slots_by_union, slots_of_field, slots_in_order}
-use Rattle.fb_resolve.specs.SlotsRead.{slots_by_id, numbers_by_id, have_ids, slots_read, AreInPlace, are_places}
-use Rattle.fb_resolve.specs.SlotsRead.{are_ids_wrong}
+use Rattle.fb_resolve.specs.Ids.{slots_by_id, numbers_by_id, have_ids, slots_read, AreInPlace, are_places}
+use Rattle.fb_resolve.specs.Ids.{are_ids_wrong}
 use Rattle.fb_resolve.proofs.PlacesTaken.{places_at}
 
 rises-map : {X Y : Type 0} (number : Y → ℕ) (g : X → Y) (xs : List X) → IsNonDecreasingBy (λ x. number (g x)) xs

@@ -9,7 +9,7 @@ use Rattle.std.proofs.lemmas.List.Sums.{AllPass-from_list_all}
 use Rattle.std.proofs.lemmas.Map.Made.{is_member-Decides}
 use Rattle.std.specs.List.{list_any, range_with_len}
 use Rattle.std.specs.List.Sorted.{IsPermutation, IsNonDecreasingBy}
-use Rattle.fb_resolve.specs.SlotsRead.{are_places}
+use Rattle.fb_resolve.specs.Ids.{are_places}
 
 -- each place below the count is one of the numbers, at some index
 abbrev HasEach : List ℕ → Type 0

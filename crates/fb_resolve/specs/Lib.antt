@@ -8,6 +8,7 @@ pub mod Attributes
 pub mod EnumValues
 pub mod Defaults
 pub mod SlotsRead
+pub mod Ids
 pub mod StructsRead
 pub mod MembersRead
 pub mod Paths

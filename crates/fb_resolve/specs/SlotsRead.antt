@@ -1,10 +1,8 @@
--- The slots that a table's fields take.
--- From the FlatBuffers documentation, "Writing a schema": Tables, Unions, Attributes (`id`, `required`, `deprecated`).
-use Rattle.std.specs.Prelude.{ℕ, suc, ◌+◌, ◌==◌, ◌≡◌, ◌++◌, ◌&&◌, not, Bool, true, false, List, [], ◌∷◌, length, map}
-use Rattle.std.specs.Prelude.{Option, None, Some, ℤ, pos, codes, slice_get, string_bytes, IfSome, if◌then◌else◌}
-use Rattle.std.specs.List.{list_any, list_all, flat_map, range_with_len}
-use Rattle.std.specs.List.Sorted.{IsPermutation}
-use Rattle.std.specs.Option.{is_some, unwrap_or, option_map}
+-- The slots that a field of a table takes.
+-- From the FlatBuffers documentation, "Writing a schema": Tables, Unions, Attributes (`required`, `deprecated`).
+use Rattle.std.specs.Prelude.{ℕ, ◌+◌, ◌≡◌, ◌++◌, Bool, true, false, List, [], ◌∷◌, length}
+use Rattle.std.specs.Prelude.{Option, None, Some, ℤ, pos, codes, string_bytes, IfSome}
+use Rattle.std.specs.Option.{option_map}
 use Rattle.fb_syntax.specs.FieldRead.{FieldRead}
 use Rattle.fb_syntax.specs.declared.declarations.FieldType.{FieldType}
 use Rattle.fb_syntax.specs.declared.declarations.FieldType.TheVariants as types_read
@@ -20,8 +18,6 @@ use Rattle.fb_resolve.specs.declared.meanings.Meaning.TheVariants.{Known}
 use Rattle.fb_resolve.specs.declared.defaults.Given.{Given}
 use Rattle.fb_resolve.specs.declared.defaults.Given.TheVariants.{Number, Null}
 use Rattle.fb_resolve.specs.declared.resolved.UnionCode.{UnionCode}
-use Rattle.fb_resolve.specs.declared.ids.Slots.{Slots}
-use Rattle.fb_resolve.specs.declared.ids.Slots.TheVariants.{InOrder, ById, Wrong}
 
 -- the union of a union's use
 abbrev pub union_of : FieldType → Meaning → Option TypeId
@@ -94,49 +90,3 @@ unfoldable pub slots_in_order : ℕ → List ResolvedField → List DeclaredFiel
 slots_in_order slot [] = []
 slots_in_order slot (r ∷ rs) = slots_of_field r slot
     ++ slots_in_order (slot + length (slots_of_field r slot)) rs
-
--- A field's id is that of its value, so a union's first slot is the one before it.
-abbrev pub first_slot : Option TypeId → Option ℕ → Option ℕ
-first_slot None (Some n) = Some n
-first_slot (Some u) (Some (suc n)) = Some n
-first_slot _ _ = None
-
--- the first slot of a field by its id
-unfoldable pub slot_by_id : ResolvedField → Option ℕ
-slot_by_id r = first_slot (union_in r) r.attributes.id
-
-abbrev pub slots_by_id : List ResolvedField → List DeclaredField
-slots_by_id rs = flat_map (λ r. slots_of_field r (unwrap_or (slot_by_id r) 0)) rs
-
-abbrev pub have_ids : List ResolvedField → Bool
-have_ids rs = list_any (λ r. r.attributes.has_id) rs
-
--- the slots of a table, in the order of declaration
-abbrev pub slots_read : List ResolvedField → List DeclaredField
-slots_read rs = if have_ids rs then slots_by_id rs else slots_in_order 0 rs
-
--- The same slots stand at the places of their numbers.
-pub record AreInPlace (read placed : List DeclaredField) : Type 0 where
-  pub same : IsPermutation read placed
-  pub slots : (k : ℕ) (f : DeclaredField) → slice_get placed k ≡ Some f → f.slot ≡ k
-
--- The numbers are 0, 1, .. without gap or repeat, in any order: each that is below their count is among them.
-abbrev pub are_places : List ℕ → Bool
-are_places ns = list_all (λ k. list_any (λ n. k == n) ns) (range_with_len 0 (length ns))
-
-abbrev pub have_all_ids : List ResolvedField → Bool
-have_all_ids rs = list_all (λ r. is_some (slot_by_id r)) rs
-
--- the numbers of the slots that fields take by their ids
-abbrev pub numbers_by_id : List ResolvedField → List ℕ
-numbers_by_id rs = map (λ s. s.slot) (slots_by_id rs)
-
--- some field has an id, but not each has one that gives it a slot, or the slots aren't 0, 1, .. each once
-unfoldable pub are_ids_wrong : List ResolvedField → Bool
-are_ids_wrong rs = have_ids rs && not (have_all_ids rs && are_places (numbers_by_id rs))
-
--- what the slots of a table's fields are: numbered in the order of declaration, or by their ids
-abbrev pub AreSlots : List ResolvedField → Slots → Type 0
-AreSlots rs InOrder = have_ids rs ≡ false
-AreSlots rs ById = (have_ids rs ≡ true) × (are_ids_wrong rs ≡ false)
-AreSlots rs Wrong = are_ids_wrong rs ≡ true

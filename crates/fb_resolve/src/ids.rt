@@ -1,8 +1,9 @@
-//! The slots that the ids of fields name.
+//! The ids of a table's fields name each slot once, or are wrong.
 ghost use Rattle.std.specs.Prelude.{◌≡◌, ◌<◌, ◌-◌, ◌^◌, IfOk, IfSome, IsSome, map, true, false};
 ghost use Rattle.std.specs.Option.{is_some};
-ghost use Rattle.fb_resolve.specs.SlotsRead.{union_in, slot_by_id, have_all_ids, numbers_by_id, are_places};
-ghost use Rattle.fb_resolve.specs.SlotsRead.{have_ids, AreSlots, are_ids_wrong, slots_by_id, slots_read, AreInPlace};
+ghost use Rattle.fb_resolve.specs.SlotsRead.{union_in};
+ghost use Rattle.fb_resolve.specs.Ids.{slot_by_id, have_all_ids, numbers_by_id, are_places};
+ghost use Rattle.fb_resolve.specs.Ids.{have_ids, AreSlots, are_ids_wrong, slots_by_id, slots_read, AreInPlace};
 ghost use Rattle.fb_schema.specs.Seen.{field_seen};
 
 use crate::resolved::{ResolvedField, ResolvedTable};
@@ -22,7 +23,7 @@ pub(crate) enum Slots {
 }
 
 /// The first slot of a field by its id, which is that of its value.
-#[tactic(auto, unfolding(crate::specs::SlotsRead::slot_by_id))]
+#[tactic(auto, unfolding(crate::specs::Ids::slot_by_id))]
 fn slot_by_id(resolved: &ResolvedField<'_, '_>) -> Option<u64>
     ensures slot { result ≡ slot_by_id resolved.now }
     ensures room { IsSome (union_in resolved.now) → IfSome result (λ s. s < 2 ^ 64 - 1) }
@@ -77,7 +78,7 @@ fn have_ids(fields: &[ResolvedField<'_, '_>]) -> bool
 
 impl Slots {
     /// The slots of fields. The only error is a refused allocation.
-    #[tactic(auto, unfolding(crate::specs::SlotsRead::are_ids_wrong))]
+    #[tactic(auto, unfolding(crate::specs::Ids::are_ids_wrong))]
     pub(crate) fn of(alloc: Global, fields: &[ResolvedField<'_, '_>]) -> Result<Slots, AllocError>
         ensures { IfOk result (AreSlots fields.now) }
     {
@@ -92,7 +93,7 @@ impl Slots {
 }
 
 /// Whether a table's fields have ids that do not name each slot of theirs once.
-#[tactic(auto, unfolding(crate::specs::SlotsRead::are_ids_wrong))]
+#[tactic(auto, unfolding(crate::specs::Ids::are_ids_wrong))]
 pub fn are_ids_wrong(table: &ResolvedTable<'_, '_>) -> bool
     ensures { result ≡ are_ids_wrong table.now.fields }
 {

@@ -56,7 +56,7 @@ impl<'d, 's> Model for ResolvedTable<'d, 's> {
     ghost use Rattle.fb_resolve.specs.Attributes.{number_called};
     ghost use Rattle.fb_syntax.specs.declared.attributes.BuiltInAttribute.TheVariants.{ForceAlign};
     ghost use Rattle.fb_resolve.specs.ResolvedFields.{ResolvedTable as Resolved};
-    ghost use Rattle.fb_resolve.specs.SlotsRead.{AreSlots};
+    ghost use Rattle.fb_resolve.specs.Ids.{AreSlots};
 
     ghost Value = { Resolved };
 

@@ -8,12 +8,13 @@ use Rattle.std.specs.Ordering.{int_eq}
 use Rattle.std.specs.Str.{bytes_eq}
 use Rattle.fb_declare.specs.declared.faults.SchemaFault.TheVariants.{DuplicateName, BadEnumValue}
 use Rattle.fb_declare.specs.Faults.{least_of}
-use Rattle.fb_declare.specs.FaultRows.{when, is_out_of_range, value_faults}
+use Rattle.fb_declare.specs.FaultRows.{when}
+use Rattle.fb_declare.specs.EnumFaults.{is_out_of_range, value_faults}
 use Rattle.fb_resolve.specs.RepeatedNames.{is_again, repeated_names}
 use Rattle.fb_resolve.specs.EnumValues.{name_of_value}
 use Rattle.fb_declare.proofs.TypesKept.{told_among}
 use Rattle.fb_declare.proofs.Least.{least_of_append, least_more, map-taken, list_any-snoc, one_more}
-use Rattle.fb_declare.proofs.enums.values_fault.Goals as goal
+use Rattle.fb_declare.proofs.enum_faults.values_fault.Goals as goal
 
 pub bounds-repeats-place : goal.bounds-repeats-place
 bounds-repeats-place c =

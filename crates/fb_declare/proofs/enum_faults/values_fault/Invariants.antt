@@ -2,8 +2,9 @@ use Rattle.std.proofs.Common.{◌≡◌, ℤ, map, take}
 use Rattle.std.specs.List.{list_any}
 use Rattle.std.specs.Ordering.{int_eq}
 use Rattle.fb_declare.specs.Faults.{least_of}
-use Rattle.fb_declare.specs.FaultRows.{faults_in_turn, value_faults}
-use Rattle.fb_declare.proofs.enums.values_fault.Given as goal
+use Rattle.fb_declare.specs.FaultRows.{faults_in_turn}
+use Rattle.fb_declare.specs.EnumFaults.{value_faults}
+use Rattle.fb_declare.proofs.enum_faults.values_fault.Given as goal
 
 abbrev pub invariant-loop-place : goal.invariant-loop-place
 invariant-loop-place l = record {

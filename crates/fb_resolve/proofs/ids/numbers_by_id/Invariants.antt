@@ -1,5 +1,5 @@
 use Rattle.std.proofs.Common.{◌≡◌, ◌++◌, drop}
-use Rattle.fb_resolve.specs.SlotsRead.{numbers_by_id, have_all_ids}
+use Rattle.fb_resolve.specs.Ids.{numbers_by_id, have_all_ids}
 use Rattle.fb_resolve.proofs.ids.numbers_by_id.Given as goal
 
 abbrev pub invariant-loop-field : goal.invariant-loop-field

@@ -2,7 +2,7 @@ use Rattle.std.proofs.Common.{arith, rules, ◌≡◌, map}
 use Rattle.std.proofs.lemmas.List.Sorted.{IsNonDecreasingBy-from_sort_by_key}
 use Rattle.std.proofs.lemmas.Grind.{common_steps}
 use Rattle.fb_schema.specs.Seen.{field_seen}
-use Rattle.fb_resolve.specs.SlotsRead.{slots_by_id}
+use Rattle.fb_resolve.specs.Ids.{slots_by_id}
 use Rattle.fb_resolve.proofs.InOrder.{placed_by_id}
 use Rattle.fb_resolve.proofs.ids.table_slots.Goals as goal
 

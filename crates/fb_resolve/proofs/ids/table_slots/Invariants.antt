@@ -1,6 +1,6 @@
 use Rattle.std.proofs.Common.{◌≡◌, ◌++◌, map}
 use Rattle.fb_schema.specs.Seen.{field_seen}
-use Rattle.fb_resolve.specs.SlotsRead.{slots_by_id}
+use Rattle.fb_resolve.specs.Ids.{slots_by_id}
 use Rattle.fb_resolve.proofs.ids.table_slots.Given as goal
 
 abbrev pub invariant-loop-field : goal.invariant-loop-field
