@@ -46,7 +46,8 @@ header_holds b (Some id) low high identified =
     let own = identified id refl in
     rw (le-leb _ _ own.0, le-leb _ _ high, (bytes_eq-Decides (take 4 (drop 4 b)) id).1 own.1) refl
 
-pub checked : (L : LaidSchema) (b : Bytes) (raw : Bool) → ((id : Bytes) → L.schema.identifier ≡ Some id → IsIdentified b id)
+pub checked : (L : LaidSchema) (b : Bytes) (raw : Bool)
+    → ((id : Bytes) → L.schema.identifier ≡ Some id → IsIdentified b id)
     → (id : Bytes) → checked_identifier L raw ≡ Some id → IsIdentified b id
 checked L b raw identified id e = by_raw raw e
   where

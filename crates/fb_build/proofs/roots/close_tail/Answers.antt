@@ -1,4 +1,5 @@
-use Rattle.std.proofs.Common.{◌≡◌, ℕ, ◌+◌, ◌≤◌, ◌++◌, ◌∙◌, true, refl, ap, sym, subst, length, drop, arith, length-append}
+use Rattle.std.proofs.Common.{◌≡◌, ℕ, ◌+◌, ◌≤◌, ◌++◌, ◌∙◌, true, refl, ap, sym, subst, length, drop, arith}
+use Rattle.std.proofs.Common.{length-append}
 use Rattle.byteorder.specs.Endian.{little_bytes}
 use Rattle.fb_layout.specs.Laid.{LaidSchema}
 use Rattle.fb_value.specs.Datum.{Datum}
@@ -77,7 +78,8 @@ returns-clause-holds c places d most raw root deep small =
     let is = counted s.bytes b _ c.count-count.ensures.exact c.lay_u32.ensures.bytes h.least
     (omega (arith, four, h.room, h.small)) in
     rw c.if-not-prefixed.false (counted_holds c.args.layout.now s.most s.bytes b d is
-    (multiple_with s.most (length s.bytes) _ 4 four h.multiple) (h.rooted places d root) most raw h.identified deep small)
+    (multiple_with s.most (length s.bytes) _ 4 four h.multiple) (h.rooted places d root)
+    most raw h.identified deep small)
 
 pub returns-clause-old_slots : goal.returns-clause-old_slots
 returns-clause-old_slots c places d root =
