@@ -8,10 +8,11 @@ use Rattle.fb_build.specs.Tails.{LaidInTail}
 pub use Rattle.fb_tape.specs.StoredFields.{shape_seen, kind_seen, slot_seen, slots_seen, IsStructThere, IsElement}
 pub use Rattle.fb_tape.specs.StoredFields.{IsSimple, code_in, next_code, coded, stored_here, stored_in, member_target}
 pub use Rattle.fb_tape.specs.StoredFields.{target_for, inline_kind, is_reference, ref_or, sort_for, scalar_in}
-pub use Rattle.fb_tape.specs.StoredFields.{number_in, number_of_datum, differs, is_stored, above, from, is_at}
+pub use Rattle.fb_tape.specs.StoredFields.{number_in, number_of_datum, above, from, is_at}
 pub use Rattle.fb_tape.specs.StoredFields.{size_if_at, align_if_stored, size_at, size_above, entry_stored, is_coded}
-pub use Rattle.fb_tape.specs.StoredFields.{entries_seen, stored_seen, SlotFits, StoredFits, HasDefault, AreSimple}
+pub use Rattle.fb_tape.specs.StoredFields.{entries_seen, stored_seen, SlotFits, StoredFits, AreSimple}
 pub use Rattle.fb_tape.specs.StoredFields.{AreKnown, fields_size, stored_align, stored_room}
+pub use Rattle.fb_tape.specs.Defaults.{differs, is_stored, HasDefault}
 
 abbrev pub TargetEnd : LaidSchema → ℕ → Bytes → Option Target → ℕ → Datum → Type 0
 TargetEnd L m s None e d = Unit {0}

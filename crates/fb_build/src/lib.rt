@@ -3,6 +3,7 @@
 
 mod blocks;
 mod buffers;
+mod defaults;
 mod faults;
 mod laws;
 mod laying;
@@ -20,6 +21,7 @@ mod taped_references;
 mod taped_vtables;
 
 pub use buffers::{build, lay_root, plan};
+pub use defaults::is_default;
 pub use faults::BuildFault;
 pub use laws::{
     chunks_join, covered_by_its_value, covered_whole, examples_are_covered, examples_have_slack,
@@ -27,5 +29,5 @@ pub use laws::{
     reached_is_listed, reached_kept_in_front, runs_kept_by_more, tight_kept_in_front,
     zero_is_computed, zero_outside,
 };
-pub use noting::{Noting, is_default, is_reference};
+pub use noting::{Noting, is_reference};
 pub use plans::Plan;

@@ -1,5 +1,5 @@
 //! Notes values on a tape.
-ghost use Rattle.std.specs.Prelude.{ℕ, ◌≡◌, ◌≤◌, ◌<◌, ◌+◌, [], ◌∷◌, Some, true, false, not, length, map};
+ghost use Rattle.std.specs.Prelude.{ℕ, ◌≡◌, ◌≤◌, ◌<◌, ◌+◌, [], ◌∷◌, Some, true, false, length, map};
 ghost use Rattle.std.specs.Prelude.{option_map, OnOk, IfOk};
 ghost use Rattle.fb_layout.specs.Laid.{LaidSchema, slots_of, one_of, kind_in, align_of, table_kind, union_kind};
 ghost use Rattle.fb_layout.specs.Widths.{greatest};
@@ -15,10 +15,11 @@ ghost use Rattle.fb_value.specs.View.{view, parts_view, entries_view};
 ghost use Rattle.fb_tape.specs.NamedParts.{apart_of, entry_apart, entries_apart, elements_apart, as_list};
 ghost use Rattle.fb_tape.specs.Tapes.{Waits};
 ghost use Rattle.fb_build.specs.Fields.{IsSimple, IsElement, is_reference, entries_seen, slot_seen};
-ghost use Rattle.fb_build.specs.Fields.{code_in, is_coded, is_stored, shape_seen, kind_seen, slots_seen, stored_seen};
+ghost use Rattle.fb_build.specs.Fields.{code_in, shape_seen, kind_seen, slots_seen, stored_seen};
 ghost use Rattle.fb_build.specs.Noted.{AddsParts, AddsFields, AddsSlots};
 ghost use Rattle.fb_build.specs.Parts.{EntryWhole, TableKnown};
 
+use crate::defaults::is_default;
 use fb_layout::Layout;
 use fb_schema::{FieldInfo, Kind, Shape, TypeId};
 use fb_tape::{OpenFields, Tape};
@@ -109,23 +110,6 @@ fn note_entries(
         note_entry(noting, layout, k as u16, &slots[k], &entries[k])?;
     }
     Ok(())
-}
-
-/// Whether a number is the default of a scalar or enum in use that is neither optional nor required.
-pub fn is_default(slot: &FieldInfo, value: &Value) -> bool
-    ensures stored { (L : LaidSchema) → is_coded slot.now.shape ≡ false
-        → is_stored (slot_seen L slot.now) (Some (view value.now)) ≡ not result }
-{
-    match value {
-        Value::Number(number) => {
-            *number == slot.default
-                && !slot.optional
-                && !slot.required
-                && !slot.deprecated
-                && matches!(slot.shape, Shape::One(Kind::Scalar(_) | Kind::Enum(_)))
-        }
-        _ => false,
-    }
 }
 
 /// The code of a union's member.

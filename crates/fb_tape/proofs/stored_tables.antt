@@ -1,8 +1,5 @@
-mod AlignmentsFall
-mod FieldsInTurn
+pub mod FieldsInTurn
 pub mod OpenFieldsAreStored
-mod NotesFollowTheOrder
-pub mod AllIsInOrder
 mod OffsetsAreTold
 mod SlotsAreTold
 mod OffsetsAreTrimmed

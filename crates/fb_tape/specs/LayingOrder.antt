@@ -1,4 +1,4 @@
--- In which order the stored fields of a table are laid.
+-- A table's fields are laid by falling alignment.
 -- From the FlatBuffers documentation, "FlatBuffer Internals": Tables. The order is this project's own.
 use Rattle.std.specs.Prelude.{ℕ, suc, List, [], ◌∷◌, Option, if◌then◌else◌, flat_map}
 use Rattle.fb_layout.specs.Laid.{LaidSchema, Slot}

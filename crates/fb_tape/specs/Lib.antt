@@ -1,4 +1,5 @@
 pub mod Alignments
+pub mod Defaults
 pub mod StoredFields
 pub mod Taken
 pub mod InlineBytes

@@ -9,7 +9,8 @@ use Rattle.fb_value.specs.Num.{Bytes}
 use Rattle.fb_value.specs.View.{entries_in}
 use Rattle.fb_tape.specs.InlineBytes.{AreInlineBytes}
 use Rattle.fb_tape.specs.NotedFields.{IsNoted}
-use Rattle.fb_tape.specs.StoredFields.{AreKnown, is_stored, stored_in}
+use Rattle.fb_tape.specs.StoredFields.{AreKnown, stored_in}
+use Rattle.fb_tape.specs.Defaults.{is_stored}
 use Rattle.fb_tape.specs.declared.ops.NotedField.{NotedField}
 use Rattle.fb_tape.specs.declared.ops.NotedField.TheVariants.{Reference, Inline}
 

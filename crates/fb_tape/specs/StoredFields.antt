@@ -1,10 +1,8 @@
 -- What of a table's entries its slots store, and what of that stands outside of the table.
--- From the FlatBuffers documentation, "FlatBuffer Internals": Tables (a field that holds its default isn't stored),
--- Unions; "Writing a schema": Structs.
-use Rattle.std.specs.Prelude.{ℕ, ◌+◌, ◌-◌, ◌≡◌, ◌≢◌, ◌<◌, ◌≤◌, max, IsTrue, ◌==◌, ◌&&◌, ◌||◌, not, List, [], ◌∷◌}
+-- From the FlatBuffers documentation, "FlatBuffer Internals": Tables, Unions; "Writing a schema": Structs.
+use Rattle.std.specs.Prelude.{ℕ, ◌+◌, ◌-◌, ◌≡◌, ◌≢◌, ◌<◌, ◌≤◌, max, IsTrue, ◌==◌, ◌&&◌, List, [], ◌∷◌}
 use Rattle.std.specs.Prelude.{Bool, true, false, nat_lt, nat_le, if◌then◌else◌, Option, None, Some, ℤ, pos, slice_get}
 use Rattle.std.specs.Prelude.{map, option_map, length}
-use Rattle.std.specs.Ordering.{int_eq}
 use Rattle.fb_schema.specs.declared.kinds.Base.{Base}
 use Rattle.fb_schema.specs.declared.kinds.Kind.TheVariants.{Code}
 use Rattle.fb_schema.specs.declared.kinds.Shape.{Shape}
@@ -26,6 +24,7 @@ use Rattle.fb_value.specs.Fits.{Fits}
 use Rattle.fb_value.specs.Num.{divides}
 use Rattle.fb_value.specs.Places.{Target, table_part, member_part, text_part, vector_part, Sort, ref_place}
 use Rattle.fb_value.specs.Places.{inline_place}
+use Rattle.fb_tape.specs.Defaults.{is_stored, HasDefault}
 
 -- a declared struct, with what is known of its alignment
 pub record IsStructThere (L : LaidSchema) (s : ℕ) : Type 0 where
@@ -120,15 +119,6 @@ number_in _ = pos 0
 abbrev pub number_of_datum : Datum → ℤ
 number_of_datum d = number_in (Some d)
 
-abbrev pub differs : Option ℤ → ℤ → Bool
-differs None n = true
-differs (Some k) n = not (int_eq k n)
-
-abbrev pub is_stored : Slot → Option Datum → Bool
-is_stored f None = false
-is_stored f (Some (a_number n)) = f.required || differs f.if_absent n
-is_stored f (Some d) = true
-
 -- Slots of an alignment above a are laid, or also those of a.
 abbrev pub above : LaidSchema → ℕ → Slot → Bool
 above L a f = nat_lt a (inline_align L f.shape)
@@ -185,12 +175,6 @@ SlotFits L shape d = Fits L shape d
 abbrev pub StoredFits : LaidSchema → Slot → Option Datum → Type 0
 StoredFits L f None = Unit {0}
 StoredFits L f (Some d) = (f.deprecated ≡ false) × SlotFits L f.shape d
-
--- A slot that stands for a number where nothing is stored is a number's, and isn't required.
-pub record HasDefault (f : Slot) : Type 0 where
-  pub free : f.required ≡ false
-  pub base : Base
-  pub scalar : f.shape ≡ one_of (scalar_kind base)
 
 -- Each slot's shape is one that a field has.
 abbrev pub AreSimple : LaidSchema → List Slot → Type 0

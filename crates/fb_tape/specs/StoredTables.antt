@@ -10,7 +10,8 @@ use Rattle.fb_value.specs.Num.{Bytes}
 use Rattle.fb_tape.specs.LayingOrder.{falling_alignments}
 use Rattle.fb_tape.specs.NotedFields.{AreNoted}
 use Rattle.fb_tape.specs.OpenFields.{OpenField, AreOpen}
-use Rattle.fb_tape.specs.StoredFields.{is_stored, fields_size}
+use Rattle.fb_tape.specs.StoredFields.{fields_size}
+use Rattle.fb_tape.specs.Defaults.{is_stored}
 use Rattle.fb_tape.specs.declared.ops.NotedField.{NotedField}
 use Rattle.fb_tape.specs.declared.ops.NotedField.TheVariants.{Reference, Inline}
 

@@ -10,7 +10,8 @@ use Rattle.fb_layout.specs.Sizes.{ceil4}
 use Rattle.fb_layout.specs.Widths.{inline_align}
 use Rattle.fb_value.specs.Datum.{Datum}
 use Rattle.fb_value.specs.Num.{Bytes}
-use Rattle.fb_tape.specs.StoredFields.{is_stored, fields_size, size_at, size_above}
+use Rattle.fb_tape.specs.StoredFields.{fields_size, size_at, size_above}
+use Rattle.fb_tape.specs.Defaults.{is_stored}
 
 -- The end-count of slot k, counted from the start of its table's fields: the sizes of what is stored that is aligned
 -- above it, and of what is stored at its own alignment, up to and with itself.

@@ -3,6 +3,7 @@
 
 mod inline_bytes;
 mod known_vtables;
+mod laying_order;
 mod open_fields;
 mod ops;
 mod stored_tables;

@@ -1,24 +1,23 @@
-//! What is noted of a table that is whole: its fields in the order of laying, and its vtable.
-ghost use Rattle.std.specs.Prelude.{ℕ, ◌≡◌, ◌≤◌, ◌<◌, ◌+◌, ◌*◌, ◌++◌, List, length, take, drop, map, max, flat_map};
+//! What is noted of a table that is whole: its fields, and its vtable.
+ghost use Rattle.std.specs.Prelude.{ℕ, ◌≡◌, ◌≤◌, ◌+◌, ◌*◌, ◌++◌, List, length, take, drop, map, max};
 ghost use Rattle.std.specs.Prelude.{replicate, Option, OnOk};
-ghost use Rattle.std.specs.List.{All};
 ghost use Rattle.byteorder.specs.Endian.{little_bytes};
 ghost use Rattle.fb_schema.specs.Alignments.{greatest_in};
-ghost use Rattle.fb_layout.specs.Sizes.{IsAlignment, ceil4};
+ghost use Rattle.fb_layout.specs.Sizes.{ceil4};
 ghost use Rattle.fb_layout.specs.Laid.{LaidSchema, Slot};
 ghost use Rattle.fb_value.specs.Datum.{Datum};
 ghost use Rattle.fb_tape.specs.LayingOrder.{laying_order};
-ghost use Rattle.fb_tape.specs.StoredTables.{taken_by, taken, at_align, in_order, notes_of, bytes_of, placed};
-ghost use Rattle.fb_tape.specs.StoredTables.{AreStored, AddsNotes};
+ghost use Rattle.fb_tape.specs.StoredTables.{taken_by, taken, in_order, notes_of, bytes_of, AreStored, AddsNotes};
 ghost use Rattle.fb_tape.specs.Vtables.{vtable_with, vtable_of, table_size, trimmed, offsets_from};
 
+use crate::laying_order::note_fields;
 use crate::open_fields::OpenFields;
 use crate::ops::NotedField;
 use byteorder::{ByteOrder, LittleEndian};
 use std::alloc::{AllocError, Global};
 
 /// The bytes that a field takes in its table.
-fn size_of(note: NotedField) -> u16
+pub(crate) fn size_of(note: NotedField) -> u16
     ensures { result ≡ taken_by note }
 {
     match note {
@@ -108,80 +107,6 @@ impl Offsets {
         self.slots.truncate(0);
         self.slots.resize(slots_used(opened, first), 0)
     }
-}
-
-/// Notes the fields of one alignment.
-fn note_fields_at(
-    notes: &mut Vec<NotedField>,
-    bytes: &mut Vec<u8>,
-    offsets: &mut Offsets,
-    opened: &OpenFields,
-    first: usize,
-    align: u16,
-) -> Result<(), AllocError>
-    requires within { first ≤ length opened.now }
-    requires room { offsets.old.laid + taken (at_align align (drop first opened.now)) ≤ offsets.old.size }
-    requires slots { All (λ x. x.slot < length offsets.old.slots.items) (drop first opened.now) }
-    ensures size { offsets.new.size ≡ offsets.old.size }
-    ensures slots { length offsets.new.slots.items ≡ length offsets.old.slots.items }
-    ensures grown { length bytes.old.items ≤ length bytes.new.items }
-    ensures notes { OnOk result (notes.new.items
-        ≡ notes.old.items ++ notes_of (at_align align (drop first opened.now))) }
-    ensures bytes { OnOk result (bytes.new.items
-        ≡ bytes.old.items ++ bytes_of (at_align align (drop first opened.now))) }
-    ensures laid { OnOk result (offsets.new.laid
-        ≡ offsets.old.laid + taken (at_align align (drop first opened.now))) }
-    ensures placed { OnOk result (offsets.new.slots.items ≡ placed offsets.old.size offsets.old.laid
-        (at_align align (drop first opened.now)) offsets.old.slots.items) }
-{
-    for i in first..opened.len() {
-        let field = opened.field(i);
-        if field.align != align {
-            continue;
-        }
-        offsets.laid += size_of(field.note);
-        offsets.slots[usize::from(field.slot)] = offsets.size - offsets.laid;
-        notes.push(field.note)?;
-        bytes.extend_from_slice(field.bytes)?;
-    }
-    Ok(())
-}
-
-// The alignments that a field may have, falling.
-const ALIGNMENTS: [u16; 9] = [256, 128, 64, 32, 16, 8, 4, 2, 1];
-
-/// Notes the fields of a table in the order of laying. No field is aligned to more than `greatest`.
-pub(crate) fn note_fields(
-    notes: &mut Vec<NotedField>,
-    bytes: &mut Vec<u8>,
-    offsets: &mut Offsets,
-    opened: &OpenFields,
-    first: usize,
-    greatest: u16,
-) -> Result<(), AllocError>
-    requires within { first ≤ length opened.now }
-    requires aligned { All (λ x. IsAlignment x.align) (drop first opened.now) }
-    requires greatest { greatest_in (map (λ x. x.align) (drop first opened.now)) ≤ greatest }
-    requires room { offsets.old.laid + taken (in_order (drop first opened.now)) ≤ offsets.old.size }
-    requires slots { All (λ x. x.slot < length offsets.old.slots.items) (drop first opened.now) }
-    ensures size { offsets.new.size ≡ offsets.old.size }
-    ensures grown { length bytes.old.items ≤ length bytes.new.items }
-    ensures notes { OnOk result (notes.new.items
-        ≡ notes.old.items ++ notes_of (in_order (drop first opened.now))) }
-    ensures bytes { OnOk result (bytes.new.items
-        ≡ bytes.old.items ++ bytes_of (in_order (drop first opened.now))) }
-    ensures placed { OnOk result (offsets.new.slots.items ≡ placed offsets.old.size offsets.old.laid
-        (in_order (drop first opened.now)) offsets.old.slots.items) }
-{
-    let before = notes.len();
-    for align in ALIGNMENTS {
-        let all_are_noted = notes.len() - before == opened.len() - first;
-        if align > greatest || all_are_noted {
-            continue;
-        }
-        note_fields_at(notes, bytes, offsets, opened, first, align)?;
-    }
-    Ok(())
 }
 
 /// Writes a number of two bytes at a place.

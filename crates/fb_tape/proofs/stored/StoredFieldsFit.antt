@@ -9,7 +9,8 @@ use Rattle.fb_layout.specs.Widths.{inline_size, inline_align}
 use Rattle.fb_layout.proofs.sizes.AlignmentsArePowersOfTwo.{kind_aligned}
 use Rattle.fb_value.specs.Datum.{Datum}
 use Rattle.fb_tape.specs.OpenFields.{OpenField, IsOpenTable}
-use Rattle.fb_tape.specs.StoredFields.{IsSimple, StoredFits, is_stored, stored_in, fields_size}
+use Rattle.fb_tape.specs.StoredFields.{IsSimple, StoredFits, stored_in, fields_size}
+use Rattle.fb_tape.specs.Defaults.{is_stored}
 use Rattle.fb_tape.specs.StoredTables.{AreStored}
 
 -- what is stored isn't deprecated

@@ -9,7 +9,8 @@ use Rattle.fb_layout.specs.Laid.{LaidSchema, Slot}
 use Rattle.fb_layout.specs.Widths.{inline_align, inline_size}
 use Rattle.fb_value.specs.Datum.{Datum}
 use Rattle.fb_tape.specs.OpenFields.{OpenField, IsOpenIf, AreOpen}
-use Rattle.fb_tape.specs.StoredFields.{is_stored, is_at, size_at, size_if_at}
+use Rattle.fb_tape.specs.StoredFields.{is_at, size_at, size_if_at}
+use Rattle.fb_tape.specs.Defaults.{is_stored}
 use Rattle.fb_tape.specs.StoredTables.{taken_by, at_align, placed}
 use Rattle.fb_tape.proofs.stored_tables.FieldsInTurn.{at_align_more, at_align_other}
 use Rattle.fb_tape.proofs.stored_tables.OpenFieldsAreStored.{same_align, noted_size}

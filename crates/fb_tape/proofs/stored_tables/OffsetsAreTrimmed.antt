@@ -6,7 +6,8 @@ use Rattle.fb_layout.specs.Laid.{LaidSchema, Slot}
 use Rattle.fb_layout.specs.Widths.{inline_align, inline_size}
 use Rattle.fb_value.specs.Datum.{Datum}
 use Rattle.fb_tape.specs.OpenFields.{OpenField, IsOpenIf, AreOpen}
-use Rattle.fb_tape.specs.StoredFields.{is_stored, size_at, size_above, fields_size}
+use Rattle.fb_tape.specs.StoredFields.{size_at, size_above, fields_size}
+use Rattle.fb_tape.specs.Defaults.{is_stored}
 use Rattle.fb_tape.specs.Vtables.{stored_end, table_size, field_offset, offsets_from, trimmed}
 
 pub none_trimmed : (os : List ℕ) → trimmed os ≡ [] → trimmed (0 ∷ os) ≡ []

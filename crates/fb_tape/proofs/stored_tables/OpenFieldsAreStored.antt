@@ -12,7 +12,8 @@ use Rattle.fb_value.specs.Datum.{Datum}
 use Rattle.fb_value.specs.Num.{Bytes}
 use Rattle.fb_tape.specs.NotedFields.{IsNoted}
 use Rattle.fb_tape.specs.OpenFields.{OpenField, IsOpenIf, AreOpen}
-use Rattle.fb_tape.specs.StoredFields.{is_stored, is_reference, inline_kind, fields_size, size_at, stored_align}
+use Rattle.fb_tape.specs.StoredFields.{is_reference, inline_kind, fields_size, size_at, stored_align}
+use Rattle.fb_tape.specs.Defaults.{is_stored}
 use Rattle.fb_tape.specs.StoredTables.{taken_by, taken, at_align, StoredAligned}
 use Rattle.fb_tape.specs.declared.ops.NotedField.{NotedField}
 use Rattle.fb_tape.specs.declared.ops.NotedField.TheVariants.{Reference, Inline}

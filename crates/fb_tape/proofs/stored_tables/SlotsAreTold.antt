@@ -12,10 +12,11 @@ use Rattle.fb_layout.specs.Widths.{inline_align, inline_size}
 use Rattle.fb_value.specs.Datum.{Datum}
 use Rattle.fb_tape.specs.LayingOrder.{falling_alignments}
 use Rattle.fb_tape.specs.OpenFields.{OpenField, AreOpen}
-use Rattle.fb_tape.specs.StoredFields.{is_stored, is_at, size_if_at, size_at, size_above}
+use Rattle.fb_tape.specs.StoredFields.{is_at, size_if_at, size_at, size_above}
+use Rattle.fb_tape.specs.Defaults.{is_stored}
 use Rattle.fb_tape.specs.StoredTables.{taken, at_align, placed, StoredAligned}
-use Rattle.fb_tape.proofs.stored_tables.AlignmentsFall.{among, EachOnce, falling_from, first_or_below, is_among}
-use Rattle.fb_tape.proofs.stored_tables.AlignmentsFall.{same_power, other_power, next_or_above}
+use Rattle.fb_tape.proofs.laying_order.AlignmentsFall.{among, EachOnce, falling_from, first_or_below, is_among}
+use Rattle.fb_tape.proofs.laying_order.AlignmentsFall.{same_power, other_power, next_or_above}
 use Rattle.fb_tape.proofs.stored_tables.FieldsInTurn.{placed_both, placed_long}
 use Rattle.fb_tape.proofs.stored_tables.OpenFieldsAreStored.{taken_at_is}
 use Rattle.fb_tape.proofs.stored_tables.OffsetsAreTold.{all_told}

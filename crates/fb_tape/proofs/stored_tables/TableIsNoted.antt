@@ -12,10 +12,11 @@ use Rattle.fb_layout.specs.Widths.{inline_align}
 use Rattle.fb_value.specs.Datum.{Datum}
 use Rattle.fb_tape.specs.LayingOrder.{falling_alignments}
 use Rattle.fb_tape.specs.OpenFields.{OpenField, AreOpen}
-use Rattle.fb_tape.specs.StoredFields.{is_stored, size_at}
+use Rattle.fb_tape.specs.StoredFields.{size_at}
+use Rattle.fb_tape.specs.Defaults.{is_stored}
 use Rattle.fb_tape.specs.StoredTables.{in_order, placed, StoredAligned}
 use Rattle.fb_tape.specs.Vtables.{stored_end, table_size, offsets_from, trimmed}
-use Rattle.fb_tape.proofs.stored_tables.AlignmentsFall.{among, each_once}
+use Rattle.fb_tape.proofs.laying_order.AlignmentsFall.{among, each_once}
 use Rattle.fb_tape.proofs.stored_tables.FieldsInTurn.{placed_long}
 use Rattle.fb_tape.proofs.stored_tables.SlotsAreTold.{laid_before, all_above, at_falling, each_told}
 use Rattle.fb_tape.proofs.stored_tables.OffsetsAreTrimmed.{trimmed_index, all_used, offset_at, none_trimmed}

@@ -18,7 +18,8 @@ use Rattle.fb_tape.specs.LayingOrder.{laying_order}
 use Rattle.fb_tape.specs.NamedParts.{NamedPart, entries_apart}
 use Rattle.fb_tape.specs.NotedFields.{AreNoted}
 use Rattle.fb_tape.specs.OpenFields.{OpenField, IsOpenTable, IsOpenIf, AreOpen}
-use Rattle.fb_tape.specs.StoredFields.{is_stored, stored_in}
+use Rattle.fb_tape.specs.StoredFields.{stored_in}
+use Rattle.fb_tape.specs.Defaults.{is_stored}
 use Rattle.fb_tape.specs.StoredTables.{notes_of, bytes_of, in_order, StoredAligned}
 use Rattle.fb_tape.specs.Tapes.{Taped, Waits, Lay}
 use Rattle.fb_tape.specs.Vtables.{vtable_of}
@@ -27,7 +28,7 @@ use Rattle.fb_tape.specs.declared.ops.NotedField.{NotedField}
 use Rattle.fb_tape.specs.declared.ops.Op.{Op}
 use Rattle.fb_tape.specs.declared.ops.Op.TheVariants.{Table, Data, References}
 use Rattle.fb_tape.proofs.stored_tables.OpenFieldsAreStored.{greatest_is, all_aligned}
-use Rattle.fb_tape.proofs.stored_tables.AllIsInOrder.{all_counted}
+use Rattle.fb_tape.proofs.laying_order.AllIsInOrder.{all_counted}
 use Rattle.fb_tape.proofs.tape.OneMoreIsLaid.{AddsOne, table_waits}
 
 -- how many fields there are

@@ -1,8 +1,9 @@
+mod DefaultIsNotStored
 mod EntryIsNoted
 mod TableIsNoted
 mod VectorIsNoted
-use Rattle.fb_build.proofs.noting.+noting.Answers.EntryIsNoted.{default_adds_nothing, inline_adds_itself}
-use Rattle.fb_build.proofs.noting.+noting.Answers.EntryIsNoted.{reference_adds_itself}
+use Rattle.fb_build.proofs.noting.+noting.Answers.DefaultIsNotStored.{default_adds_nothing}
+use Rattle.fb_build.proofs.noting.+noting.Answers.EntryIsNoted.{inline_adds_itself, reference_adds_itself}
 use Rattle.fb_build.proofs.noting.+noting.Answers.TableIsNoted.{no_slot_yet, next_entry_fits, next_entry_noted}
 use Rattle.fb_build.proofs.noting.+noting.Answers.TableIsNoted.{all_slots_noted, entries_known}
 use Rattle.fb_build.proofs.noting.+noting.Answers.TableIsNoted.{fields_are_stored, table_adds_itself}

@@ -3,8 +3,8 @@ use Rattle.std.proofs.lemmas.List.{length-replicate}
 use Rattle.fb_tape.specs.StoredTables.{in_order}
 use Rattle.fb_tape.proofs.stored_tables.FieldsInTurn.{placed_long}
 use Rattle.fb_tape.specs.Vtables.{offsets_from, trimmed}
-use Rattle.fb_tape.proofs.stored_tables.AllIsInOrder.{all_taken}
-use Rattle.fb_tape.proofs.stored_tables.NotesFollowTheOrder.{all_in_order}
+use Rattle.fb_tape.proofs.laying_order.AllIsInOrder.{all_taken}
+use Rattle.fb_tape.proofs.laying_order.NotesFollowTheOrder.{all_in_order}
 use Rattle.fb_tape.proofs.stored_tables.OpenFieldsAreStored.{taken_is, all_aligned}
 use Rattle.fb_tape.proofs.stored_tables.TableIsNoted.{low_slots, used_few, all_placed}
 use Rattle.fb_tape.proofs.stored_tables.note_table.Goals as goal

@@ -1,12 +1,11 @@
 -- An entry adds its fields.
-use Rattle.std.proofs.Common.{◌≡◌, ◌∙◌, ◌++◌, [], ◌∷◌, false, not, Option, None, Some, Ok, Err, Result, refl, sym, ap}
+use Rattle.std.proofs.Common.{◌≡◌, ◌∙◌, ◌++◌, [], ◌∷◌, not, Option, None, Some, Ok, Err, Result, refl, sym, ap}
 use Rattle.std.specs.Prelude.{OnOk}
-use Rattle.std.proofs.lemmas.List.{append-nil}
 use Rattle.fb_layout.specs.Laid.{stored_shape}
 use Rattle.fb_value.specs.View.{view}
 use Rattle.fb_tape.specs.OpenFields.{reference_field}
-use Rattle.fb_build.specs.Fields.{is_stored, kind_seen, slot_seen}
-use Rattle.fb_build.proofs.noted.EntryHasItsFields.{inline_fields, member_fields, member_of, no_code, no_fields}
+use Rattle.fb_build.specs.Fields.{kind_seen, slot_seen}
+use Rattle.fb_build.proofs.noted.EntryHasItsFields.{inline_fields, member_fields, member_of, no_code}
 use Rattle.fb_build.proofs.noted.EntryHasItsFields.{reference_fields}
 use Rattle.fb_build.proofs.noting.+noting.Goals as goal
 use Rattle.fb_build.proofs.noting.+noting.Goals.{note_entry-in-Some-code_of+in_ok-push_code}
@@ -15,15 +14,6 @@ use Rattle.fb_build.proofs.noting.+noting.Goals.{note_entry-in_default-code_of}
 on_ok : {A E : Type 0} (r : Result A E) (P Q : Type 0) → (P → Q) → OnOk r P → OnOk r Q
 on_ok (Ok x) P Q more h = more h
 on_ok (Err e) P Q more h = tt
-
-pub default_adds_nothing : goal.note_entry-returns-then-is_default-clause-fields
-default_adds_nothing t c =
-    let L = c.args.layout.now in
-    let v = c.in-Some.value in
-    let fits = (rw c.in-Some.is at c.requires.fits).1 in
-    let none = c.is_default.ensures.stored L (no_code L c.args.slot.now.shape (view v) fits) in
-    let same : is_stored (slot_seen L c.args.slot.now) (Some (view v)) ≡ false = none ∙ ap not c.if-is_default.true in
-    rw c.in-Some.is ([], sym (append-nil c.args.noting.now.opened), no_fields L c.args.k _ (view v) same)
 
 pub inline_adds_itself : goal.note_entry-returns-clause-fields
 inline_adds_itself t c =

@@ -6,9 +6,9 @@ use Rattle.fb_tape.specs.LayingOrder.{falling_alignments}
 use Rattle.fb_tape.specs.StoredTables.{at_align, in_order, notes_of}
 use Rattle.fb_tape.proofs.stored_tables.FieldsInTurn.{drop_next, begun, several_noted, all_noted, none_above, none_left}
 use Rattle.fb_tape.proofs.stored_tables.FieldsInTurn.{taken_both}
-use Rattle.fb_tape.proofs.stored_tables.AllIsInOrder.{all_counted}
+use Rattle.fb_tape.proofs.laying_order.AllIsInOrder.{all_counted}
 use Rattle.fb_tape.specs.OpenFields.{OpenField}
-use Rattle.fb_tape.proofs.stored_tables.note_fields.Goals as goal
+use Rattle.fb_tape.proofs.laying_order.note_fields.Goals as goal
 
 next_align : (i : ℕ) → i < 9
     → drop i falling_alignments ≡ get_or falling_alignments i 0 ∷ drop (i + 1) falling_alignments

@@ -6,7 +6,7 @@ use Rattle.fb_tape.specs.OpenFields.{OpenField}
 use Rattle.fb_tape.specs.OpenList.{field_in}
 use Rattle.fb_tape.proofs.stored_tables.FieldsInTurn.{drop_next, at_align_more, at_align_other, begun, noted}
 use Rattle.fb_tape.proofs.stored_tables.FieldsInTurn.{room_here, all_noted}
-use Rattle.fb_tape.proofs.stored_tables.note_fields_at.Goals as goal
+use Rattle.fb_tape.proofs.laying_order.note_fields_at.Goals as goal
 
 pub loop-i-init : goal.loop-i-init
 loop-i-init c = (omega arith, refl, c.requires.slots, begun c.args.offsets.now.size _ _ _ _ _)

@@ -1,7 +1,7 @@
 use Rattle.std.proofs.Common.{◌≡◌, ◌≤◌, length, drop, flat_map}
 use Rattle.fb_tape.specs.StoredTables.{at_align, in_order}
 use Rattle.fb_tape.proofs.stored_tables.FieldsInTurn.{Noting}
-use Rattle.fb_tape.proofs.stored_tables.note_fields.Given as goal
+use Rattle.fb_tape.proofs.laying_order.note_fields.Given as goal
 
 abbrev pub invariant-loop-align : goal.invariant-loop-align
 invariant-loop-align l =

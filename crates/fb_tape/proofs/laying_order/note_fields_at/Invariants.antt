@@ -2,7 +2,7 @@ use Rattle.std.proofs.Common.{◌≡◌, ◌≤◌, ◌<◌, length, drop}
 use Rattle.std.specs.List.{All}
 use Rattle.fb_tape.specs.StoredTables.{at_align}
 use Rattle.fb_tape.proofs.stored_tables.FieldsInTurn.{Noting}
-use Rattle.fb_tape.proofs.stored_tables.note_fields_at.Given as goal
+use Rattle.fb_tape.proofs.laying_order.note_fields_at.Given as goal
 
 abbrev pub invariant-loop-i : goal.invariant-loop-i
 invariant-loop-i l =

@@ -9,7 +9,7 @@ use Rattle.fb_value.specs.Num.{Bytes}
 use Rattle.fb_tape.specs.LayingOrder.{slots_at, laying_order, falling_alignments}
 use Rattle.fb_tape.specs.NotedFields.{AreNoted}
 use Rattle.fb_tape.specs.OpenFields.{OpenField, IsOpenIf, AreOpen}
-use Rattle.fb_tape.specs.StoredFields.{is_stored}
+use Rattle.fb_tape.specs.Defaults.{is_stored}
 use Rattle.fb_tape.specs.StoredTables.{at_align, in_order, notes_of, bytes_of}
 use Rattle.fb_tape.specs.declared.ops.NotedField.{NotedField}
 use Rattle.fb_tape.proofs.stored_tables.FieldsInTurn.{at_align_more, at_align_other, notes_both, bytes_both}

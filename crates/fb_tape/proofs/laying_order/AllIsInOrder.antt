@@ -8,7 +8,7 @@ use Rattle.std.specs.List.{All}
 use Rattle.fb_layout.specs.Sizes.{IsAlignment}
 use Rattle.fb_tape.specs.OpenFields.{OpenField}
 use Rattle.fb_tape.specs.StoredTables.{taken_by, taken, at_align, in_order}
-use Rattle.fb_tape.proofs.stored_tables.AlignmentsFall.{among, EachOnce, falling_from, is_among, each_once}
+use Rattle.fb_tape.proofs.laying_order.AlignmentsFall.{among, EachOnce, falling_from, is_among, each_once}
 use Rattle.fb_tape.proofs.stored_tables.FieldsInTurn.{at_align_more, at_align_other}
 
 -- Whatever each field weighs: in that order all weigh as much as before.

@@ -1,0 +1,3 @@
+pub mod AlignmentsFall
+pub mod AllIsInOrder
+pub mod NotesFollowTheOrder
