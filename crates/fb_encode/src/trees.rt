@@ -46,7 +46,8 @@ pub(crate) fn note_root<'l>(
     Ok(tape)
 }
 
-/// The bytes of the value that is noted on a tape, as the root's; the count of those of a `prefixed` buffer is in front.
+/// The bytes of the value that is noted on a tape, as the root's; the count of those of a `prefixed` buffer is
+/// in front.
 pub(crate) fn lay_noted<'l>(
     alloc: Global,
     layout: &'l Layout,
