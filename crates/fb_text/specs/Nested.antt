@@ -52,7 +52,8 @@ pub record IsStructAt {S : Type 0} (shows : S → LaidSchema → Option Datum �
   pub begin : here.at ≡ at
 
 -- the struct that is printed stands in the outermost
-abbrev pub IsAt : {S : Type 0} → (S → LaidSchema → Option Datum → Type 0) → LaidSchema → Bool → Option (List ℕ) → TypeId → Parts
+abbrev pub IsAt : {S : Type 0} → (S → LaidSchema → Option Datum → Type 0) → LaidSchema → Bool → Option (List ℕ)
+    → TypeId → Parts
     → StructCursor S → Parts → List ℕ → Type 0
 IsAt shows L defaults indent t ds here es behind =
     shows here.shown L (Some (a_struct es)) × StandsIn L defaults indent t ds here.depth here.at here.structure es
@@ -64,14 +65,16 @@ left_text L defaults indent here es = fields_text L defaults indent here.structu
 
 -- The printer goes on at a struct in the outermost: once the rest of its text and all text behind it are added too, a
 -- whole text was added.
-abbrev pub GoesOn : {S : Type 0} → (S → LaidSchema → Option Datum → Type 0) → LaidSchema → Bool → Option (List ℕ) → TypeId
+abbrev pub GoesOn : {S : Type 0} → (S → LaidSchema → Option Datum → Type 0) → LaidSchema → Bool → Option (List ℕ)
+    → TypeId
     → Parts → StructCursor S → State → State → List ℕ → Type 0
 GoesOn shows L defaults indent t ds here old new text =
     (es : Parts) × (behind : List ℕ) × IsAt shows L defaults indent t ds here es behind
     × ((end : State) → Adds new end (left_text L defaults indent here es ++ behind) → Adds old end text)
 
 -- The printer goes on somewhere, or a whole text was added.
-abbrev pub IsNext : {S : Type 0} → (S → LaidSchema → Option Datum → Type 0) → LaidSchema → Bool → Option (List ℕ) → TypeId
+abbrev pub IsNext : {S : Type 0} → (S → LaidSchema → Option Datum → Type 0) → LaidSchema → Bool → Option (List ℕ)
+    → TypeId
     → Parts → Option (StructCursor S) → State → State → List ℕ → Type 0
 IsNext shows L defaults indent t ds None old new text = Adds old new text
 IsNext shows L defaults indent t ds (Some here) old new text = GoesOn shows L defaults indent t ds here old new text

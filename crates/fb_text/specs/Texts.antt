@@ -1,8 +1,9 @@
--- The JSON text of a value: strict JSON, with two blanks an indent and one member or element a line, or compact: without
--- blanks and line feeds outside strings.
+-- The JSON text of a value: strict JSON, with two blanks an indent and one member or element a line, or compact:
+-- without blanks and line feeds outside strings.
 -- From the FlatBuffers documentation, "JSON parsing" (text output) and RFC 8259 (strings).
 use Rattle.std.specs.Prelude.{ℕ, zero, suc, ◌+◌, ◌/◌, ◌%◌, ◌==◌, ◌&&◌, ◌||◌, ℤ, pos, negsuc, List, [], ◌∷◌, ◌++◌, Bool}
-use Rattle.std.specs.Prelude.{true, false, not, Option, None, Some, codes, is_some, option_map, slice_get, if◌then◌else◌}
+use Rattle.std.specs.Prelude.{true, false, not, Option, None, Some, codes, is_some, option_map, slice_get}
+use Rattle.std.specs.Prelude.{if◌then◌else◌}
 use Rattle.std.specs.Fmt.{signed_decimal}
 use Rattle.std.specs.Option.{option_map_or, unwrap_or}
 use Rattle.std.specs.Ordering.{int_eq}

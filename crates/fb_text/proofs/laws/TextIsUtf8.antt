@@ -113,7 +113,8 @@ colon_utf8 : (indent : Option (List ℕ)) → IsUtf8 (colon indent)
 colon_utf8 None = IsUtf8-are_ascii (codes "\":") refl
 colon_utf8 (Some blanks) = IsUtf8-are_ascii (codes "\": ") refl
 
-member_line_utf8 : (indent : Option (List ℕ)) (some : Bool) (name behind : List ℕ) → IsUtf8 (new_line indent) → IsUtf8 name → IsUtf8 behind
+member_line_utf8 : (indent : Option (List ℕ)) (some : Bool) (name behind : List ℕ) → IsUtf8 (new_line indent)
+    → IsUtf8 name → IsUtf8 behind
     → IsUtf8 (member_line indent some name behind)
 member_line_utf8 indent some name behind h n b =
     IsUtf8-append _ _ (line_utf8 indent some h) (IsUtf8-append (codes "\"") _ (IsUtf8-are_ascii (codes "\"") refl)
@@ -133,7 +134,8 @@ module _ (L : LaidSchema) (names : (t : ℕ) → BodyUtf8 (body_at L.schema t)) 
   number_utf8 (Enum e) n = enum_utf8 (body_at L.schema e.0) (names e.0) n
   number_utf8 _ n = decimal_utf8 n
 
-  code_utf8 : (indent : Option (List ℕ)) (some : Bool) (name : Name) (shape : Shape) (d : Datum) → IsUtf8 (new_line indent) → IsUtf8 name
+  code_utf8 : (indent : Option (List ℕ)) (some : Bool) (name : Name) (shape : Shape) (d : Datum)
+      → IsUtf8 (new_line indent) → IsUtf8 name
       → IsUtf8 (code_text L.schema indent some name shape d)
   code_utf8 indent some name (One (Union u)) (a_member c d) h n =
       IsUtf8-append _ _ (member_line_utf8 indent some name (codes "_type") h n (IsUtf8-are_ascii (codes "_type") refl))
@@ -169,7 +171,8 @@ module _ (L : LaidSchema) (names : (t : ℕ) → BodyUtf8 (body_at L.schema t)) 
     value_utf8 indent shape (a_member c d) i h = value_utf8 indent shape d i h
     value_utf8 indent _ _ i h = IsUtf8-nil
 
-    items_utf8 : (inner indent : Option (List ℕ)) (kind : Kind) (some : Bool) (ds : Parts) → IsUtf8 (new_line inner) → IsUtf8 (new_line indent)
+    items_utf8 : (inner indent : Option (List ℕ)) (kind : Kind) (some : Bool) (ds : Parts)
+        → IsUtf8 (new_line inner) → IsUtf8 (new_line indent)
         → HaveUtf8 ds → IsUtf8 (items_text L defaults inner indent kind some ds)
     items_utf8 inner indent kind some no_parts i o h = IsUtf8-append _ (codes "]") (closing_utf8 indent some o)
         (IsUtf8-are_ascii (codes "]") refl)
@@ -177,8 +180,10 @@ module _ (L : LaidSchema) (names : (t : ℕ) → BodyUtf8 (body_at L.schema t)) 
         IsUtf8-append _ _ (line_utf8 inner some i)
         (IsUtf8-append _ _ (value_utf8 inner (One kind) d i h.0) (items_utf8 inner indent kind true ds i o h.1))
 
-    parts_text_utf8 : (inner indent : Option (List ℕ)) (some : Bool) (fs : List DeclaredField) (ds : Parts) → IsUtf8 (new_line inner)
-        → IsUtf8 (new_line indent) → FieldsUtf8 fs → HaveUtf8 ds → IsUtf8 (parts_text L defaults inner indent some fs ds)
+    parts_text_utf8 : (inner indent : Option (List ℕ)) (some : Bool) (fs : List DeclaredField) (ds : Parts)
+        → IsUtf8 (new_line inner)
+        → IsUtf8 (new_line indent) → FieldsUtf8 fs → HaveUtf8 ds
+        → IsUtf8 (parts_text L defaults inner indent some fs ds)
     parts_text_utf8 inner indent some (f ∷ fs) (more_parts d ds) i o n h =
         IsUtf8-append _ _ (member_line_utf8 inner some f.name [] i n.0 IsUtf8-nil)
         (IsUtf8-append _ _ (value_utf8 inner f.shape d i h.0) (parts_text_utf8 inner indent true fs ds i o n.1 h.1))

@@ -15,7 +15,8 @@ use Rattle.fb_text.proofs.nested.FieldHasItsBytes.{is_filled, ends_within}
 
 module _ (L : LaidSchema) (defaults : Bool) where
   -- the outermost stands in itself
-  pub outermost_stands : (indent : Option (List ℕ)) (t : TypeId) (ds : Parts) → StandsIn L defaults indent t ds 0 0 t ds []
+  pub outermost_stands : (indent : Option (List ℕ)) (t : TypeId) (ds : Parts)
+      → StandsIn L defaults indent t ds 0 0 t ds []
   outermost_stands indent t ds = (refl, refl, refl, refl)
 
   -- one step down
@@ -81,7 +82,8 @@ module _ (L : LaidSchema) (defaults : Bool) where
         omega (arith, below, ends, begin, small)
 
 -- A struct on the way to one that stands so many structs below it.
-pub record OnTheWay (L : LaidSchema) (defaults : Bool) (indent : Option (List ℕ)) (t : TypeId) (ds : Parts) (P : Parts → Type 0)
+pub record OnTheWay (L : LaidSchema) (defaults : Bool) (indent : Option (List ℕ)) (t : TypeId) (ds : Parts)
+    (P : Parts → Type 0)
     (depth at : ℕ) (v : TypeId) (left byte : ℕ) (u : TypeId) (es : Parts) (behind : List ℕ) : Type 0 where
   pub parts : Parts
   pub more : ℕ

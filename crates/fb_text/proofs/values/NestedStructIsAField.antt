@@ -23,7 +23,8 @@ or_true : (some : Bool) → (some || true) ≡ true
 or_true true = refl
 or_true false = refl
 
-module _ (L : LaidSchema) (defaults : Bool) (indent : Option (List ℕ)) (u : TypeId) (es : Parts) (depth k : ℕ) (some : Bool)
+module _ (L : LaidSchema) (defaults : Bool) (indent : Option (List ℕ)) (u : TypeId) (es : Parts) (depth k : ℕ)
+    (some : Bool)
     (behind : List ℕ) where
   pub fields_next : (f : DeclaredField) → slice_get (parts_in (body_at L.schema u.0)) k ≡ Some f
       → part_text L defaults (deeper (suc depth) indent) some f (nth_part es k)

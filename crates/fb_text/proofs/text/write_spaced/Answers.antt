@@ -29,7 +29,8 @@ returns-clause-printed g c d lies =
     at (c.first_unnamed.ensures c.args.view.now.layout.now (Some d) (refl, d, refl, lies)) in
     let whole = named_whole (type_place c.args.view.now.table.0) d (sym c.in_default.is ∙ found) in
     let written = rw c.layout.ensures at (c.write_root.ensures.written d (sym c.layout.ensures, d, refl, lies)) in
-    whole_printed (type_place c.args.view.now.table.0) d (spaced_text c.args.spacing L c.args.defaults d) _ _ c.write_root.result whole
+    whole_printed (type_place c.args.view.now.table.0) d (spaced_text c.args.spacing L c.args.defaults d) _ _
+    c.write_root.result whole
     written
 
 pub returns-clause-untouched : goal.returns-clause-untouched
