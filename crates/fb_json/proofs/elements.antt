@@ -1,2 +1,3 @@
 -- What the proofs of src/elements.rt use.
+pub mod NumberIsMeant
 pub mod ReadValueFitsItsPlace

@@ -24,7 +24,7 @@ mod tree;
 
 pub use absent::{is_absent, is_null, without};
 pub use codes::code_of_slot;
-pub use elements::element_of;
+pub use elements::{element_of, number_of};
 pub use faults::{JsonFault, Place};
 pub use flags::has_flags;
 pub use laws::{

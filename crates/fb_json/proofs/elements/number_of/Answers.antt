@@ -1,0 +1,28 @@
+use Rattle.serde_json.specs.View.{view as tree_view}
+use Rattle.fb_schema.specs.declared.kinds.Kind.TheVariants.{Scalar, Enum}
+use Rattle.fb_json.proofs.elements.NumberIsMeant.{scalar_given, enum_given, number_fits}
+use Rattle.fb_json.proofs.elements.number_of.Goals as goal
+
+pub returns-in-Scalar-clause-gives : goal.returns-in-Scalar-clause-gives
+returns-in-Scalar-clause-gives c levels left =
+    rw c.in-Scalar.is (scalar_given c.args.source.layout.now c.args.source.unknown c.args.place levels left
+    c.in-Scalar.base (tree_view c.args.tree.now) c.scalar_of.result c.scalar_of.ensures)
+
+pub returns-in-Scalar-clause-fits : goal.returns-in-Scalar-clause-fits
+returns-in-Scalar-clause-fits c =
+    rw c.in-Scalar.is (number_fits c.args.source.layout.now c.args.source.unknown c.args.place 0 0
+    c.schema-schema.ensures.made.declared (Scalar c.in-Scalar.base) (tree_view c.args.tree.now) c.scalar_of.result
+    (scalar_given c.args.source.layout.now c.args.source.unknown c.args.place 0 0 c.in-Scalar.base
+    (tree_view c.args.tree.now) c.scalar_of.result c.scalar_of.ensures))
+
+pub returns-in-Enum-clause-gives : goal.returns-in-Enum-clause-gives
+returns-in-Enum-clause-gives c levels left =
+    rw c.in-Enum.is (enum_given c.args.source.layout.now c.args.source.unknown c.args.place levels left
+    c.in-Enum.enumeration (tree_view c.args.tree.now) c.enum_of.result c.enum_of.ensures)
+
+pub returns-in-Enum-clause-fits : goal.returns-in-Enum-clause-fits
+returns-in-Enum-clause-fits c =
+    rw c.in-Enum.is (number_fits c.args.source.layout.now c.args.source.unknown c.args.place 0 0
+    c.schema-schema.ensures.made.declared (Enum c.in-Enum.enumeration) (tree_view c.args.tree.now) c.enum_of.result
+    (enum_given c.args.source.layout.now c.args.source.unknown c.args.place 0 0 c.in-Enum.enumeration
+    (tree_view c.args.tree.now) c.enum_of.result c.enum_of.ensures))
