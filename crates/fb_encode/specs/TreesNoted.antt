@@ -1,5 +1,5 @@
 -- What a tree adds to a tape while it is read: the value that it gives waits there, and its cells are spent.
-use Rattle.std.specs.Prelude.{ℕ, ◌≡◌, ◌≤◌, ◌++◌, true, Bool, List, Option, None, Some, Ok, Err, length, slice_get}
+use Rattle.std.specs.Prelude.{ℕ, ◌≡◌, ◌≤◌, ◌++◌, ◌∷◌, [], true, Bool, List, Option, None, Some, Ok, Err, length, slice_get}
 use Rattle.std.specs.Prelude.{if◌then◌else◌}
 use Rattle.serde_json.specs.Data.{Data}
 use Rattle.fb_schema.specs.Schema.{DeclaredField}
@@ -65,6 +65,15 @@ pub record AddsInline (L : LaidSchema) (kind : StoredKind) (a b : Taped) (ds : L
   pub waits : (others : List NamedPart) → Waits a others → Waits b others
   pub room : b.room ≡ a.room
   pub layout : b.layout ≡ a.layout
+
+-- The number or struct that is given stands behind those of the vector, and so many cells are left.
+pub record IsElementAdded (L : LaidSchema) (kind : StoredKind) (given : Counted Datum) (a b : Taped) (rest : ℕ) : Type 0
+  where
+    pub value : Datum
+    pub given_is : given ≡ Ok (value, rest)
+    pub fits : Fits L (one_of kind) value
+    pub whole : is_whole value ≡ true
+    pub adds : AddsInline L kind a b (value ∷ [])
 
 -- what the member of a slot gives, if it has one that isn't null
 abbrev pub member_meant : LaidSchema → Bool → Option Data → Option Meaner

@@ -1,16 +1,18 @@
 //! Vectors of numbers and structs.
 ghost use Rattle.std.specs.Prelude.{◌≡◌, ◌≤◌, [], IfErr, IfOk, false, length};
-ghost use Rattle.serde_json.specs.View.{items_view};
+ghost use Rattle.serde_json.specs.View.{items_view, view as tree_view};
+ghost use Rattle.fb_schema.specs.declared.kinds.Shape.TheVariants.{One};
 ghost use Rattle.fb_layout.specs.Laid.{align_of, one_of, stored_kind, vector_of};
 ghost use Rattle.fb_layout.specs.Widths.{greatest};
-ghost use Rattle.fb_json.specs.Meant.{items_meant};
+ghost use Rattle.fb_json.specs.Meant.{items_meant, meant};
 ghost use Rattle.fb_json.specs.Outcome.{Fails};
 ghost use Rattle.fb_build.specs.Fields.{IsElement, is_reference};
-ghost use Rattle.fb_encode.specs.TreesNoted.{AddsInline, AreElementsAdded, IsNoted, vector_given};
+ghost use Rattle.fb_encode.specs.TreesNoted.{AddsInline, AreElementsAdded, IsElementAdded, IsNoted, vector_given};
 
-use fb_json::{JsonFault, Place, Source, element_of};
+use fb_json::{JsonFault, Place, Source, element_of, number_of};
 use fb_schema::Kind;
 use fb_tape::Tape;
+use fb_value::Value;
 use serde_json::Value as Json;
 
 /// Notes a vector of numbers or structs, and returns the cells that are left.
@@ -63,9 +65,35 @@ pub(crate) fn push_elements(
 {
     let mut left = left;
     for element in elements {
-        let (value, rest) = element_of(source, element, kind, place, levels, left)?;
-        tape.push_element(kind, &value)?;
-        left = rest;
+        left = push_next(source, tape, element, kind, place, levels, left)?;
     }
+    Ok(left)
+}
+
+/// Adds a number or a struct to the vector that was begun, and returns the cells that are left.
+#[inline(always)]
+fn push_next(
+    source: Source,
+    tape: &mut Tape<'_>,
+    element: &Json,
+    kind: Kind,
+    place: Place,
+    levels: u8,
+    left: u32,
+) -> Result<u32, JsonFault>
+    requires layout { tape.old.layout ≡ source.layout.now }
+    requires inline { is_reference (one_of (stored_kind source.layout.now.schema kind)) ≡ false }
+    requires element { IsElement source.layout.now (stored_kind source.layout.now.schema kind) }
+    ensures added { let L = source.entry.layout.now in IfOk result (IsElementAdded L (stored_kind L.schema kind)
+        (meant L source.entry.unknown (tree_view element.now) (One kind) place levels left) tape.old tape.new) }
+    ensures refused { IfErr result (λ f. Fails f (meant source.entry.layout.now source.entry.unknown
+        (tree_view element.now) (One kind) place levels left)) }
+{
+    if let Some(number) = number_of(source, element, kind, place) {
+        tape.push_element(kind, &Value::Number(number?))?;
+        return Ok(left);
+    }
+    let (value, left) = element_of(source, element, kind, place, levels, left)?;
+    tape.push_element(kind, &value)?;
     Ok(left)
 }

@@ -1,41 +1,34 @@
-use Rattle.std.proofs.Common.{◌∙◌, ◌++◌, ◌∷◌, [], arith}
+use Rattle.std.proofs.Common.{◌++◌, ◌∷◌, [], arith}
 use Rattle.std.proofs.lemmas.Result.{err_from_is_err_and}
 use Rattle.fb_layout.specs.Laid.{stored_kind}
-use Rattle.fb_value.specs.View.{view}
 use Rattle.fb_build.proofs.noted.OneMoreFits.{long_more}
 use Rattle.fb_encode.proofs.elements.ElementsAreNoted.{all_given, one_more_fits, one_more_given, one_refused}
 use Rattle.fb_encode.proofs.elements.InlineVectorIsNoted.{inline_then}
 use Rattle.fb_encode.proofs.elements.push_elements.Goals as goal
 
-pub returns-in_err-value-clause-refused : goal.returns-in_err-value-clause-refused
-returns-in_err-value-clause-refused c =
+pub returns-in_err-left-clause-refused : goal.returns-in_err-left-clause-refused
+returns-in_err-left-clause-refused c =
     let inv = c.loop-element.invariant in
     let p = err_from_is_err_and c.from_residual.result c.from_residual.ensures.1 in
     rw (p.1, p.2) (one_refused c.args.source.layout.now c.args.source.unknown c.args.kind c.args.place c.args.levels
     c.loop-element.left _ inv.elements c.args.elements.now c.loop-element.element-index c.element-item.result
-    c.loop-element-test.true c.element-item.is inv.gives c.in_err-value.field-0.0 c.in_err-value.ensures.gives)
+    c.loop-element-test.true c.element-item.is inv.gives c.in_err-left.field-0.0 c.in_err-left.ensures.refused)
 
 pub loop-element-preserved : goal.loop-element-preserved
 loop-element-preserved c =
     let L = c.args.source.layout.now in
     let inv = c.loop-element.invariant in
-    let pushed = c.in_ok-push_element.ensures in
-    let d = view c.in_ok-value.value in
+    let next = c.in_ok-left.ensures.added in
+    let d = next.value in
     record {
       elements = inv.elements ++ (d ∷ []);
       gives = one_more_given L c.args.source.unknown c.args.kind c.args.place c.args.levels c.loop-element.left _
           inv.elements c.args.elements.now c.loop-element.element-index c.element-item.result c.loop-element-test.true
-          c.element-item.is inv.gives d c.in_ok-value.rest c.in_ok-value.ensures.gives;
+          c.element-item.is inv.gives d c.in_ok-left.left next.given_is;
       count = omega (arith, long_more inv.elements d, inv.count);
-      fits = one_more_fits L (stored_kind L.schema c.args.kind) inv.elements d c.in_ok-value.ensures.fits
-          c.in_ok-value.ensures.whole inv.fits;
+      fits = one_more_fits L (stored_kind L.schema c.args.kind) inv.elements d next.fits next.whole inv.fits;
       adds = inline_then L (stored_kind L.schema c.args.kind) c.args.tape.now c.loop-element.tape
-          c.push_element.new.self inv.elements (d ∷ []) inv.adds record {
-            unfinished = rw (inv.adds.layout ∙ c.requires.layout) at pushed.adds;
-            waits = pushed.waits;
-            room = pushed.room;
-            layout = pushed.layout;
-          };
+          c.push_next.new.tape inv.elements (d ∷ []) inv.adds next.adds;
     }
 
 pub returns-clause-added : goal.returns-clause-added
