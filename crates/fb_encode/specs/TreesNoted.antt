@@ -1,5 +1,6 @@
 -- What a tree adds to a tape while it is read: the value that it gives waits there, and its cells are spent.
-use Rattle.std.specs.Prelude.{ℕ, ◌≡◌, ◌≤◌, ◌++◌, ◌∷◌, [], true, Bool, List, Option, None, Some, Ok, Err, length, slice_get}
+use Rattle.std.specs.Prelude.{ℕ, ◌≡◌, ◌≤◌, ◌++◌, ◌∷◌, [], true, Bool, List, Option, None, Some, Ok, Err, length}
+use Rattle.std.specs.Prelude.{slice_get}
 use Rattle.std.specs.Prelude.{if◌then◌else◌}
 use Rattle.serde_json.specs.Data.{Data}
 use Rattle.fb_schema.specs.Schema.{DeclaredField}

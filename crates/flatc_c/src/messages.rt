@@ -81,8 +81,9 @@ pub extern "C" fn flatc_decode(
     out: &mut Bytes,
     fault: &mut Fault,
 ) -> u32
-    ensures text { (result ≡ 0) → HasLayout schema.old.held.value (λ L. HasBytes out.new (IsTextFramed (compact_of options.now) (prefixed_of options.now) L
-        buffer.now (limits_of options.now) (raw_of options.now) (defaults_of options.now))) }
+    ensures text { (result ≡ 0) → HasLayout schema.old.held.value (λ L. HasBytes out.new
+        (IsTextFramed (compact_of options.now) (prefixed_of options.now) L buffer.now
+        (limits_of options.now) (raw_of options.now) (defaults_of options.now))) }
     ensures refused { (result ≡ 1) → HasLayout schema.old.held.value (λ L. Told fault.new
         (TextRefusedFramed (prefixed_of options.now) L buffer.now (limits_of options.now) (raw_of options.now))) }
     ensures exact { (result ≡ 1) → HasLayout schema.old.held.value (λ L.
@@ -139,7 +140,8 @@ pub extern "C" fn flatc_verify(
     ensures held { (result ≡ 0) → HasLayout schema.old.held.value (λ L. (v : Datum)
         × HoldsFramed (prefixed_of options.now) L (limits_of options.now) (raw_of options.now) buffer.now v) }
     ensures refused { (result ≡ 1) → HasLayout schema.old.held.value (λ L. Told fault.new
-        (OnReadFault (RefusesFramed (prefixed_of options.now) L (limits_of options.now) (raw_of options.now) buffer.now))) }
+        (OnReadFault (RefusesFramed (prefixed_of options.now) L (limits_of options.now) (raw_of options.now)
+        buffer.now))) }
     ensures no_schema { (result ≡ 3) → layout_of schema.old.held.value ≡ None }
     ensures bad_options { (result ≡ 4) → ¬ AreSet options.now }
     ensures status { (result ≡ 0) ⊎ ((result ≡ 1) ⊎ ((result ≡ 3) ⊎ (result ≡ 4))) }

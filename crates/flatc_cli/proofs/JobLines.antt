@@ -1,6 +1,7 @@
 -- Lines that are none of the four over one file each.
 use Rattle.std.proofs.Common.{◌≡◌, ◌≢◌, if◌then◌else◌, ◌≤◌, ◌&&◌, Bool, true, false, not, List, Option, Some, None, map}
-use Rattle.std.proofs.Common.{length, refl, ap, sym, subst, is_some, nat_lt, codes, String, string_bytes, bytes_eq, rules}
+use Rattle.std.proofs.Common.{length, refl, ap, sym, subst, is_some, nat_lt, codes, String, string_bytes}
+use Rattle.std.proofs.Common.{bytes_eq, rules}
 use Rattle.std.proofs.lemmas.Bool.{le-ltb}
 use Rattle.clap.specs.Words.{Row, Text}
 use Rattle.flatc_cli.specs.Lines.{is_set, explaining_in, has_dir, paths_in, is_single, is_plain, is_line_of, is_line}

@@ -39,8 +39,8 @@ abbrev pub most_room : ℕ
 most_room = 2147483647
 
 -- The bytes of a JSON text under a layout: exactly the value that it means lies in them, only slots in use have
--- something, each byte belongs to the value or is one of few zeros, and they are no longer than its room. Where they are
--- prefixed, the count of the others is in front.
+-- something, each byte belongs to the value or is one of few zeros, and they are no longer than its room. Where they
+-- are prefixed, the count of the others is in front.
 pub record IsBinaryFramed (prefixed : Bool) (L : LaidSchema) (json : List ℕ) (most : Bounds) (unknown : Bool)
     (b : Bytes) : Type 0 where
   pub value : Datum

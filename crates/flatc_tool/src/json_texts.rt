@@ -2,7 +2,8 @@
 ghost use Rattle.std.specs.Prelude.{◌≡◌, IfOk, IfErr, OnOk, false, string_bytes};
 ghost use Rattle.fb_text.specs.Noted.{write_failed, writer_of};
 ghost use Rattle.flatc_tool.specs.Jobs.{IsTextFramed, MayBeTextFramed, TextRefusedFramed, IsNotMemory, spacing_of};
-ghost use Rattle.flatc_tool.specs.Prints.{IsSentFramed, PrintRefusedFramed, TellsFailure, IfUnwritten, IsOfInput, text_fault};
+ghost use Rattle.flatc_tool.specs.Prints.{IsSentFramed, PrintRefusedFramed, TellsFailure};
+ghost use Rattle.flatc_tool.specs.Prints.{IfUnwritten, IsOfInput, text_fault};
 
 use crate::laws::layer_laws;
 use crate::options::DecodeOptions;
@@ -38,10 +39,11 @@ pub fn decode_to<W: Write>(
     out: &mut Noted<W>,
 ) -> Result<(), ToolFault>
     requires fresh { write_failed out.old ≡ false }
-    ensures printed { OnOk result (IsSentFramed options.now.compact options.now.size_prefixed layout.now bytes.now options.now.limits options.now.raw_binary
-        options.now.defaults_json (W.contents (writer_of out.old)) (W.contents (writer_of out.new))) }
-    ensures refused { IfErr result (PrintRefusedFramed options.now.compact options.now.size_prefixed layout.now bytes.now options.now.limits
-        options.now.raw_binary options.now.defaults_json
+    ensures printed { OnOk result (IsSentFramed options.now.compact options.now.size_prefixed layout.now bytes.now
+        options.now.limits options.now.raw_binary options.now.defaults_json (W.contents (writer_of out.old))
+        (W.contents (writer_of out.new))) }
+    ensures refused { IfErr result (PrintRefusedFramed options.now.compact options.now.size_prefixed layout.now
+        bytes.now options.now.limits options.now.raw_binary options.now.defaults_json
         (W.contents (writer_of out.old)) (W.contents (writer_of out.new))) }
     ensures failed { TellsFailure (write_failed out.new) result }
     ensures untouched { IfUnwritten result (out.new ≡ out.old) }
@@ -97,8 +99,8 @@ pub fn decode(
     bytes: &[u8],
     options: &DecodeOptions,
 ) -> Result<String, ToolFault>
-    ensures text { IfOk result (λ s. IsTextFramed options.now.compact options.now.size_prefixed layout.now bytes.now options.now.limits options.now.raw_binary
-        options.now.defaults_json (string_bytes s)) }
+    ensures text { IfOk result (λ s. IsTextFramed options.now.compact options.now.size_prefixed layout.now
+        bytes.now options.now.limits options.now.raw_binary options.now.defaults_json (string_bytes s)) }
     ensures refused { IfErr result
         (TextRefusedFramed options.now.size_prefixed layout.now bytes.now options.now.limits options.now.raw_binary) }
     ensures exact { IfErr result (λ f. IsNotMemory f

@@ -1,5 +1,5 @@
--- Each field of a declared struct stands at the least multiple of its alignment behind the one before it, and the struct
--- ends at the least multiple of its own: the exact sizes are sizes of the schema.
+-- Each field of a declared struct stands at the least multiple of its alignment behind the one before it, and the
+-- struct ends at the least multiple of its own: the exact sizes are sizes of the schema.
 use Rattle.std.proofs.Common.{◌≡◌, ◌<◌, ◌≤◌, ◌+◌, ℕ, zero, suc, max, false, IsTrue, List, [], ◌∷◌, length, map, Option}
 use Rattle.std.proofs.Common.{None, Some, slice_get, slice_index, slice_index_or, refl, sym, ap, ◌∙◌, subst, arith}
 use Rattle.std.specs.Int.{next_multiple_of}

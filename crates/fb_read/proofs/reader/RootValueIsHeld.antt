@@ -1,5 +1,6 @@
 -- What a reading of the root table says of the whole buffer.
-use Rattle.std.proofs.Common.{◌≡◌, ℕ, ◌≢◌, ◌+◌, ◌<◌, ◌≤◌, [], ◌∷◌, true, nat_le, All, Option, None, Some, Result, Ok, Err}
+use Rattle.std.proofs.Common.{◌≡◌, ℕ, ◌≢◌, ◌+◌, ◌<◌, ◌≤◌, [], ◌∷◌, true, nat_le, All, Option, None, Some}
+use Rattle.std.proofs.Common.{Result, Ok, Err}
 use Rattle.std.proofs.Common.{IfOk, IfErr, OnOk, refl, arith, inl, inr}
 use Rattle.std.proofs.lemmas.Bool.{le-leb}
 use Rattle.fb_layout.specs.Laid.{LaidSchema}
@@ -59,7 +60,8 @@ module _ (p : ℕ) (front : Option ReadFault) (L : LaidSchema) (most : Bounds) (
   answer_entered (Err f) start ticks old new none is held each = tt
 
   -- It is as deep as the limits allow, and so is nested at most 300 deep.
-  pub answer_deep : most.depth ≤ 127 → (r : Result Value ReadFault) → IfOk r (λ v. HoldsBehind p front L most b (view v))
+  pub answer_deep : most.depth ≤ 127 → (r : Result Value ReadFault) → IfOk r (λ v. HoldsBehind p front L most b
+      (view v))
       → IfOk r (λ v. depth (view v) ≤ 127)
   answer_deep few (Ok v) held = let deep = held.deep in omega arith
   answer_deep few (Err f) held = tt

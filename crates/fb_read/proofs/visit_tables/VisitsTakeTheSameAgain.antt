@@ -1,5 +1,6 @@
 -- A part at which a visit found no fault is free of faults for each visit with no more tables above it and cells left.
-use Rattle.std.proofs.Common.{◌≡◌, ℕ, zero, suc, ◌+◌, ◌≤◌, List, [], ◌∷◌, Option, None, Some, Ok, refl, sym, ap, nat_le, arith}
+use Rattle.std.proofs.Common.{◌≡◌, ℕ, zero, suc, ◌+◌, ◌≤◌, List, [], ◌∷◌, Option, None, Some, Ok, refl, sym, ap}
+use Rattle.std.proofs.Common.{nat_le, arith}
 use Rattle.std.proofs.lemmas.Bool.{leb-true, le-leb}
 use Rattle.fb_layout.specs.Laid.{LaidSchema}
 use Rattle.fb_value.specs.declared.faults.ReadFault.{ReadFault}
@@ -59,7 +60,8 @@ module _ (L : LaidSchema) (b : Bytes) (most : Bounds) where
   unfolding first_fault limited_fault
   free_again zero x tables fewer spent less e h i = refl
   free_again (suc fuel) x tables fewer spent less e h i =
-      let both = or_none (limited_fault L b most x (tables + own_tables x.sort) (spent + own_cells b x.sort x.at)) _ e in
+      let both = or_none (limited_fault L b most x (tables + own_tables x.sort) (spent + own_cells b x.sort x.at)) _ e
+      in
       let keeps = limited_none L b most x (tables + own_tables x.sort) (spent + own_cells b x.sort x.at) both.0 in
       let limits = (or_none (fault_at L b x.sort x.at) _ both.0).1 in
       let cells : all L b x ≡ own_cells b x.sort x.at + sum_over (all L b) (named L b x.sort x.at) =

@@ -96,7 +96,8 @@ module _ (laws : LayerLaws) (schema json : List ℕ) (most : Bounds) (unknown : 
 
   pub carried_on : (raw : Bool) (K : LaidSchema) (new : List ℕ) → IsAccepted new K → Conforms L K
       → Holds K most raw b (carry L K v)
-  carried_on raw K new other conforms = laws.carried_holds false L K most raw b v accepted.made other.made conforms is_known
+  carried_on raw K new other conforms = laws.carried_holds false L K most raw b v accepted.made other.made conforms
+      is_known
       in_use (held raw)
 
   evolved : (raw : Bool) (new : List ℕ) (K : LaidSchema) → TextsConform schema new → IsAccepted new K
@@ -198,7 +199,8 @@ module _ (laws : LayerLaws) (schema : List ℕ) (b : Bytes) (most : Bounds) (raw
     printed defaults start known BadJson refused rule = absurd refused.has
     printed defaults start known Memory refused rule = absurd refused.has
 
-  by_outcome : (o : Option ReadFault) → HeldOrFault 0 (header_fault b (checked_identifier L raw)) L most b o → NoneLies schema b most raw L
+  by_outcome : (o : Option ReadFault) → HeldOrFault 0 (header_fault b (checked_identifier L raw)) L most b o → NoneLies
+      schema b most raw L
   by_outcome None h = absurd (none h.1.0 h.1.1)
   by_outcome (Some f) h = record {
     fault = f;

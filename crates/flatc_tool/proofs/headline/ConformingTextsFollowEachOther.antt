@@ -16,7 +16,8 @@ use Rattle.flatc_tool.proofs.headline.BytesHoldAValueOrAreRefused.{held, fitting
 pub old_programs_read_shown : LayerLaws → OldProgramsRead
 old_programs_read_shown laws old new json most unknown b made texts A B was is v means raw =
     let conforms = conforms_at laws old new A B was is texts in
-    laws.back_holds false A B most raw b v was.made is.made conforms (in_use laws new json most unknown b made B is v means)
+    laws.back_holds false A B most raw b v was.made is.made conforms (in_use laws new json most unknown b made B is v
+    means)
     (held laws new json most unknown b made B is v means raw)
 
 -- two steps are one

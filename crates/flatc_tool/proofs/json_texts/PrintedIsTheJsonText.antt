@@ -25,36 +25,46 @@ use Rattle.fb_faults.specs.declared.faults.ToolFault.TheVariants.{Older, Newer, 
 use Rattle.fb_faults.specs.declared.faults.ToolFault.TheVariants.{BadJson, Memory}
 
 -- what a view under layout K and with a root table says is said of the accepted layout
-pub at_layout : (spacing : Spacing) (L K : LaidSchema) (table : ℕ) (defaults : Bool) (v : Datum) (start known : Option (List ℕ))
+pub at_layout : (spacing : Spacing) (L K : LaidSchema) (table : ℕ) (defaults : Bool) (v : Datum) (start known : Option
+    (List ℕ))
     (r : Result (Unit {0}) WriteFault) → K ≡ L → table ≡ L.schema.root
     → IsPrinted (type_place table) v (spaced_text spacing K defaults v) start known r
     → IsPrinted (type_place L.schema.root) v (spaced_text spacing L defaults v) start known r
 at_layout spacing L K table defaults v start known r layout root printed =
-    let here = subst (λ (t : ℕ). IsPrinted (type_place t) v (spaced_text spacing K defaults v) start known r) root printed in
-    subst (λ (M : LaidSchema). IsPrinted (type_place L.schema.root) v (spaced_text spacing M defaults v) start known r) layout
+    let here = subst (λ (t : ℕ). IsPrinted (type_place t) v (spaced_text spacing K defaults v) start known r) root
+    printed in
+    subst (λ (M : LaidSchema). IsPrinted (type_place L.schema.root) v (spaced_text spacing M defaults v) start known r)
+    layout
     here
 
 module _ (laws : LayerLaws) (compact prefixed : Bool) (b : Bytes) (most : Bounds) (raw defaults : Bool) (L : LaidSchema)
     (v : Datum) (holds : HoldsFramed prefixed L most raw b v) (start known : Option (List ℕ)) where
-  text_is : is_whole v ≡ true → IsTextFramed compact prefixed L b most raw defaults (spaced_text (spacing_of compact) L defaults v)
+  text_is : is_whole v ≡ true → IsTextFramed compact prefixed L b most raw defaults (spaced_text (spacing_of compact) L
+      defaults v)
   text_is whole = record { value = v; holds = holds; whole = whole; spelled = refl }
 
   pub sent : (x : Unit {0}) → IsWellMade L → SpacedTextsAreUtf8 L → All (λ x. x < 256) b
       → IsPrinted (type_place L.schema.root) v (spaced_text (spacing_of compact) L defaults v) start known (Ok x)
       → IsSentFramed compact prefixed L b most raw defaults start known
   sent x made utf8 small printed =
-      let fits = laws.fits_where_held _ _ L most b v made small holds in
-      (spaced_text (spacing_of compact) L defaults v, text_is printed.0, utf8 (spacing_of compact) defaults v fits, printed.1)
+      let fits = laws.fits_where_held _ _ L most b v made small holds in (
+        spaced_text (spacing_of compact) L defaults v,
+        text_is printed.0,
+        utf8 (spacing_of compact) defaults v fits,
+        printed.1,
+      )
 
   pub unsent : (f : WriteFault)
-      → IsPrinted {A = Unit {0}} (type_place L.schema.root) v (spaced_text (spacing_of compact) L defaults v) start known (Err f)
+      → IsPrinted {A = Unit {0}} (type_place L.schema.root) v (spaced_text (spacing_of compact) L defaults v) start
+      known (Err f)
       → PrintRefusedFramed compact prefixed L b most raw defaults start known (Write f)
   unsent (NoMemberName at) printed = (v, holds, printed)
   unsent (WriteFailed n) printed =
       (spaced_text (spacing_of compact) L defaults v, text_is printed.0, printed.1, printed.2, printed.3, printed.4)
 
   pub unsent_excludes : (f : WriteFault)
-      → IsPrinted {A = Unit {0}} (type_place L.schema.root) v (spaced_text (spacing_of compact) L defaults v) start known (Err f)
+      → IsPrinted {A = Unit {0}} (type_place L.schema.root) v (spaced_text (spacing_of compact) L defaults v) start
+      known (Err f)
       → IsOfInput (Write f) → MayBeTextFramed prefixed L b most raw → ⊥
   unsent_excludes (WriteFailed n) printed rule may = rule
   unsent_excludes (NoMemberName at) printed rule may =
@@ -66,7 +76,8 @@ module _ (laws : LayerLaws) (compact prefixed : Bool) (b : Bytes) (most : Bounds
 
 -- ---- printing to memory
 
-module _ (compact prefixed : Bool) (L : LaidSchema) (b : Bytes) (most : Bounds) (raw defaults : Bool) (start known : Option (List ℕ)) where
+module _ (compact prefixed : Bool) (L : LaidSchema) (b : Bytes) (most : Bounds) (raw defaults : Bool) (start known :
+    Option (List ℕ)) where
   pub text_refused : (f : ToolFault) → PrintRefusedFramed compact prefixed L b most raw defaults start known f
       → TextRefusedFramed prefixed L b most raw (text_fault f)
   text_refused (Read f) refused = refused

@@ -12,7 +12,8 @@ cut_off b first rest count is within front back =
     let whole : b ≡ first ++ rest = sym (take-append-drop (4 + count) b) ∙ ap (λ x. x ++ drop (4 + count) b) (sym front)
     ∙ ap (λ x. first ++ x) (sym back) in
     let long : length first ≡ 4 + count = ap length front ∙ length-take-le (4 + count) b within in
-    let same : num b 0 4 ≡ num first 0 4 = ap (λ x. num x 0 4) whole ∙ num_before first rest 0 4 (omega (arith, long)) in
+    let same : num b 0 4 ≡ num first 0 4 = ap (λ x. num x 0 4) whole ∙ num_before first rest 0 4 (omega (arith, long))
+    in
     (record { long = omega (arith, long); counted = omega (arith, long, is, same) }, whole)
 
 pub returns-clause-message : goal.returns-clause-message

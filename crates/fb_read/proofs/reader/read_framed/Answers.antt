@@ -17,7 +17,8 @@ returns-clause-value c =
       c.front_of.ensures.exact,
       c.schema-schema.ensures.schema,
     ) at c.visit_table_behind-value.ensures.visit in
-    let known = rw (c.root.ensures, c.front_of.ensures.exact, c.schema-schema.ensures.schema) at c.visit_table_behind-value.ensures.kept in
+    let known = rw (c.root.ensures, c.front_of.ensures.exact, c.schema-schema.ensures.schema) at
+    c.visit_table_behind-value.ensures.kept in
     answer_held (front_of c.args.prefixed) _ L c.args.limits c.args.bytes.now c.schema-schema.ensures.made
     c.visit_table_behind-value.result _ header given known
 
@@ -25,7 +26,8 @@ pub returns-clause-fits : goal.returns-clause-fits
 returns-clause-fits c =
     let small : All (λ x. x < 256) c.args.bytes.now = All-from_get_or (λ x. x < 256) c.args.bytes.now 0
     (λ i less. (let fits = c.type_inv.bytes i in omega arith)) in
-    answer_fits (front_of c.args.prefixed) _ c.args.layout.now c.args.limits c.args.bytes.now c.schema-schema.ensures.made small
+    answer_fits (front_of c.args.prefixed) _ c.args.layout.now c.args.limits c.args.bytes.now
+    c.schema-schema.ensures.made small
     c.visit_table_behind-value.result (returns-clause-value c)
 
 pub returns-clause-deep : goal.returns-clause-deep
@@ -38,7 +40,8 @@ returns-clause-deep c =
 pub returns-clause-nests : goal.returns-clause-nests
 returns-clause-nests c =
     answer_nests (front_of c.args.prefixed)
-    (front_fault c.args.prefixed c.args.bytes.now (checked_identifier c.args.layout.now c.args.raw)) c.args.layout.now c.args.limits c.args.bytes.now c.schema-schema.ensures.made
+    (front_fault c.args.prefixed c.args.bytes.now (checked_identifier c.args.layout.now c.args.raw)) c.args.layout.now
+    c.args.limits c.args.bytes.now c.schema-schema.ensures.made
     c.visit_table_behind-value.result (returns-clause-fits c) (returns-clause-deep c)
 
 pub returns-clause-fault : goal.returns-clause-fault
@@ -74,6 +77,8 @@ returns-clause-reached c memory =
 
 pub returns-clause-each : goal.returns-clause-each
 returns-clause-each c =
-    let each = rw (c.root.ensures, c.front_of.ensures.exact, c.schema-schema.ensures.schema) at c.visit_table_behind-value.ensures.each in
-    answer_entered (front_of c.args.prefixed) _ c.args.layout.now c.args.limits c.args.bytes.now c.visit_table_behind-value.result _ _ _ _
+    let each = rw (c.root.ensures, c.front_of.ensures.exact, c.schema-schema.ensures.schema) at
+    c.visit_table_behind-value.ensures.each in
+    answer_entered (front_of c.args.prefixed) _ c.args.layout.now c.args.limits c.args.bytes.now
+    c.visit_table_behind-value.result _ _ _ _
     c.new.ensures c.add_to.ensures (returns-clause-value c) each

@@ -18,7 +18,8 @@ returns-in_err-visited-clause-fault c =
       c.schema-schema.ensures.schema,
     ) at (rw c.in_err-visited.was at c.visit_table_behind-visited.ensures.visit) in
     let fails = given (λ never. absurd never) in
-    rw (p.1, p.2) (refused_root (front_of c.args.prefixed) _ c.args.layout.now c.args.limits c.args.bytes.now c.schema-schema.ensures.made
+    rw (p.1, p.2) (refused_root (front_of c.args.prefixed) _ c.args.layout.now c.args.limits c.args.bytes.now
+    c.schema-schema.ensures.made
     _ header fails)
 
 pub returns-clause-held : goal.returns-clause-held
@@ -32,7 +33,8 @@ returns-clause-held c =
       c.front_of-front.ensures.exact,
       c.schema-schema.ensures.schema,
     ) at (rw c.in_ok-visited.was at c.visit_table_behind-visited.ensures.visit) in
-    held_root (front_of c.args.prefixed) _ c.args.layout.now c.args.limits c.args.bytes.now c.schema-schema.ensures.made _ header fine
+    held_root (front_of c.args.prefixed) _ c.args.layout.now c.args.limits c.args.bytes.now
+    c.schema-schema.ensures.made _ header fine
 
 pub invariant_of-result : goal.invariant_of-result
 invariant_of-result c =
@@ -50,6 +52,7 @@ invariant_of-result c =
     let there = rw from at c.u32_at.ensures in
     record {
       short = c.in_ok-check_front.ensures.short;
-      lies = merely (view_lies (front_of c.args.prefixed) _ c.args.layout.now c.args.limits c.args.bytes.now c.schema-schema.ensures.made
+      lies = merely (view_lies (front_of c.args.prefixed) _ c.args.layout.now c.args.limits c.args.bytes.now
+          c.schema-schema.ensures.made
           _ _ _ header fine root (omega (arith, from, there)));
     }

@@ -38,4 +38,5 @@ leave-requires-clause-knows g c =
 
 pub leave-requires-clause-visit : goal.leave-requires-clause-visit
 leave-requires-clause-visit g c =
-    rw c.mark-mark.ensures.spent (gives_ok g.V.Visitor.takes_memory c.visit_text-visited.result _ _ (c.visit_text-visited.ensures.visit c.args.tables))
+    rw c.mark-mark.ensures.spent (gives_ok g.V.Visitor.takes_memory c.visit_text-visited.result _ _
+    (c.visit_text-visited.ensures.visit c.args.tables))

@@ -3,12 +3,14 @@ use Rattle.flatc_tool.proofs.buffers.encode_owned.Goals as goal
 
 pub returns-in-Ok-clause-binary : goal.returns-in-Ok-clause-binary
 returns-in-Ok-clause-binary c =
-    text_made c.layer_laws.ensures.laws c.args.options.now.size_prefixed c.args.json.items c.args.options.now.limits c.args.options.now.unknown_json
+    text_made c.layer_laws.ensures.laws c.args.options.now.size_prefixed c.args.json.items c.args.options.now.limits
+    c.args.options.now.unknown_json
     c.args.layout.now c.in-Ok.bytes.items c.in-Ok.ensures.encoded
 
 pub returns-in-Err-clause-refused : goal.returns-in-Err-clause-refused
 returns-in-Err-clause-refused c =
-    rw c.refused.ensures (text_refused c.layer_laws.ensures.laws c.args.options.now.size_prefixed c.args.json.items c.args.options.now.limits
+    rw c.refused.ensures (text_refused c.layer_laws.ensures.laws c.args.options.now.size_prefixed c.args.json.items
+    c.args.options.now.limits
     c.args.options.now.unknown_json c.args.layout.now c.in-Err.fault c.in-Err.ensures.refused)
 
 pub returns-in-Err-clause-exact : goal.returns-in-Err-clause-exact

@@ -6,9 +6,11 @@ use Rattle.flatc_tool.proofs.json_texts.decode.Goals as goal
 
 pub returns-in-Err-clause-refused : goal.returns-in-Err-clause-refused
 returns-in-Err-clause-refused c =
-    let refused = text_refused c.args.options.now.compact c.args.options.now.size_prefixed c.args.layout.now c.args.bytes.now c.args.options.now.limits
+    let refused = text_refused c.args.options.now.compact c.args.options.now.size_prefixed c.args.layout.now
+    c.args.bytes.now c.args.options.now.limits
     c.args.options.now.raw_binary c.args.options.now.defaults_json
     (Some c.over-out.result.inner.items) (Some c.decode_to.new.out.inner.items) c.in-Err.fault
     c.in-Err.ensures.refused in
-    subst (λ (f : ToolFault). TextRefusedFramed c.args.options.now.size_prefixed c.args.layout.now c.args.bytes.now c.args.options.now.limits
+    subst (λ (f : ToolFault). TextRefusedFramed c.args.options.now.size_prefixed c.args.layout.now c.args.bytes.now
+    c.args.options.now.limits
     c.args.options.now.raw_binary f) (sym c.text_fault.ensures) refused

@@ -33,12 +33,15 @@ returns-in-Ok-write_spaced-clause-printed g c =
     let view = c.in-Ok.view in
     let start = g.W.Write.contents (writer_of c.args.out.now) in
     let known = g.W.Write.contents (writer_of c.write_spaced.new.out) in
-    let printed = (rw c.spacing_of.ensures at c.in-Ok-write_spaced.ensures.printed) held.0 (c.in-Ok.ensures.stands held.0 held.1) in
+    let printed = (rw c.spacing_of.ensures at c.in-Ok-write_spaced.ensures.printed) held.0 (c.in-Ok.ensures.stands
+    held.0 held.1) in
     let small : All (λ x. x < 256) c.args.bytes.now =
     All-from_get_or (λ x. x < 256) c.args.bytes.now 0 (λ i less. (let fits = c.type_inv.bytes i in omega arith)) in
-    let root = at_layout (spacing_of c.args.options.now.compact) L view.layout.now view.table.0 c.args.options.now.defaults_json held.0 start known (Ok tt)
+    let root = at_layout (spacing_of c.args.options.now.compact) L view.layout.now view.table.0
+    c.args.options.now.defaults_json held.0 start known (Ok tt)
     c.in-Ok.ensures.root.0 c.in-Ok.ensures.root.1 printed in
-    sent c.layer_laws.ensures.laws c.args.options.now.compact c.args.options.now.size_prefixed c.args.bytes.now c.args.options.now.limits c.args.options.now.raw_binary
+    sent c.layer_laws.ensures.laws c.args.options.now.compact c.args.options.now.size_prefixed c.args.bytes.now
+    c.args.options.now.limits c.args.options.now.raw_binary
     c.args.options.now.defaults_json L held.0 held.1 start known tt c.schema-schema.ensures.made
     c.spaced_texts_are_utf8.ensures small
     root
@@ -55,7 +58,8 @@ returns-in-Err-write_spaced-clause-refused g c =
     let root = at_spacing L held.0 c.args.options.now.defaults_json start known fault c.spacing_of.ensures
     (at_layout c.spacing_of.result L view.layout.now view.table.0 c.args.options.now.defaults_json held.0 start known
     (Err fault) c.in-Ok.ensures.root.0 c.in-Ok.ensures.root.1 printed) in
-    unsent c.layer_laws.ensures.laws c.args.options.now.compact c.args.options.now.size_prefixed c.args.bytes.now c.args.options.now.limits c.args.options.now.raw_binary
+    unsent c.layer_laws.ensures.laws c.args.options.now.compact c.args.options.now.size_prefixed c.args.bytes.now
+    c.args.options.now.limits c.args.options.now.raw_binary
     c.args.options.now.defaults_json L held.0 held.1 start known fault root
 
 pub returns-in-Err-write_spaced-clause-exact : goal.returns-in-Err-write_spaced-clause-exact
@@ -70,5 +74,6 @@ returns-in-Err-write_spaced-clause-exact g c rule =
     let root = at_spacing L held.0 c.args.options.now.defaults_json start known fault c.spacing_of.ensures
     (at_layout c.spacing_of.result L view.layout.now view.table.0 c.args.options.now.defaults_json held.0 start known
     (Err fault) c.in-Ok.ensures.root.0 c.in-Ok.ensures.root.1 printed) in
-    unsent_excludes c.layer_laws.ensures.laws c.args.options.now.compact c.args.options.now.size_prefixed c.args.bytes.now c.args.options.now.limits
+    unsent_excludes c.layer_laws.ensures.laws c.args.options.now.compact c.args.options.now.size_prefixed
+    c.args.bytes.now c.args.options.now.limits
     c.args.options.now.raw_binary c.args.options.now.defaults_json L held.0 held.1 start known fault root rule

@@ -64,22 +64,31 @@ module _ {M : Type 1} {𝓤 : Ura M} (𝓛 : Logic 𝓤) (mem : Memory → SProp
     passed = owns (types_at f.signature.params κs) a (before ∷ [], (more ∷ [], (less ∷ [], tt)))
 
     walk : ent 𝓤 (on_entry 𝓛 f.signature κs qs a (before ∷ [], (more ∷ [], (less ∷ [], tt))))
-        (WpFn 𝓤 H C Λ code.function (before ∷ more ∷ less ∷ []) ((walk_of 𝓛 f.ended stayed (f.clauses 𝓛 mem run)).post bound))
+        (WpFn 𝓤 H C Λ code.function (before ∷ more ∷ less ∷ []) ((walk_of 𝓛 f.ended stayed (f.clauses 𝓛 mem run)).post
+        bound))
     walk =
-        qed 𝓛 (raw (alive 𝓛 f.signature κs qs) ∷ ‵ passed ∷ []) ∵ enter ! C Λ code.function (before ∷ more ∷ less ∷ []) _ $
-        alloc_all ! (λ l. pass_all ! refl ((tt, tt), ((tt, tt), ((tt, tt), tt))) $ sets ! (agg ! (no_more !)) refl (tt, tt) $
+        qed 𝓛 (raw (alive 𝓛 f.signature κs qs) ∷ ‵ passed ∷ []) ∵ enter ! C Λ code.function (before ∷ more ∷ less ∷ [])
+        _ $
+        alloc_all ! (λ l. pass_all ! refl ((tt, tt), ((tt, tt), ((tt, tt), tt))) $ sets ! (agg ! (no_more !)) refl (
+          tt,
+          tt,
+        ) $
         returns ! (look_at ! 0 refl) $ free_all ! refl $
         suffices ! _ (ends_at 𝓛 f.ended stayed (f.clauses 𝓛 mem run) bound (vstruct vnil) (record {
           count =
               a.0.now.count + a.1.0.now.count - a.1.1.0.now.count;
         }) (tt, (tt, (tt, tt))) (tt, (tt, (tt, tt)))) $
-        says ! refl $ pure_i ! (entries.the_row.own_val (record { count = a.0.now.count + a.1.0.now.count - a.1.1.0.now.count })
+        says ! refl $ pure_i ! (entries.the_row.own_val (record {
+          count = a.0.now.count + a.1.0.now.count -
+              a.1.1.0.now.count;
+        })
         (vstruct vnil ∷ [])) ((λ vss. (tt, tt)), tt) ((tt, (refl, tt)), tt) $
         move ! (1 ∷ 2 ∷ 0 ∷ []) $ done !)
 
   walks : Walks 𝓛 f.ended stayed (WpFn 𝓤 H C Λ code.function) (f.clauses 𝓛 mem run)
   walks =
-      walked 𝓛 f.ended stayed (f.clauses 𝓛 mem run) (WpFn 𝓤 H C Λ code.function) (λ κs. (shr_vals, (shr_vals, (shr_vals, tt))))
+      walked 𝓛 f.ended stayed (f.clauses 𝓛 mem run) (WpFn 𝓤 H C Λ code.function) (λ κs.
+      (shr_vals, (shr_vals, (shr_vals, tt))))
       (λ κs. (
         shr_Tells (named 0) κs.0 entries.the_row,
         (
