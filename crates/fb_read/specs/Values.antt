@@ -27,7 +27,7 @@ abbrev pub Gives : {T : Type 0} → Type 0 → Result T ReadFault → ℕ → Re
 Gives takes_memory result after given = MatchResult result (λ _. given ≡ Ok after)
     (λ f. MemoryLasts takes_memory f → given ≡ Err f)
 
--- A walk found no fault where there is none, else the first one.
+-- `Ok` where there is no fault, else the first one.
 abbrev pub Finds : {T : Type 0} → Result T ReadFault → Option ReadFault → Type 0
 Finds result first = MatchResult result (λ _. first ≡ None) (λ f. first ≡ Some f)
 

@@ -21,7 +21,7 @@ target_in L (Vector kind) = vector_part (stored_kind L.schema kind)
 abbrev pub part_at : Buffer → Part → ℕ → Place
 part_at buffer part p = record { sort = part_place (target_in buffer.layout.now part); at = p }
 
--- Of what lies at a place so many parts are entered, no more than it has cells.
+-- The parts that a visit of a place enters; they are at most its cells.
 pub record IsCounted (buffer : Buffer) (x : Place) (visited : Visited) : Type 0 where
   pub few : visited.parts ≤ visited.cells
   pub each : (d : Datum) → LiesAt buffer.layout.now buffer.bytes.now x.sort x.at d → visited.parts ≡ entered d
@@ -32,7 +32,7 @@ pub record Takes (buffer : Buffer) (x : Place) (tables spent : ℕ) (visited : V
   pub few : spent + visited.cells ≤ buffer.most_cells
   pub counted : IsCounted buffer x visited
 
--- Each visit of a place does so that has as many tables above it, and cells left.
+-- So does each visit with at most as many tables above it, where its cells are within the limit.
 pub record IsVisited (buffer : Buffer) (x : Place) (visited : Visited) : Type 0 where
   pub visit : (tables spent : ℕ) → tables ≤ visited.tables → spent + visited.cells ≤ buffer.most_cells
       → visit_in buffer x tables spent ≡ Ok (spent + visited.cells)

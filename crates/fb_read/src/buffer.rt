@@ -11,6 +11,7 @@ pub struct Buffer<'a> {
     pub bytes: &'a [u8],
     pub most_depth: u8,
     pub most_cells: u32,
+    ghost flat: { most_depth ≤ 127 },
     ghost short: { length bytes.now < 2 ^ 31 },
     ghost aligned: { (kind : StoredKind) → 1 ≤ align_of layout.now kind },
     ghost small: { (kind : StoredKind) → size_of layout.now kind < 2 ^ 16 },

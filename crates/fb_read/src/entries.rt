@@ -43,7 +43,7 @@ impl Entries {
         Entries {}
     }
 
-    /// The same count.
+    /// A copy.
     #[inline(always)]
     pub(crate) fn copied(&self) -> Entries
         ensures { result.count ≡ self.now.count }

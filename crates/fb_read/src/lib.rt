@@ -40,6 +40,7 @@ pub use part::Part;
 pub use parts::{EnteredTable, check_stored, enter_vector, number_within};
 pub use places::follow;
 pub use reader::paths::fault_path;
+pub use reader::ticks::Counted;
 pub use reader::{read, read_framed, verify, verify_framed, visit_buffer};
 pub use rules::open_text;
 pub use step::Step;

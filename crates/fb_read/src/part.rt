@@ -4,7 +4,9 @@ use fb_schema::{Kind, TypeId};
 /// What the part behind a reference is.
 #[derive(Clone, Copy, PartialEq, Eq, Drop)]
 pub enum Part {
+    /// A string.
     Text,
+    /// A table of this type.
     Table(TypeId),
     /// A vector with elements of this kind.
     Vector(Kind),

@@ -1,5 +1,5 @@
 //! The calls that read a buffer: as a value, or in place once it is verified.
-ghost use Rattle.std.specs.Prelude.{◌≡◌, ◌≢◌, ◌+◌, ◌≤◌, OnOk, IfOk, IfErr, Err};
+ghost use Rattle.std.specs.Prelude.{◌≡◌, ◌≢◌, ◌+◌, ◌≤◌, OnOk, IfOk, IfErr, Some, Err};
 ghost use Rattle.fb_value.specs.Datum.{Datum};
 ghost use Rattle.fb_value.specs.View.{view};
 ghost use Rattle.fb_value.specs.Counts.{depth, entered, nesting};
@@ -9,6 +9,7 @@ ghost use Rattle.fb_value.specs.Holds.{HoldsFramed, RootKeepsFramed, RefusesFram
 ghost use Rattle.fb_value.specs.Holds.{root_at, front_of};
 ghost use Rattle.fb_value.specs.Faults.{fault_from};
 ghost use Rattle.fb_read.specs.Values.{Finds};
+ghost use Rattle.fb_read.specs.FaultPaths.{Hears};
 ghost use Rattle.fb_read.specs.Walks.{limits_of};
 ghost use Rattle.fb_read.specs.Memory.{PartIsReached, PartIsReachedFramed};
 ghost use Rattle.fb_read.specs.Shows.{Shows};
@@ -187,7 +188,7 @@ pub fn verify_framed<'a>(
     })
 }
 
-/// Walks over all that is reached from the root of a buffer, which may be `prefixed`, and gives back who heard of it.
+/// Walks over all that is reached from the root of a buffer, which may be `prefixed`, and returns the hearer.
 pub fn visit_buffer<H: Hearer>(
     buffer: &Buffer,
     hearer: H,
@@ -196,6 +197,8 @@ pub fn visit_buffer<H: Hearer>(
     requires knows { H.knows hearer buffer.now }
     ensures finds { Finds result.1 (fault_from buffer.now.layout.now buffer.now.bytes.now (limits_of buffer.now)
         (root_at buffer.now.layout.now (front_of prefixed)) 0 0) }
+    ensures hears { Hears ⊥ H.told buffer.now (Some (root_at buffer.now.layout.now (front_of prefixed))) 0 0 hearer
+        result.0 result.1 }
 {
     let mut walk = Walk {
         spent: 0,

@@ -8,12 +8,14 @@ use crate::reader::ticks::Counted;
 pub struct Visited {
     /// How many tables were above it.
     pub tables: u8,
+    /// How many cells it has spent.
     pub cells: u64,
+    /// How many parts it has entered.
     pub parts: Counted,
 }
 
 impl Visited {
-    /// The same once more.
+    /// A copy.
     pub fn copied(&self) -> Visited
         ensures tables { result.tables ≡ self.now.tables }
         ensures cells { result.cells ≡ self.now.cells }

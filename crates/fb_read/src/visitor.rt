@@ -28,8 +28,10 @@ pub trait Hearer {
     // What it knows of parts is of this buffer.
     ghost knows: { Self → Buffer → Type 0 };
 
-    /// Hears of a part behind the reference at a position, with so many tables above it and cells spent before it.
-    /// What a visit takes, where it knows that: then the walk passes over the part.
+    /// Called when the walk comes to the part behind the reference at `reference_at`, with so many tables above it and
+    /// cells spent before it. Returns what a visit of it takes, if that is known: then the walk passes over the part.
+    ///
+    /// A part that isn't passed over is left once: by `leave`, or by `hear` of `Step::Reference` behind a fault in it.
     fn come_to(
         &mut self,
         buffer: &Buffer,
@@ -44,7 +46,7 @@ pub trait Hearer {
         ensures same { self.new ≡ self.old }
         ensures visit { IfSome result (Takes buffer.now (part_at buffer.now part at) tables spent) };
 
-    /// Hears what the visit of a part has taken that found no fault.
+    /// Called when the visit of a part has found no fault, with what it took.
     fn leave(&mut self, buffer: &Buffer, part: Part, at: usize, visited: Visited)
         requires knows { knows self.old buffer.now }
         requires visited { IsVisited buffer.now (part_at buffer.now part at) visited }
@@ -82,8 +84,9 @@ pub trait Visitor {
     // What it knows of parts is of this buffer.
     ghost knows: { Self → Buffer → Type 0 };
 
-    /// Comes to a part behind the reference at a position, with so many tables above it and cells spent before it.
-    /// What is kept of the part and what a visit takes, where it knows that: then the walk passes over the part.
+    /// Called when the walk comes to the part behind the reference at `reference_at`, with so many tables above it and
+    /// cells spent before it. Returns what is kept of it and what a visit takes, if that is known: then the walk passes
+    /// over the part.
     fn come_to(
         &mut self,
         buffer: &Buffer,
@@ -99,7 +102,7 @@ pub trait Visitor {
         ensures visit { IfSome result (λ known. Takes buffer.now (part_at buffer.now part at) tables spent known.1) }
         ensures kept { IfSome result (λ known. KeepsAt keeps buffer.now (part_at buffer.now part at) known.0) };
 
-    /// Leaves a part, the visit of which has found no fault and taken so much.
+    /// Called when the visit of a part has found no fault, with what it took.
     fn leave(&mut self, buffer: &Buffer, part: Part, at: usize, visited: Visited)
         requires knows { knows self.old buffer.now }
         requires visited { IsVisited buffer.now (part_at buffer.now part at) visited }

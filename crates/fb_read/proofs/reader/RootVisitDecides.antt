@@ -1,5 +1,5 @@
 -- A visit from the root decides whether the buffer holds a value.
-use Rattle.std.proofs.Common.{◌≡◌, ℕ, ◌+◌, Option, None, Some, Result, Ok, Err, refl}
+use Rattle.std.proofs.Common.{◌≡◌, ℕ, ◌+◌, List, Option, None, Some, Result, Ok, Err, refl, ap}
 use Rattle.fb_layout.specs.Laid.{LaidSchema}
 use Rattle.fb_layout.specs.WellMade.{IsWellMade}
 use Rattle.fb_value.specs.declared.faults.ReadFault.{ReadFault}
@@ -12,6 +12,10 @@ use Rattle.fb_value.specs.Faults.{fault_from}
 use Rattle.fb_value.proofs.rules.ComputedFaultIsTheLeast.{from_none}
 use Rattle.fb_value.specs.Holds.{HoldsBehind, NoFaultBehind, RefusesBehind, root_at}
 use Rattle.fb_value.proofs.held.BytesHoldAValueOrAFault.{outcome_shown}
+use Rattle.fb_read.specs.declared.buffer.Buffer.{Buffer}
+use Rattle.fb_read.specs.declared.step.Step.{Step}
+use Rattle.fb_read.specs.declared.verdict.Verdict.{Verdict}
+use Rattle.fb_read.specs.FaultPaths.{Hears}
 use Rattle.fb_read.specs.Values.{Gives, Finds}
 use Rattle.fb_read.specs.Visits.{outcome, visit}
 
@@ -22,6 +26,19 @@ err_told (Some g) n f e = let is : g ≡ f = cc in rw is refl
 pub ok_told : (o : Option ReadFault) (n m : ℕ) → outcome o n ≡ Ok m → o ≡ None
 ok_told None n m e = refl
 ok_told (Some g) n m e = cc
+
+-- What a hearer heard of a verdict's walk.
+pub hearer_hears : {H T : Type 0} (told : H → List Step → H → Type 0) (buffer : Buffer) (o : Option Place)
+    (tables spent : ℕ) (v w : Verdict H) (r : Result T ReadFault)
+    → Hears ⊥ (λ first steps last. told first.hearer steps last.hearer) buffer o tables spent v w r
+    → Hears ⊥ told buffer o tables spent v.hearer w.hearer r
+hearer_hears told buffer o tables spent v w (Ok y) same = ap (λ verdict. verdict.hearer) same
+hearer_hears told buffer o tables spent v w (Err f) hears = λ lasts. let told_of = hears lasts in record {
+  steps = told_of.steps;
+  fault = told_of.fault;
+  heard = told_of.heard;
+  leads = told_of.leads;
+}
 
 -- A visit that takes no memory finds the first fault, if there is one.
 pub visit_finds : {T : Type 0} (L : LaidSchema) (b : Bytes) (most : Bounds) (x : Place) (tables spent after : ℕ)

@@ -1,15 +1,15 @@
 -- A part at which a visit found no fault is free of faults for each visit with no more tables above it and cells left.
-use Rattle.std.proofs.Common.{◌≡◌, ℕ, zero, suc, ◌+◌, ◌≤◌, List, [], ◌∷◌, Option, None, Some, Ok, refl, sym, ap}
+use Rattle.std.proofs.Common.{◌≡◌, ℕ, zero, suc, ◌+◌, ◌≤◌, List, [], ◌∷◌, Option, None, Some, Ok, refl}
 use Rattle.std.proofs.Common.{nat_le, arith}
 use Rattle.std.proofs.lemmas.Bool.{leb-true, le-leb}
 use Rattle.fb_layout.specs.Laid.{LaidSchema}
 use Rattle.fb_value.specs.declared.faults.ReadFault.{ReadFault}
 use Rattle.fb_value.specs.declared.faults.ReadFault.TheVariants.{TooDeep, TooManyCells}
 use Rattle.fb_value.specs.Bounds.{Bounds}
-use Rattle.fb_value.specs.Num.{Bytes, num}
-use Rattle.fb_value.specs.Places.{table_part, member_part, text_part, vector_part, Sort, ref_place, part_place}
-use Rattle.fb_value.specs.Places.{inline_place, code_place, unknown_place, Place, named}
-use Rattle.fb_value.specs.Rules.{Keeps, fault_at, first_failing}
+use Rattle.fb_value.specs.Num.{Bytes}
+use Rattle.fb_value.specs.Places.{table_part, member_part, text_part, vector_part, Sort, part_place}
+use Rattle.fb_value.specs.Places.{Place, named}
+use Rattle.fb_value.specs.Rules.{fault_at, first_failing}
 use Rattle.fb_value.specs.Faults.{own_cells, own_tables, sum_over, all, limit_rules, limited_fault, or_else}
 use Rattle.fb_value.specs.Faults.{first_among, first_fault, fault_from, levels}
 use Rattle.fb_value.proofs.rules.ComputedFaultIsTheLeast.{all_is, or_none, limited_none}

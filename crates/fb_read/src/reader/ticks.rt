@@ -1,7 +1,7 @@
 //! The counter that one reading begins and its walk can't forge.
 //!
 //! What a walk enters is bounded by the counter that it borrows. A walk that made a counter of its own
-//! could enter each table twice and count it once. So only `read` and `verify` can make this one.
+//! could enter each table twice and count it once. So only the module `reader` makes this one.
 ghost use Rattle.std.specs.Prelude.{◌≡◌, ◌+◌, ◌-◌};
 
 use crate::entries::Entries;
@@ -21,7 +21,8 @@ impl Model for Ticks {
     ghost view = { λ ticks. ticks.entries.count };
 }
 
-/// How many tables, vectors and texts a walk has entered at a part. It can't count itself, and takes no bytes.
+/// How many tables, vectors and texts a walk has entered at a part. Only a walk makes one, and it takes no bytes at run
+/// time.
 #[derive(Drop)]
 pub struct Counted {
     entries: Entries,
@@ -36,7 +37,7 @@ impl Model for Counted {
 }
 
 impl Counted {
-    /// The same once more.
+    /// A copy.
     #[inline(always)]
     pub fn copied(&self) -> Counted
         ensures { result ≡ self.now }

@@ -1,6 +1,7 @@
+use Rattle.std.proofs.Common.{Some}
 use Rattle.fb_value.specs.Holds.{root_at, front_of}
 use Rattle.fb_read.specs.Walks.{limits_of}
-use Rattle.fb_read.proofs.reader.RootVisitDecides.{visit_finds}
+use Rattle.fb_read.proofs.reader.RootVisitDecides.{visit_finds, hearer_hears}
 use Rattle.fb_read.proofs.reader.visit_buffer.Goals as goal
 
 pub returns : goal.returns
@@ -9,7 +10,11 @@ returns g c =
     let L = buffer.layout.now in
     let given = rw (c.root-root.ensures, c.front_of.ensures.exact, c.schema.ensures.schema) at
     c.visit_table_behind-visited.ensures.visit in
+    let hears = rw (c.root-root.ensures, c.front_of.ensures.exact, c.schema.ensures.schema) at
+    c.visit_table_behind-visited.ensures.hears in
     record {
       finds = visit_finds L buffer.bytes.now (limits_of buffer) (root_at L (front_of c.args.prefixed)) 0 0 _
           c.visit_table_behind-visited.result given;
+      hears = hearer_hears g.H.Hearer.told buffer (Some (root_at L (front_of c.args.prefixed))) 0 0 _ _
+          c.visit_table_behind-visited.result hears;
     }

@@ -1,4 +1,4 @@
-use Rattle.std.proofs.Common.{◌≡◌, ◌+◌, ◌-◌, ◌≤◌, Ok, arith}
+use Rattle.std.proofs.Common.{◌≡◌, ◌+◌, ◌-◌, Ok, arith}
 use Rattle.fb_read.specs.Visited.{part_at}
 use Rattle.fb_read.specs.Walks.{visit_in, limits_of}
 use Rattle.fb_read.proofs.visit_tables.VisitsTakeTheSameAgain.{visit_rises, visit_again}
