@@ -37,7 +37,7 @@ impl<'a> Model for KnownVisits<'a> {
 impl<'a> KnownVisits<'a> {
     /// None is known yet of a buffer.
     pub(crate) fn new(alloc: Global, buffer: Buffer<'a>) -> KnownVisits<'a>
-        ensures { result ≡ buffer }
+        ensures { result ≡ buffer.entry }
     {
         KnownVisits {
             buffer,
@@ -68,9 +68,10 @@ impl<'a> KnownVisits<'a> {
         }
     }
 
-    /// Notes what a visit of a part takes, and returns its number.
+    /// Notes what a visit of a part takes, and returns its number: that of an earlier visit, if there was one.
     pub(crate) fn note(
         &mut self,
+        earlier: Option<usize>,
         part: Part,
         at: usize,
         visited: Visited,
@@ -78,6 +79,12 @@ impl<'a> KnownVisits<'a> {
         requires { IsVisited self.old (part_at self.old part at) visited }
         ensures { self.new ≡ self.old }
     {
+        if let Some(number) = earlier
+            && number < self.visits.len()
+        {
+            self.visits[number] = KnownVisit { part, at, visited };
+            return Ok(number);
+        }
         let number = self.visits.len();
         self.visits.push(KnownVisit { part, at, visited })?;
         Ok(number)

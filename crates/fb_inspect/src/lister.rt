@@ -14,7 +14,7 @@ pub(crate) struct Lister<'a> {
     notes: Notes<'a>,
 }
 
-// A walk tells nothing from what is noted.
+// No contract depends on what is noted.
 impl<'a> Model for Lister<'a> {
     ghost use Rattle.fb_read.specs.declared.buffer.Buffer.{Buffer as ReadBuffer};
 
@@ -28,7 +28,7 @@ impl<'a> Model for Lister<'a> {
 impl<'a> Lister<'a> {
     /// Nothing is known of a buffer yet, but what was noted before.
     pub(crate) fn new(alloc: Global, buffer: Buffer<'a>, notes: Notes<'a>) -> Lister<'a>
-        ensures { result ≡ buffer }
+        ensures { result ≡ buffer.entry }
     {
         Lister {
             known: KnownVisits::new(alloc, buffer),
@@ -65,8 +65,11 @@ impl<'a> Hearer for Lister<'a> {
     }
 
     fn leave(&mut self, _buffer: &Buffer, part: Part, at: usize, visited: Visited) {
-        let visit = self.known.note(part, at, visited).ok();
-        self.notes.leave(visit);
+        let earlier = self.notes.visit();
+        match self.known.note(earlier, part, at, visited) {
+            Ok(visit) => self.notes.leave(visit),
+            Err(_) => self.notes.is_cut = true,
+        }
     }
 
     fn hear(&mut self, step: Step) {

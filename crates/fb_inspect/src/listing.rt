@@ -36,8 +36,9 @@ pub struct Listing<'a> {
     nodes: Nodes,
     pieces: Vec<Piece>,
     fault: Option<ReadFault>,
-    /// The steps back from a fault that isn't of the front, the last one first.
-    way_back: Option<Vec<Step>>,
+    /// The steps back from the fault, the last one first, and whether it has a path, since it isn't of the front.
+    way_back: Vec<Step>,
+    has_path: bool,
     /// The next piece, and the next of its details.
     next: usize,
     detail: u32,
@@ -112,8 +113,8 @@ fn end_unknown(pieces: &mut Vec<Piece>) {
 impl<'a> Listing<'a> {
     /// The listing of a buffer, up to its fault if it has one.
     ///
-    /// `raw` skips the file identifier check, and a `prefixed` buffer has the count of its bytes in front. It takes
-    /// memory for a list of the parts, each with its fields, and fails where that is refused.
+    /// `raw` skips the file identifier check, and a `prefixed` buffer has the count of its bytes in front. It
+    /// allocates a list of the parts, each with its fields, and fails where memory runs out.
     pub fn of(
         alloc: Global,
         layout: &'a Layout,
@@ -151,7 +152,8 @@ impl<'a> Listing<'a> {
             nodes,
             pieces,
             fault,
-            way_back: if is_walked { Some(way_back) } else { None },
+            way_back,
+            has_path: is_walked,
             next: 0,
             detail: 0,
             covered: 0,
@@ -262,9 +264,9 @@ impl<'a> Listing<'a> {
             page.push_str(" slot ");
             page.push_number(u64::from(slot));
         }
-        if let Some(steps) = &self.way_back {
+        if self.has_path {
             page.push_str(" of ");
-            let path = path_back(self.alloc, self.layout, steps.as_slice());
+            let path = path_back(self.alloc, self.layout, self.way_back.as_slice());
             if let Some(path) = page.keep(path) {
                 push_cut_path(page, path.as_str());
             }

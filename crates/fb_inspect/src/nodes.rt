@@ -51,7 +51,7 @@ pub(crate) struct Node {
     /// The part that the reference is in, and which of its slots or elements it is. The root is its own parent.
     pub parent: u32,
     pub number: u32,
-    /// How many references lead to it.
+    /// How many references lead to it, counted for each type of the part that they are in.
     pub references: u32,
     /// The number of what is known of its visit.
     pub visit: Option<usize>,
@@ -78,8 +78,8 @@ impl Nodes {
 
     /// The number of the part at a position, and whether it is reached for the first time.
     ///
-    /// `from` is the part that the reference is in, and which of its slots or elements it is. Whether it `counts`
-    /// among the references to the part is told.
+    /// `from` is the part that the reference is in, and which of its slots or elements it is. `counts` says whether the
+    /// reference is counted.
     pub(crate) fn reach(
         &mut self,
         lead: Lead,
@@ -113,9 +113,9 @@ impl Nodes {
     }
 
     /// Notes the number of what is known of a part's visit.
-    pub(crate) fn set_visit(&mut self, number: u32, visit: Option<usize>) {
+    pub(crate) fn set_visit(&mut self, number: u32, visit: usize) {
         if let Some(node) = self.nodes.get_mut(number as usize) {
-            node.visit = visit;
+            node.visit = Some(visit);
         }
     }
 

@@ -1,4 +1,6 @@
 //! The pieces of a buffer, noted part by part as a walk comes to them.
+ghost use Rattle.std.specs.Prelude.{◌<◌, ◌^◌};
+
 use crate::nodes::{Lead, Nodes};
 use crate::pieces::{Piece, What};
 use fb_index::HashKey;
@@ -34,6 +36,8 @@ pub(crate) struct Notes<'a> {
     /// Whether something is missing since memory ran out.
     pub is_cut: bool,
     open: Vec<Open<'a>>,
+    /// How many fields were noted that the tables' types don't have.
+    unknown: usize,
 }
 
 /// A position as it is noted. Only the target of a last reference, past the bytes, may be beyond it.
@@ -53,6 +57,7 @@ impl<'a> Notes<'a> {
             is_walked: false,
             is_cut: false,
             open: Vec::new(alloc),
+            unknown: 0,
         }
     }
 
@@ -111,11 +116,19 @@ impl<'a> Notes<'a> {
 
     /// Notes that the walk passes over the part that it came to.
     pub(crate) fn pass_over(&mut self) {
-        self.open.pop();
+        if !self.is_cut {
+            self.open.pop();
+        }
+    }
+
+    /// The number of what is known of an earlier visit of the part that the walk is at.
+    pub(crate) fn visit(&self) -> Option<usize> {
+        let open = self.open.last()?;
+        self.nodes.get(open.node)?.visit
     }
 
     /// Notes that the walk leaves a part, and the number of what is known of its visit.
-    pub(crate) fn leave(&mut self, visit: Option<usize>) {
+    pub(crate) fn leave(&mut self, visit: usize) {
         if self.is_cut {
             return;
         }
@@ -261,7 +274,11 @@ impl<'a> Notes<'a> {
         let Some(field) = self.layout.slots_of(table.table).get(usize::from(slot)) else {
             let size = usize::from(u16_within(self.bytes, table.vtable_at().saturating_add(2)));
             let left = size.saturating_sub(offset).max(1);
-            self.note(node, at, left, What::UnknownField(slot));
+            // Tables that overlap may have more of them than there are bytes.
+            if self.unknown < self.bytes.len() {
+                self.unknown = self.unknown.saturating_add(1);
+                self.note(node, at, left, What::UnknownField(slot));
+            }
             return None;
         };
         let size = match field.shape {
