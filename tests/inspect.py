@@ -591,12 +591,40 @@ def many_ways(tests):
     tests.expect("a million ways", ["inspect", "s.fbs", "b.bin"], 0, out=start + b"\n    " + last)
     write("b.bin", chain(25))
     inspected, checked = (cpu_of(tests, [job, "s.fbs", "b.bin"]) for job in ("inspect", "check"))
-    tests.tell("thirty million ways are listed in a part of the time of a check", inspected < checked / 4, f"{inspected} s, check {checked} s")
+    told = f"{inspected} s, check {checked} s"
+    tests.tell("thirty million ways are listed in a part of the time of a check", inspected < checked / 4, told)
     for name, levels, fault in [("ways past the limit", 40, b"63 TooManyCells"), ("too deep", 70, b"62 TooDeep")]:
         write("b.bin", chain(levels))
         done = tests.run(["inspect", "s.fbs", "b.bin"])
         good = done.returncode == 1 and done.stderr.startswith(fault) and b" FAULT " + fault in done.stdout
         tests.tell(name, good and covers(done.stdout, len(chain(levels))), repr(done.stdout[-300:]))
+
+
+def joined(before, behind):
+    """A root that refers to a chain of tables, and to one before it that leads there too."""
+    data = u32(24) + u16(8, 12, 4, 8) + u16(4, 4) + u16(6, 8, 4) + bytes(2)
+    data += i32(24 - 4) + u32(8 + 8 * before) + u32(4)
+    for _ in range(before + behind):
+        data += i32(len(data) - 16) + u32(4)
+    return data + i32(len(data) - 12)
+
+
+def deeper(tests):
+    """A part that is reached again with more tables above it is listed once, and may be too deep there.
+
+    The table of level k behind the root is at 36 + 8 (k - 2), and 64 levels are the most.
+    """
+    write("s.fbs", CHAIN.encode())
+    write("b.bin", joined(20, 30))
+    done = tests.run(["inspect", "s.fbs", "b.bin"])
+    tables = [one for one in done.stdout.splitlines() if b": table T" in one]
+    shared = [one for one in tables if b"shared" in one]
+    good = done.returncode == 0 and len(tables) == 52 and len(shared) == 1
+    tests.tell("a chain that is reached by two ways", good and b" a: table T" in shared[0], repr(done.stdout[-300:]))
+    write("b.bin", joined(40, 30))
+    done, checked = (tests.run([job, "s.fbs", "b.bin"]) for job in ("inspect", "check"))
+    good = done.returncode == 1 and done.stderr == checked.stderr == b"62 TooDeep at 540\n"
+    tests.tell("too deep by the second way", good, repr(done.stderr))
 
 
 def covers(out, length):
@@ -706,4 +734,4 @@ def headers(tests):
 
 if __name__ == "__main__":
     PROGRAM = program_of(sys.argv, __doc__)
-    sys.exit(Tests("inspect", PROGRAM).main([rows, faults, size_prefixed, many_ways, headers, large, damaged]))
+    sys.exit(Tests("inspect", PROGRAM).main([rows, faults, size_prefixed, many_ways, deeper, headers, large, damaged]))

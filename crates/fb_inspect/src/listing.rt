@@ -79,7 +79,10 @@ fn collect<'a>(
     let (lister, visited) = visit_buffer(&buffer, lister, prefixed);
     let mut notes = lister.into_notes();
     notes.is_walked = true;
-    (notes, visited.err())
+    match visited {
+        Ok(()) => (notes, None),
+        Err(fault) => (notes, Some(fault)),
+    }
 }
 
 /// Notes where a fault is.
