@@ -113,6 +113,17 @@ fn end_unknown(pieces: &mut Vec<Piece>) {
     }
 }
 
+/// The pieces of a buffer in their order, with the gaps between them.
+fn in_order(alloc: Global, pieces: Vec<Piece>, bytes: &[u8]) -> Result<Vec<Piece>, AllocError>
+    ensures covers { IfOk result (λ all. CoversBelow all.items (min (length bytes.now) 4294967295)) }
+{
+    let mut pieces = pieces;
+    pieces.sort_by_key(|piece| piece.start)?;
+    end_unknown(&mut pieces);
+    let len = bytes.len().min(u32::MAX as usize) as u32;
+    without_gaps(alloc, pieces.as_slice(), len)
+}
+
 impl<'a> Listing<'a> {
     /// The listing of a buffer, up to its fault if it has one.
     ///
@@ -135,7 +146,7 @@ impl<'a> Listing<'a> {
         }
         let Notes {
             nodes,
-            mut pieces,
+            pieces,
             way_back,
             is_walked,
             is_cut,
@@ -144,10 +155,7 @@ impl<'a> Listing<'a> {
         if is_cut {
             return Err(AllocError);
         }
-        pieces.sort_by_key(|piece| piece.start)?;
-        end_unknown(&mut pieces);
-        let len = bytes.len().min(u32::MAX as usize) as u32;
-        let pieces = without_gaps(alloc, pieces.as_slice(), len)?;
+        let pieces = in_order(alloc, pieces, bytes)?;
         Ok(Listing {
             alloc,
             layout,
