@@ -6,7 +6,8 @@ ghost use Rattle.serde_json.specs.View.{items_view, view as tree_view};
 ghost use Rattle.fb_pieces.specs.InBrackets.{in_arrays, in_brackets};
 ghost use Rattle.fb_encode.specs.TextsRead.{IsRead, IsReadAs};
 
-use fb_pieces::{Cuts, leading_blanks, string_of, text_is_read_without_brackets};
+use fb_pieces::{Cuts, LONG_PART, leading_blanks, string_of, text_is_read_without_brackets};
+use fb_schema::Kind;
 use json::Scratch;
 use serde_json::Value as Json;
 use std::alloc::{AllocError, Global};
@@ -64,9 +65,14 @@ impl Reader {
         })
     }
 
-    /// The most bytes of an excerpt that is read at once, where it can be cut.
-    pub(crate) fn most(&self) -> usize {
-        self.most
+    /// Whether an element of a vector is read on its own: one that can be cut, or a string so long that putting it into
+    /// brackets would take longer.
+    pub(crate) fn reads_alone(&self, element: &[u8], kind: Kind) -> bool {
+        let most = match kind {
+            Kind::Text => self.most / LONG_PART,
+            _ => self.most,
+        };
+        element.len() > most
     }
 
     /// Whether an excerpt is cut, if it can be.

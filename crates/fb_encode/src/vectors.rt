@@ -147,7 +147,7 @@ fn note_run(
     text_is_read_without_brackets();
     elements_make_the_array();
     let text = &array.text[run.elements.start..run.elements.end];
-    if run.count == 1 && text.len() > walk.reader.most() {
+    if run.count == 1 && walk.reader.reads_alone(text, elements.kind) {
         let excerpt = Excerpt {
             text,
             brackets: array.brackets - 1,

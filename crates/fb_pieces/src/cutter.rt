@@ -1,5 +1,5 @@
 //! What notes the cuts of a text, block by block.
-use crate::cuts::{Cuts, RunEnd};
+use crate::cuts::{Cuts, LONG_PART, RunEnd};
 use crate::walk::{BLOCK, brackets, commas, lowest, opening};
 use std::alloc::{AllocError, Global};
 use std::simd::prelude::*;
@@ -57,7 +57,7 @@ impl Cutter {
     pub(crate) fn new(alloc: Global, most: usize) -> Cutter {
         Cutter {
             most,
-            noted: most / 4,
+            noted: most / LONG_PART,
             depth: 0,
             starts: [0; MOST_OPEN],
             open: Vec::new(alloc),
@@ -277,12 +277,25 @@ impl Cutter {
             if rest == 0 {
                 break;
             }
+            let from = open.from;
             let (run, behind) = open.cut(at, rest);
+            if open.most != self.most {
+                open.most = most_without_brackets(self.most, from, run);
+            }
             self.waiting.push(run)?;
             rest = behind;
         }
         Ok(())
     }
+}
+
+/// The most bytes of the next run of an array whose elements have no brackets: none, so that it is one element, where
+/// those of the last run are long.
+fn most_without_brackets(most: usize, from: usize, run: RunEnd) -> usize {
+    if run.at.saturating_sub(from) >= run.count.saturating_mul(most / LONG_PART) {
+        return 0;
+    }
+    most.saturating_mul(WITHOUT_BRACKETS)
 }
 
 impl Open {
