@@ -6,14 +6,16 @@ usage: tools/mutations.py [CRATE..]      tries the edits of all crates, or of th
        tools/mutations.py --not-compiled tries the edits of crates/*/not-compiled instead
 
 An edit has the form that rt gives those in must-fail/: lines 'file: src/lib.rt', and then pairs of lines 'old: TEXT'
-and 'new: TEXT', where the old text is in that file exactly once. rt ci tries them as its own, in a copy of the tree
-where they stand in must-fail/. The last line is 'N refused, M not refused'.
+and 'new: TEXT', where the old text is in that file exactly once. rt ci proves the crates below, in a copy of the tree.
+Each crate is proved once, and over what that leaves each of its edits is tried: in the modules that it changes, and in
+the whole crate where these are still proved. The last line is 'N refused, M not refused'.
 
 An edit in crates/*/not-compiled writes what can't even be compiled, and has a line 'error: NAME' more: the compiler has
 to refuse it with that error, and no other. rt ci has to have left the crates below. The last line is
 'N passed, M failed'.
 """
 import argparse
+import concurrent.futures
 import glob
 import os
 import re
@@ -22,7 +24,7 @@ import subprocess
 import sys
 import tempfile
 
-from build import ROOT, below, copy_crates, over_gate, prove, read_crates
+from build import MOST_JOBS_OF_A_CRATE, ROOT, below, copy_crates, jobs_here, over_gate, prove, read_crates
 
 
 def edited(edit, folder):
@@ -106,22 +108,89 @@ def do_none_compile(crates):
     return failed or not passed
 
 
-def try_all(crates, names):
+def modules_of(paths):
+    """The modules of some files of a crate, or none where one isn't that of a module."""
+    found = [re.fullmatch(r"src/(.+)\.rt", it) for it in paths]
+    if not all(found) or any(it[1] == "lib" for it in found):
+        return []
+    return [it[1].replace("/", "::") for it in found]
+
+
+def check(words, folder):
+    """Whether a crate is proved: None where the prover gives no verdict. And what is said of it."""
+    how = {"stdin": subprocess.DEVNULL, "stdout": subprocess.PIPE, "stderr": subprocess.STDOUT, "errors": "replace"}
+    ran = subprocess.run(words, cwd=folder, check=False, **how)
+    lines = ran.stdout.rstrip("\n").split("\n")
+    if ran.returncode == 0:
+        return True, lines
+    judged = ran.returncode == 1 and re.match(r"logic=not-proved|only=", lines[-1])
+    return False if judged else None, lines
+
+
+def reason(lines):
+    """What an edit is refused for: None where its text can't be read, so that nothing was tried."""
+    said = [it for it in lines if re.search(r":\d+:\d+:? ", it) and (": error" in it or it.startswith("note: "))]
+    unread = r"(src|specs)/\S+: error: .*(is not in scope|has no field|is no name|operand is missing|cannot continue)"
+    return None if not said or any(re.match(unread, it) for it in said) else said[0]
+
+
+def try_edit(edit, name, words, seed):
+    """Whether the prover refuses an edit, over what it left of the crate as it stands; and what to say."""
+    with tempfile.TemporaryDirectory(prefix=f"mutation-{name}-") as room:
+        folder = shutil.copytree(f"{ROOT}/crates/{name}", f"{room}/{name}", ignore=shutil.ignore_patterns("out"))
+        texts, why = edited(edit, folder)
+        if texts is None:
+            return False, f"can't be applied: {why}"
+        for path, text in texts.items():
+            with open(f"{folder}/{path}", "w", encoding="utf-8") as it:
+                it.write(text)
+        # The prover replaces files there, and changes none.
+        shutil.copytree(seed, f"{room}/seed", symlinks=True, copy_function=os.link)
+        words = [*words, "--jobs", "1", "--incremental", f"{room}/seed"]
+        for only in [*(["--only", it] for it in modules_of(texts)), []]:
+            proved, lines = check([*words, *only], folder)
+            if proved is None:
+                return False, "\n".join(["is not tried, since the prover gives no verdict:", *lines[-6:]])
+            if not proved:
+                why = reason(lines)
+                return bool(why), f"refused, as it must be: {why[:160]}" if why else "can't be read by the prover"
+    return False, "NOT REFUSED: the crate is still proved with it"
+
+
+def try_crate(crates, name, top):
+    """Tries the edits of a crate over the libraries below; returns how many were refused."""
+    words, jobs = over_gate(crates, name, "check", top)[1], jobs_here()
+    with tempfile.TemporaryDirectory(prefix=f"seed-{name}-") as seed:
+        more = ["--jobs", str(min(jobs, MOST_JOBS_OF_A_CRATE)), "--incremental", seed]
+        proved, lines = check([*words, *more], f"{ROOT}/crates/{name}")
+        if not proved:
+            print(f"{name} isn't proved:", *lines[-6:], sep="\n")
+            return 0
+        with concurrent.futures.ThreadPoolExecutor(jobs) as pool:
+            edits = edits_of(name)
+            refused = 0
+            for edit, (well, said) in zip(edits, pool.map(lambda it: try_edit(it, name, words, seed), edits)):
+                refused += well
+                print(f"{os.path.relpath(edit, ROOT)}: {said}", flush=True)
+    return refused
+
+
+def try_all(crates, names, top):
     """Tries the edits of some crates; returns how many weren't refused."""
     names = [it for it in names if edits_of(it)]
-    wanted = [it for it in crates if it in names or any(it in below(crates, name) for name in names)]
+    wanted = [it for it in crates if any(it in below(crates, name) for name in names)]
     wanted.sort(key=lambda it: len(below(crates, it)))
+    refused = 0
     with tempfile.TemporaryDirectory(prefix="mutations-") as room:
-        copy_crates(crates, wanted, room)
+        if not top:
+            copy_crates(crates, wanted, room)
+            if not prove(room, len(wanted)):
+                return 1
         for name in names:
-            shutil.copytree(f"{ROOT}/crates/{name}/mutations", f"{room}/crates/{name}/must-fail")
-        passed, tried = prove(room, len(wanted))
-    refused = sum(": refused, as it must be" in it for it in tried)
+            refused += try_crate(crates, name, top or room)
     left = sum(len(edits_of(it)) for it in names) - refused
-    if passed is not True:
-        print(passed, end="")
     print(f"{refused} refused, {left} not refused")
-    return left or passed is not True
+    return left
 
 
 def main():
@@ -129,13 +198,15 @@ def main():
     parser.add_argument("crates", nargs="*")
     parser.add_argument("--applies", action="store_true")
     parser.add_argument("--not-compiled", action="store_true")
+    parser.add_argument("--over", metavar="FOLDER", help="a tree where rt ci has left the crates below")
     given = parser.parse_args()
     crates = read_crates()
     if given.applies:
         return 1 if do_all_apply(crates) else 0
     if given.not_compiled:
         return 1 if do_none_compile(crates) else 0
-    return 1 if try_all(crates, [it for it in crates if it in given.crates or not given.crates]) else 0
+    names = [it for it in crates if it in given.crates or not given.crates]
+    return 1 if try_all(crates, names, given.over) else 0
 
 
 if __name__ == "__main__":
