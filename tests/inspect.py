@@ -4,8 +4,8 @@ from the FlatBuffers documentation ("FlatBuffer Internals").
 
 usage: tests/inspect.py PROGRAM
 
-Of thousands of damaged buffers each byte is in the range of some line, each line is plain and has 120 columns at most,
-and status and fault are those of check. The last line is 'N passed, M failed'.
+Of thousands of damaged buffers each byte is in the range of some line, no part is listed twice under one type, each line
+is plain and has 120 columns at most, and status and fault are those of check. The last line is 'N passed, M failed'.
 """
 import os
 import random
@@ -640,6 +640,11 @@ def covers(out, length):
     return all(covered)
 
 
+def parts(out):
+    """The tables, strings and vectors that are listed: where each begins, and its type."""
+    return re.findall(rb"^ *(\d+)\.\..*: ((?:table )?[^ ,]+), (?:vtable at|\d+ (?:byte|element))", out, re.M)
+
+
 def are_plain(out):
     return all(len(one) <= 120 and one.isprintable() for one in out.decode().splitlines())
 
@@ -695,10 +700,12 @@ def damaged(tests):
         words = [f"{which}.fbs", path]
         done = tests.run(["inspect", *words])
         checked = tests.run(["check", *words])
+        listed = parts(done.stdout)
         good = (
             (done.returncode, done.stderr) == (checked.returncode, checked.stderr)
             and covers(done.stdout, len(data)) and are_plain(done.stdout)
             and (done.returncode == 0) == (b" FAULT " not in done.stdout)
+            and len(listed) == len(set(listed))
         )
         if done.returncode == 1:
             fault = done.stderr.rstrip()
@@ -706,7 +713,7 @@ def damaged(tests):
             good = good and len(told) == 1 and b" FAULT " + fault in told[0]
             # each fault behind the header has its path
             good = good and (b" of " in told[0] or fault.split()[0] in (b"50", b"51", b"52"))
-        return good, data.hex(), which, done
+        return good, data.hex(), which, done, len(listed)
 
     with ThreadPoolExecutor(4) as pool:
         results = list(pool.map(inspect, cases))
@@ -714,6 +721,8 @@ def damaged(tests):
     tests.tell(f"{DAMAGED} damaged buffers", not wrong, f"{len(wrong)}, the first: {wrong[:1]}")
     broken = sum(result[3].returncode for result in results)
     tests.tell("of which many are refused", DAMAGED // 4 < broken < DAMAGED, str(broken))
+    listed = sum(result[4] for result in results)
+    tests.tell("and many parts are listed", listed > DAMAGED, str(listed))
 
 
 def headers(tests):

@@ -6,11 +6,15 @@ import hashlib
 import json
 import os
 import subprocess
+import sys
 import threading
 import time
 from array import array
 
 from harness import ONE, ROOT, content, write
+
+sys.path.append(f"{ROOT}/bench")
+from bench import Runner
 
 LONGEST = 2_147_483_647
 # Structs of 256 bytes: each level has two of the one before, the first two numbers of eight bytes.
@@ -29,15 +33,20 @@ LINE = 1_000
 ENOUGH = 20
 
 
+def parted(err):
+    """What a program told, and the seconds and the peak in megabytes of which bench/runner.c tells behind it."""
+    told, _, taken = err.rstrip(b"\n").rpartition(b"\n")
+    _, seconds, peak = taken.split()
+    return told + b"\n" if told else b"", float(seconds), int(peak) // 1024
+
+
 def measured(program, words, **more):
     """A run's status, what it told, its seconds and its greatest resident memory in megabytes."""
-    began = time.monotonic()
-    with subprocess.Popen([program, *words], stdin=subprocess.DEVNULL, stderr=subprocess.PIPE, **more) as child:
+    words = [Runner(".").program, program, *words]
+    with subprocess.Popen(words, stdin=subprocess.DEVNULL, stderr=subprocess.PIPE, **more) as child:
         out = child.stdout.read() if more.get("stdout") == subprocess.PIPE else b""
-        err = child.stderr.read()
-        _, status, usage = os.wait4(child.pid, 0)
-        child.returncode = os.waitstatus_to_exitcode(status)
-    return child.returncode, out, err, time.monotonic() - began, usage.ru_maxrss // 1024
+        err, seconds, memory = parted(child.stderr.read())
+    return child.returncode, out, err, seconds, memory
 
 
 def tell(tests, what, found, want):
@@ -156,11 +165,13 @@ def many_messages(tests, program):
     """2 GB of JSON lines, made on the fly, become buffers, and these the same lines again."""
     write("line.fbs", b"table T { n:uint; s:string; } root_type T;")
     given, returned = hashlib.sha256(), hashlib.sha256()
-    words = [program, "binary", "--lines", "line.fbs", "-", "-"]
+    runner = Runner(".").program
+    out = {"stdout": subprocess.PIPE, "stderr": subprocess.PIPE}
+    words = [runner, program, "binary", "--lines", "line.fbs", "-", "-"]
     began = time.monotonic()
-    with subprocess.Popen(words, stdin=subprocess.PIPE, stdout=subprocess.PIPE) as there:
-        words = [program, "json", "--lines", "line.fbs", "-"]
-        with subprocess.Popen(words, stdin=there.stdout, stdout=subprocess.PIPE) as back:
+    with subprocess.Popen(words, stdin=subprocess.PIPE, **out) as there:
+        words = [runner, program, "json", "--lines", "line.fbs", "-"]
+        with subprocess.Popen(words, stdin=there.stdout, **out) as back:
             there.stdout.close()
 
             def give():
@@ -176,9 +187,7 @@ def many_messages(tests, program):
             while piece := back.stdout.read(1 << 20):
                 returned.update(piece)
             giver.join()
-            ends = [os.wait4(child.pid, 0)[1:] for child in (there, back)]
-            there.returncode, back.returncode = (os.waitstatus_to_exitcode(status) for status, _ in ends)
-    memory = [usage.ru_maxrss // 1024 for _, usage in ends]
+            memory = [parted(child.stderr.read())[-1] for child in (there, back)]
     good = given.digest() == returned.digest() and (there.returncode, back.returncode) == (0, 0)
     tests.tell("2 GB of messages there and back", good, f"{there.returncode} {back.returncode}")
     tests.tell("the memory of 2 GB of messages", max(memory) < ENOUGH, f"{memory} MB")
