@@ -6,7 +6,7 @@ ghost use Rattle.serde_json.specs.View.{items_view, view as tree_view};
 ghost use Rattle.fb_pieces.specs.InBrackets.{in_arrays, in_brackets};
 ghost use Rattle.fb_encode.specs.TextsRead.{IsRead, IsReadAs};
 
-use fb_pieces::{Cuts, LONG_PART, leading_blanks, string_of, text_is_read_without_brackets};
+use fb_pieces::{Cuts, leading_blanks, string_of, text_is_read_without_brackets};
 use fb_schema::Kind;
 use json::Scratch;
 use serde_json::Value as Json;
@@ -65,14 +65,12 @@ impl Reader {
         })
     }
 
-    /// Whether an element of a vector is read on its own: one that can be cut, or a string so long that putting it into
-    /// brackets would take longer.
+    /// Whether the one element of a run is read on its own: a string, which needs no brackets, or what can be cut.
     pub(crate) fn reads_alone(&self, element: &[u8], kind: Kind) -> bool {
-        let most = match kind {
-            Kind::Text => self.most / LONG_PART,
-            _ => self.most,
-        };
-        element.len() > most
+        match kind {
+            Kind::Text => true,
+            _ => element.len() > self.most,
+        }
     }
 
     /// Whether an excerpt is cut, if it can be.

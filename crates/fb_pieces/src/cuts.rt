@@ -5,10 +5,6 @@ use std::alloc::{AllocError, Global};
 use std::collections::BTreeMap;
 use std::simd::prelude::*;
 
-/// What has this part of a run's bytes isn't short: in brackets it is noted, so that it can be passed over. A string is
-/// a run of its own, since it is read best where it stands.
-pub const LONG_PART: usize = 4;
-
 /// Where a run of an array's elements ends, and how many it seems to have.
 #[derive(Clone, Copy)]
 pub(crate) struct RunEnd {
@@ -24,8 +20,8 @@ struct Noted {
     behind: usize,
 }
 
-/// Where a text may be cut: its long arrays, with runs of their elements, and its long objects. What is neither long
-/// nor short is noted without runs.
+/// Where a text may be cut: its long arrays, with runs of their elements, and its long objects. What has a quarter of
+/// that length is noted without runs, so that it can be passed over.
 #[derive(Drop)]
 pub struct Cuts {
     parts: BTreeMap<usize, Noted>,
@@ -35,7 +31,7 @@ pub struct Cuts {
 impl Cuts {
     /// The cuts of a text, by one walk over it. Long is what has more than `most` bytes. A run is as many elements as
     /// have at most `most` bytes together, or one that has more; twice as many where none has brackets, or one where
-    /// those aren't short.
+    /// these are strings that aren't short.
     pub fn of(alloc: Global, text: &[u8], most: usize) -> Result<Cuts, AllocError> {
         let mut cutter = Cutter::new(alloc, most);
         let mut walk = Walk::START;

@@ -1,5 +1,5 @@
 //! What notes the cuts of a text, block by block.
-use crate::cuts::{Cuts, LONG_PART, RunEnd};
+use crate::cuts::{Cuts, RunEnd};
 use crate::walk::{BLOCK, brackets, commas, lowest, opening};
 use std::alloc::{AllocError, Global};
 use std::simd::prelude::*;
@@ -9,6 +9,10 @@ const MOST_OPEN: usize = 127;
 
 /// How many times as long a run may be whose elements have no brackets.
 const WITHOUT_BRACKETS: usize = 2;
+
+/// Elements without brackets that have this part of a run's bytes, or more, are runs of their own: long strings are
+/// read best where they stand.
+const LONG_STRING: usize = 16;
 
 /// How a walk goes on behind a block.
 #[derive(Clone, Copy)]
@@ -57,7 +61,7 @@ impl Cutter {
     pub(crate) fn new(alloc: Global, most: usize) -> Cutter {
         Cutter {
             most,
-            noted: most / LONG_PART,
+            noted: most / 4,
             depth: 0,
             starts: [0; MOST_OPEN],
             open: Vec::new(alloc),
@@ -289,11 +293,14 @@ impl Cutter {
     }
 }
 
-/// The most bytes of the next run of an array whose elements have no brackets: none, so that it is one element, where
-/// those of the last run are long.
+/// The most bytes of the next run of an array whose elements have no brackets. Where those of the last run are long, it
+/// is one element; behind one that isn't, few may follow.
 fn most_without_brackets(most: usize, from: usize, run: RunEnd) -> usize {
-    if run.at.saturating_sub(from) >= run.count.saturating_mul(most / LONG_PART) {
+    if run.at.saturating_sub(from) >= run.count.saturating_mul(most / LONG_STRING) {
         return 0;
+    }
+    if run.count == 1 {
+        return most / LONG_STRING;
     }
     most.saturating_mul(WITHOUT_BRACKETS)
 }

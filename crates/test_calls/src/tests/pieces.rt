@@ -99,6 +99,19 @@ const COUNTS: &[(usize, &[usize])] = &[
     (50, &[50, 50, 50, 50]),
 ];
 
+// Arrays of so many of an element, and then of others, with how many elements the runs seem to have. A run has at most
+// 64 bytes, or 128 where no element has brackets: 12 strings of nine bytes have 119 with their commas. Elements of four
+// bytes are long, and behind one that is shorter a run has at most four.
+const LONG_STRINGS: &[(&[(usize, &str)], &[usize])] = &[
+    (&[(15, "\"abcdefg\"")], &[12, 1, 1, 1]),
+    (
+        &[(13, "\"abcdefg\""), (6, "1"), (2, "\"abcdefg\"")],
+        &[12, 1, 1, 2, 5],
+    ),
+    (&[(15, "[\"abcdefg\"]")], &[5, 5, 5]),
+    (&[(65, "1")], &[64, 1]),
+];
+
 // What stands behind a piece.
 fn mark(is_last: bool) -> u8 {
     if is_last { b'.' } else { b'|' }
@@ -236,6 +249,23 @@ fn elements_of_several_blocks_are_counted(rt: HostRuntime) -> Result<(), Fail> {
     for (most, counts) in COUNTS {
         let (_, found) = shown_array(rt.alloc(), text.as_slice(), *most)?;
         assert_eq!(rt; found.as_slice(), *counts, "{most}");
+    }
+    Ok(())
+}
+
+#[test]
+fn long_strings_are_runs_of_their_own(rt: HostRuntime) -> Result<(), Fail> {
+    for (elements, counts) in LONG_STRINGS {
+        let mut text = Vec::new(rt.alloc());
+        for (count, element) in elements.iter() {
+            for _ in 0..*count {
+                text.push(if text.is_empty() { b'[' } else { b',' })?;
+                text.extend_from_slice(element.as_bytes())?;
+            }
+        }
+        text.push(b']')?;
+        let (_, found) = shown_array(rt.alloc(), text.as_slice(), 64)?;
+        assert_eq!(rt; found.as_slice(), *counts);
     }
     Ok(())
 }
