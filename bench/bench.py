@@ -5,8 +5,8 @@ usage: bench/bench.py PROGRAM [--only WORD] [--rounds N] [--keep FOLDER] [--flat
 
 Prints tables in Markdown: CPU time (user and system), time by the clock and peak memory of each program, the least of
 all rounds, in which the programs take turns, and the ratio of the first to the second. `--keep` leaves the documents in
-a folder. Where the program bench_json_parse is built (by `tools/build.py bench_json_parse`; `--parse` names another), the peak
-memory of parsing a JSON text alone is printed as well.
+a folder. Where the program bench_json_parse is built (by `tools/build.py bench_json_parse`; `--parse` names another),
+the peak memory of parsing a JSON text alone is printed as well.
 """
 import argparse
 import datetime

@@ -95,7 +95,9 @@ def flags(tests):
     tests.expect("raw buffers", ["check", "--raw-binary", "id.fbs", *bins(1, 2)], 0, b"ok\n")
     holds = {"out/default.json": b'{\n  "a": 0\n}\n'}
     tests.expect("defaults", ["json", "--defaults-json", "-o", "out", "one.fbs", "default.bin"], 0, holds=holds)
-    tests.expect("a raw text", ["json", "--raw-binary", "-o", "out", "id.fbs", *bins(1)], 0, holds={"out/1.json": two(1)[1]})
+    tests.expect(
+        "a raw text", ["json", "--raw-binary", "-o", "out", "id.fbs", *bins(1)], 0, holds={"out/1.json": two(1)[1]}
+    )
 
 
 def refused(tests):
@@ -109,7 +111,9 @@ def refused(tests):
     words = ["json", "-o", "out", "one.fbs", *bins("cut", 2)]
     tests.expect("a buffer", words, 1, err=cut, holds={"out/2.json": two(2)[1], "out/cut.json": None})
     tests.expect("of two that are checked", ["check", "one.fbs", *bins(1, "cut")], 1, err=cut)
-    tests.expect("one that is checked has no path", ["check", "one.fbs", "in/cut.bin"], 1, err=b"54 OutOfBounds at 16\n")
+    tests.expect(
+        "one that is checked has no path", ["check", "one.fbs", "in/cut.bin"], 1, err=b"54 OutOfBounds at 16\n"
+    )
     words = ["check", "one.fbs", "in", "missing", *bins("cut", 1), ""]
     told = b"in: 110 FileRead\nmissing: 110 FileRead\n" + cut + b": 110 FileRead\n"
     tests.expect("files that can't be read", words, 1, err=told)
@@ -168,7 +172,8 @@ def misused(tests):
     inputs()
     os.mkdir("again")
     write("again/1.json", two(9)[1])
-    misuse(tests, "two outputs of one name", ["binary", "-o", "out", "one.fbs", *jsons(2, 1), "again/1.json"], {"out/2.bin": None})
+    misuse(tests, "two outputs of one name", ["binary", "-o", "out", "one.fbs", *jsons(2, 1), "again/1.json"],
+           {"out/2.bin": None})
     misuse(tests, "one file twice", ["json", "-o", "out", "one.fbs", *bins(1, 1)], {"out/1.json": None})
     shutil.copy("in/1.bin", "again/7.json")
     held = {"again/7.json": two(1)[0], "again/2.json": None}
@@ -203,7 +208,9 @@ def replaced(tests):
     os.utime("out/1.bin", (1, 1))
     tests.expect("an output that is as it should be", words, 0, holds={"out/1.bin": two(1)[0]})
     found = os.stat("out/1.bin")
-    tests.tell("it stays, and its time is now", found.st_ino == was.st_ino and found.st_mtime >= was.st_mtime, f"{found}")
+    tests.tell(
+        "it stays, and its time is now", found.st_ino == was.st_ino and found.st_mtime >= was.st_mtime, f"{found}"
+    )
     write("out/2.json", b"old and longer than the text")
     tests.expect("a text that is there", ["json", "-o", "out", "one.fbs", *bins(2)], 0, holds={"out/2.json": two(2)[1]})
     write("far", b"old")
@@ -232,7 +239,9 @@ def streams(tests):
     inputs()
     with open("one.fbs", "rb") as schema:
         words = ["binary", "-o", "out", "-", *jsons(1, 2)]
-        tests.expect("the schema comes in", words, 0, holds={"out/1.bin": two(1)[0], "out/2.bin": two(2)[0]}, stdin=schema)
+        tests.expect(
+            "the schema comes in", words, 0, holds={"out/1.bin": two(1)[0], "out/2.bin": two(2)[0]}, stdin=schema
+        )
     with open("in/cut.bin", "rb") as buffer:
         told = b"-: 54 OutOfBounds at 16\n"
         tests.expect("a buffer comes in", ["check", "one.fbs", *bins(1), "-"], 1, err=told, stdin=buffer)
@@ -265,9 +274,12 @@ def explained(tests):
     for name in (b"in/bad.json", b"in/bad2.json", b"missing"):
         tests.tell(f"the explanation names {name}", long.stderr.count(name) >= 2, f"{long.stderr}")
     found = tests.run(["check", "--explain", "one.fbs", *bins("cut", 1)])
-    tests.tell("a buffer is explained", found.stderr.startswith(b"in/cut.bin: 54 OutOfBounds at 16\n") and found.stderr.count(b"\n") > 1)
+    tests.tell("a buffer is explained",
+               found.stderr.startswith(b"in/cut.bin: 54 OutOfBounds at 16\n") and found.stderr.count(b"\n") > 1)
     gone = tests.run(["json", "--explain", "-o", "gone", "one.fbs", *bins(1)])
-    tests.tell("a missing directory is explained", gone.stderr.startswith(UNWRITTEN) and b"gone" in gone.stderr, f"{gone}")
+    tests.tell(
+        "a missing directory is explained", gone.stderr.startswith(UNWRITTEN) and b"gone" in gone.stderr, f"{gone}"
+    )
     good = tests.run(["check", "--explain", "one.fbs", *bins(1, 2)])
     tests.tell("nothing to explain", (good.returncode, good.stdout, good.stderr) == (0, b"ok\n", b""), f"{good}")
 
@@ -322,7 +334,8 @@ def growths(tests):
     inputs()
     library = shim()
     line = re.compile(rb"(?:in/[123]\.(?:json|bin): )?" + MEMORY.pattern)
-    for words in (["binary", "-o", "out", "one.fbs", *jsons(1, 2, 3)], ["json", "-o", "out", "one.fbs", *bins(1, 2, 3)]):
+    for words in (["binary", "-o", "out", "one.fbs", *jsons(1, 2, 3)],
+                  ["json", "-o", "out", "one.fbs", *bins(1, 2, 3)]):
         ending = "bin" if words[0] == "binary" else "json"
         wanted = {f"out/{number}.{ending}": two(number)[words[0] == "json"] for number in (1, 2, 3)}
         for later in ("", "+"):
@@ -343,7 +356,9 @@ def growths(tests):
                 whole = len(made) == 3 and not lines and end.returncode == 0
                 if left or beside("out") or not (whole or (lines and told and end.returncode == 1)):
                     problems.append(f"growth {number}{later}: {end} made {made}, left {left}")
-            tests.tell(f"growths of {words[0]}{later}", not problems and number > 10, f"{number} growths; {problems[:3]}")
+            tests.tell(
+                f"growths of {words[0]}{later}", not problems and number > 10, f"{number} growths; {problems[:3]}"
+            )
 
 
 def timed(words, folder):
@@ -388,7 +403,9 @@ def times(tests):
 def main():
     tests = Tests("batches", program_of(sys.argv, __doc__))
     # The times come first: a file system may make files more slowly where many are gone.
-    parts = (times, done, flags, refused, schemas, named, misused, replaced, streams, explained, many, progress, growths)
+    parts = (
+        times, done, flags, refused, schemas, named, misused, replaced, streams, explained, many, progress, growths
+    )
     return tests.main(parts)
 
 

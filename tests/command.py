@@ -125,7 +125,8 @@ def jobs():
     row("json with defaults", ["json", "--defaults-json", "one.fbs", "default.bin"], 0, b'{\n  "a": 0\n}\n')
     row("check of a schema", ["check", "one.fbs"], 0, b"ok\n")
     row("check of a buffer", ["check", "one.fbs", "seven.bin"], 0, b"ok\n")
-    row("an unknown member", ["binary", "--unknown-json", "one.fbs", "more.json", "more.bin"], 0, files={"more.bin": SEVEN})
+    row("an unknown member", ["binary", "--unknown-json", "one.fbs", "more.json", "more.bin"], 0,
+        files={"more.bin": SEVEN})
     row("three megabytes of blanks", ["binary", "one.fbs", "long.json", "long.bin"], 0, files={"long.bin": SEVEN})
     row("the identifier unchecked", ["json", "--raw-binary", "test.fbs", "other.bin"], 0, b"{}\n")
     row("check with the identifier unchecked", ["check", "--raw-binary", "test.fbs", "other.bin"], 0, b"ok\n")
@@ -144,8 +145,11 @@ def refusals():
     refused("bad JSON", ["binary", "one.fbs", "bad.json", "kept.bin"], b"113 BadJson", kept)
     refused("JSON that is no UTF-8", ["binary", "one.fbs", "not_utf8.json", "kept.bin"], b"113 BadJson", kept)
     refused("an empty JSON text", ["binary", "one.fbs", "empty", "kept.bin"], b"113 BadJson", kept)
-    refused("a text for a number", ["binary", "one.fbs", "text.json", "kept.bin"], b"70 WrongShape in type 0 slot 0", kept)
-    refused("a member that the schema lacks", ["binary", "one.fbs", "more.json", "kept.bin"], b"74 UnknownMember in type 0", kept)
+    refused(
+        "a text for a number", ["binary", "one.fbs", "text.json", "kept.bin"], b"70 WrongShape in type 0 slot 0", kept
+    )
+    refused("a member that the schema lacks", ["binary", "one.fbs", "more.json", "kept.bin"],
+            b"74 UnknownMember in type 0", kept)
     refused(
         "a struct's field that is missing",
         ["binary", "structs.fbs", "structs.json", "kept.bin"],
@@ -163,7 +167,8 @@ def unions():
 
 def comparisons():
     row("a schema conforms to itself", ["conform", "one.fbs", "one.fbs"], 0, b"conforms\n")
-    refused("a field of another union", ["conform", "union_old.fbs", "union_new.fbs"], b"96 FieldTypeChanged in type 4 slot 0")
+    refused("a field of another union", ["conform", "union_old.fbs", "union_new.fbs"],
+            b"96 FieldTypeChanged in type 4 slot 0")
     refused("another default", ["conform", "one.fbs", "two.fbs"], b"97 DefaultChanged in type 0 slot 0")
     refused("an identifier more", ["conform", "one.fbs", "test.fbs"], b"91 IdentifierChanged")
     refused("the old schema is refused first", ["conform", "empty", "not_utf8.fbs"], b"old: 21 BadRoot at 0")
@@ -194,7 +199,8 @@ def files():
     refused("a missing schema", ["check", "missing"], b"110 FileRead")
     refused("a missing buffer", ["check", "one.fbs", "missing"], b"110 FileRead")
     refused("a folder", ["check", "folder"], b"110 FileRead")
-    refused("a missing JSON text leaves OUT alone", ["binary", "one.fbs", "missing", "kept.bin"], b"110 FileRead", {"kept.bin": b"kept"})
+    refused("a missing JSON text leaves OUT alone", ["binary", "one.fbs", "missing", "kept.bin"], b"110 FileRead",
+            {"kept.bin": b"kept"})
     refused("OUT in a missing folder", ["binary", "one.fbs", "seven.json", "missing/out"], b"111 FileWrite")
     refused("OUT is a folder", ["binary", "one.fbs", "seven.json", "folder"], b"111 FileWrite")
     refused("OUT is full", ["binary", "one.fbs", "seven.json", "/dev/full"], b"111 FileWrite")
@@ -316,7 +322,8 @@ def examples():
     row("the example's buffer is sound", ["check", schema, "monster.bin"], 0, b"ok\n")
     row("the example's text", ["json", schema, "monster.bin"], 0, text_wanted)
     open("monster.json", "wb").write(text_wanted)
-    row("the printed example means the same buffer", ["binary", schema, "monster.json", "again.bin"], 0, files={"again.bin": bytes_wanted})
+    row("the printed example means the same buffer", ["binary", schema, "monster.json", "again.bin"], 0,
+        files={"again.bin": bytes_wanted})
     newer = os.path.join(folder, "monster_v2.fbs")
     row("the example's next version conforms", ["conform", schema, newer], 0, b"conforms\n")
     refused("and not the other way round", ["conform", newer, schema], b"101 EnumChanged in type 1")
@@ -372,7 +379,9 @@ def hook():
 
 
 def shown():
-    done = subprocess.run([os.path.join(ROOT, "tests", "example.sh"), PROGRAM], capture_output=True, check=False, timeout=SECONDS)
+    done = subprocess.run(
+        [os.path.join(ROOT, "tests", "example.sh"), PROGRAM], capture_output=True, check=False, timeout=SECONDS
+    )
     tell("the example that make run shows", done.returncode == 0, f"{done}")
 
 
@@ -388,7 +397,8 @@ def main():
         for name, length in (("over", LONGEST + 1), ("longest", LONGEST)):
             with open(name, "wb") as file:
                 file.truncate(length)
-        for part in (jobs, refusals, unions, comparisons, pairs, files, streams, nesting, usage, examples, readme, hook, shown):
+        for part in (jobs, refusals, unions, comparisons, pairs, files, streams, nesting, usage, examples, readme, hook,
+                     shown):
             try:
                 part()
             except Exception as problem:

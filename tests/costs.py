@@ -3,8 +3,8 @@
 
 usage: tests/costs.py PROGRAM
 
-valgrind counts the instructions where it is there; else it is the user time of larger inputs, the least of some runs, with
-more slack. The last line is 'N passed, M failed'.
+valgrind counts the instructions where it is there; else it is the user time of larger inputs, the least of some runs,
+with more slack. The last line is 'N passed, M failed'.
 """
 import os
 import re
@@ -93,7 +93,8 @@ def seconds(words):
     """The status and the least user time of some runs."""
     least = None
     for _ in range(RUNS):
-        with subprocess.Popen(words, stdin=subprocess.DEVNULL, stdout=subprocess.DEVNULL, stderr=subprocess.DEVNULL) as run:
+        nothing = subprocess.DEVNULL
+        with subprocess.Popen(words, stdin=nothing, stdout=nothing, stderr=nothing) as run:
             _, status, usage = os.wait4(run.pid, 0)
             run.returncode = os.waitstatus_to_exitcode(status)
         least = usage.ru_utime if least is None else min(least, usage.ru_utime)
@@ -139,13 +140,17 @@ def many(count, line):
 
 # Schema texts that are refused: what there is much of, a text, and how much at first.
 SCHEMAS = (
-    ("types before one that isn't there", lambda n: many(n, "table Row{0} {{ a:int; }}\n") + "table T { a:Rwo1; }\nroot_type T;",
+    ("types before one that isn't there",
+     lambda n: many(n, "table Row{0} {{ a:int; }}\n") + "table T { a:Rwo1; }\nroot_type T;",
      4000),
-    ("ids before a gap", lambda n: "table T {\n" + many(n, "  f{0}:ubyte (id: {0});\n") + f"  g:int (id: {n + 1});\n}}\n"
+    ("ids before a gap",
+     lambda n: "table T {\n" + many(n, "  f{0}:ubyte (id: {0});\n") + f"  g:int (id: {n + 1});\n}}\n"
      "root_type T;", 4000),
-    ("values before a number twice", lambda n: "enum E:ulong {\n" + many(n, "  V{0},\n") + "  W = 0 }\ntable T { e:E; }\n"
+    ("values before a number twice",
+     lambda n: "enum E:ulong {\n" + many(n, "  V{0},\n") + "  W = 0 }\ntable T { e:E; }\n"
      "root_type T;", 4000),
-    ("structs before one in itself", lambda n: many(n, "struct S{0} {{ a:int; }}\n") + "struct S { s:S; }\ntable T { s:S; }\n"
+    ("structs before one in itself",
+     lambda n: many(n, "struct S{0} {{ a:int; }}\n") + "struct S { s:S; }\ntable T { s:S; }\n"
      "root_type T;", 4000),
 )
 
@@ -160,7 +165,7 @@ def schemas(tests):
 
 
 def json_texts(tests):
-    """`binary --explain` of a text with many members, of which the last is unknown, and of one that isn't JSON there."""
+    """`binary --explain` of a text with many members: the last is unknown, or isn't JSON there."""
     words = [tests.program, "binary", "--explain", "s.fbs", "v.json", "out.bin"]
     for what, last in (("members before an unknown one", '"f": 1 }'), ("members before what isn't JSON", '"f": 01 }')):
         def make(size, last=last):
@@ -201,4 +206,6 @@ def crafted(tests):
 
 
 if __name__ == "__main__":
-    sys.exit(Tests("costs", program_of(sys.argv, __doc__)).main((comparisons, unsupported, schemas, json_texts, crafted)))
+    sys.exit(
+        Tests("costs", program_of(sys.argv, __doc__)).main((comparisons, unsupported, schemas, json_texts, crafted))
+    )

@@ -200,7 +200,10 @@ def changes(tests):
                  err=lines("91 IdentifierChanged", *SEVERAL_SENTENCES))
     deprecated = HP.replace("mp:int;", "mp:int (deprecated);")
     again = HP.replace("  mp:int;\n", "  was_mp:int (deprecated);\n  mp:int;\n")
-    taken = "U.mp was field 1 (old.fbs:3), is field 2 (new.fbs:4): the name of a deprecated field stands for another one"
+    taken = (
+        "U.mp was field 1 (old.fbs:3), is field 2 (new.fbs:4): "
+        "the name of a deprecated field stands for another one"
+    )
     rows = [*NAMES, ("the name of a field that was deprecated", deprecated, deprecated, again,
                      "103 NameMoved in type 0 slot 1", [taken])]
     for name, old, was, now, fault, sentences in rows:
@@ -222,7 +225,8 @@ def changes(tests):
                  b"conforms\n", want)
     write("new.fbs", MONSTER.replace("hp:ubyte = 100", "hp:ubyte = 300").encode())
     done = tests.run(["conform", "--explain", "old.fbs", "new.fbs"])
-    tests.tell("a new text that is refused", done.stderr.startswith(b"new: 12 BadDefault at ") and b"\nnew.fbs:8:14: " in
+    tests.tell("a new text that is refused",
+    done.stderr.startswith(b"new: 12 BadDefault at ") and b"\nnew.fbs:8:14: " in
                done.stderr, f"{done.stderr!r}")
     done = tests.run(["conform", "--explain", "new.fbs", "old.fbs"])
     tests.tell("an old text that is refused", done.stderr.startswith(b"old: 12 BadDefault at ") and b"\nnew.fbs:8:14: "
@@ -263,7 +267,8 @@ BUFFERS = [
     ("a vtable before the buffer", lambda b: b[:12] + struct.pack("<i", 64) + b[16:], "56 BadVtable at 12",
      "the root: the vtable of the table at 12 would be before the buffer", 12),
     ("a vtable of an odd size", lambda b: b[:6] + b"\x05\x00" + b[8:], "56 BadVtable at 12",
-     "the root: the vtable of the table at 12 would be at 6 and have a size of 5, where an even number from 4 on is right",
+     "the root: the vtable of the table at 12 would be at 6 and have a size of 5, "
+     "where an even number from 4 on is right",
      12),
     ("a required field that is absent", lambda b: b[:10] + b"\x00\x00" + b[12:], "57 MissingRequired at 12 slot 0",
      "the root: the table at 12 has nothing in slot 0, which is required", 12),
@@ -368,7 +373,8 @@ def cells(tests):
     write("v.json", b'{"name":"' + b"x" * 99_999_999 + b'"}')
     done = tests.run(["binary", "--explain", "s.fbs", "v.json", "out.bin"])
     rows = done.stderr.decode().splitlines()
-    want = ["79 TooManyCells in type 0 slot 0", "v.json:1:9: name: more than 100000000 tables, strings, vectors, elements "
+    want = ["79 TooManyCells in type 0 slot 0",
+    "v.json:1:9: name: more than 100000000 tables, strings, vectors, elements "
             "and bytes of strings"]
     tests.tell("JSON of more than 100 million cells", rows[:2] == want and rows[2].startswith('  {"name":"xxx')
                and rows[2].endswith("...") and rows[3] == " " * 10 + "^" and len(rows) == 4, f"{rows!r}"[:500])
@@ -415,7 +421,8 @@ def files(tests):
     tests.expect("a folder", ["check", "--explain", "folder"], 1,
                  err=lines("110 FileRead", "folder: Is a directory (os error 21); no other file was read"))
     tests.expect("OUT in a folder that isn't there", [*binary, "s.fbs", "v.json", "no/o"], 1,
-                 err=lines("111 FileWrite", "no/o: no file can be made in 'no': No such file or directory (os error 2)"))
+                 err=lines("111 FileWrite",
+                           "no/o: no file can be made in 'no': No such file or directory (os error 2)"))
     tests.expect("OUT in a folder of a long name", [*binary, "s.fbs", "v.json", "n" * 40 + "/o"], 1,
                  err=lines("111 FileWrite", "n" * 40 + "/o: No such file or directory (os error 2)"))
     tests.expect("OUT is an input", [*binary, "s.fbs", "v.json", "v.json"], 1,
@@ -423,7 +430,8 @@ def files(tests):
     for old in ("old.json", "old.fbs"):
         write(old, b"old")
         tests.expect(f"OUT is {old}", [*binary, "s.fbs", "v.json", old], 1, holds={old: b"old"},
-                     err=lines("111 FileWrite", f"{old}: it is there, and a file named .json or .fbs is never written over"))
+                     err=lines("111 FileWrite",
+                               f"{old}: it is there, and a file named .json or .fbs is never written over"))
     tests.expect("OUT is full", [*binary, "s.fbs", "v.json", "/dev/full"], 1,
                  err=lines("111 FileWrite", "/dev/full: No space left on device (os error 28)"))
     with open("long.json", "wb") as file:
@@ -450,7 +458,7 @@ MEMORY = {
 
 
 def told_of_memory(err):
-    """The number of a line that memory ran out, if it is explained; a line of 114 may stand alone, before there is a job."""
+    """The number of a line that memory ran out, if it is explained: 114 may stand alone, before there is a job."""
     number, _, rest = err.decode().partition(" ")
     explained = f"Memory\nmemory ran out while {MEMORY[int(number)]}\n" if number in map(str, MEMORY) else None
     return number if rest == explained or (number, rest) == ("114", "Memory\n") else None
@@ -544,11 +552,13 @@ def numbers(tests):
     tests.expect("the list of all numbers", ["explain"], 0, lines(*listed))
     for number in sorted(set(range(256)) - want) + ["256", "-1", "x", ""]:
         done = tests.run(["explain", "--", str(number)])
-        tests.tell(f"no page for {number}", done.returncode == 2 and done.stderr.startswith(b"error: ") and not done.stdout,
+        tests.tell(f"no page for {number}",
+        done.returncode == 2 and done.stderr.startswith(b"error: ") and not done.stdout,
                    f"{done!r}")
 
 
 if __name__ == "__main__":
-    parts = [schemas, ids, sizes, unsupported, texts, values, flags, kinds, changes, buffers, limits, cells, unnamed, files,
+    parts = [schemas, ids, sizes, unsupported, texts, values, flags, kinds, changes, buffers, limits, cells, unnamed,
+    files,
              memory, cuts, hints, numbers]
     sys.exit(Explained("explain", program_of(sys.argv, __doc__)).main(parts))

@@ -144,7 +144,8 @@ SCHEMAS = [
      "14 IncompleteStruct", "the struct 'B' is declared behind the struct that has it: move it up"),
     ("a struct in itself", "struct S { a:int; s:¦S; }\ntable T { s:S; }\nroot_type T;", "14 IncompleteStruct",
      "the struct 'S' can't have itself as a field, since it would have no end: use a table"),
-    ("structs in one another", "struct A { b:¦B; }\nstruct B { x:int; c:C; }\nstruct C { a:A; }\ntable T { a:A; }\nroot_type T;",
+    ("structs in one another",
+     "struct A { b:¦B; }\nstruct B { x:int; c:C; }\nstruct C { a:A; }\ntable T { a:A; }\nroot_type T;",
      "14 IncompleteStruct", "the struct 'B' has this struct in turn, and neither would have an end: use a table"),
     ("a struct of another namespace that has its name", "namespace a;\nstruct S { s:¦b.S; }\nnamespace b;\n"
      "struct S { x:int; }\ntable T { s:S; }\nroot_type T;", "14 IncompleteStruct",
@@ -186,7 +187,7 @@ SCHEMAS = [
      "the file identifier '\"ORC\"' must have four printable ASCII characters"),
 ]
 
-# Schema texts whose ids are wrong: the first mark is before the table, at which the fault is, the second before the field.
+# Schema texts whose ids are wrong: the first mark is before the table, where the fault is, the second before the field.
 IDS = [
     ("an id that is missing", "table ¦T {\n  a:int (id: 0);\n  ¦b:int;\n}\nroot_type T;",
      "the field 'b' has no id, and others of 'T' have one: give it to each field, from 0 on"),
@@ -198,13 +199,15 @@ IDS = [
      "the field 'a' has an id that is no number from 0 on"),
     ("a union of id 0", "union U { T }\ntable ¦T {\n  ¦u:U (id: 0);\n}\nroot_type T;",
      "the field 'u' is a union, and its type has the id before its own: so it is 1 at least"),
-    ("a union whose type has another's id", "union U { T }\ntable ¦T {\n  a:int (id: 0);\n  ¦u:U (id: 1);\n}\nroot_type T;",
+    ("a union whose type has another's id",
+     "union U { T }\ntable ¦T {\n  a:int (id: 0);\n  ¦u:U (id: 1);\n}\nroot_type T;",
      "the field 'u' has for its type the id 0, which 'a' has already"),
 ]
 
 # A JSON text that isn't one, and the sentence.
 TEXTS = [
-    ("a comma before a bracket", '{\n  "name": "Orc",\n  "hp": 3,\n¦}\n', "a comma may not be before a closing bracket"),
+    ("a comma before a bracket", '{\n  "name": "Orc",\n  "hp": 3,\n¦}\n',
+     "a comma may not be before a closing bracket"),
     ("a comment", '{ "name": "Orc" ¦// the name\n}', "JSON has no comments"),
     ("a name without quotes", "{ ¦name: 3 }", "a name is written in double quotes, and so is a text"),
     ("a text in single quotes", "{ \"name\": ¦'Orc' }", "a text is written in double quotes"),
@@ -229,7 +232,8 @@ TEXTS = [
     ("a comma that is missing", '{\n  "name": "Orc"\n  ¦"hp": 3\n}', "a comma is missing before this"),
     ("a comma that is missing between elements", '{ "weapons": [{ } ¦{ }] }', "a comma is missing before this"),
     ("a second value", '{ "name": "Orc" }\n¦{ "name": "Ogre" }', "a JSON text is one value, and this is behind it"),
-    ("a byte order mark", '¦\ufeff{ "name": "Orc" }', "a byte order mark may not be before JSON: save the file without one"),
+    ("a byte order mark", '¦\ufeff{ "name": "Orc" }',
+     "a byte order mark may not be before JSON: save the file without one"),
     ("a colon that is missing", '{ "name" ¦"Orc" }', "a colon is missing between a name and its value"),
     ("a value that is missing", '{ "name": ¦, "hp": 3 }', "a value is missing before this"),
     ("a name that is missing", '{ ¦: 3 }', "a name in double quotes is missing before this"),
@@ -248,7 +252,8 @@ TEXTS = [
     ("an exponent without digits", '{ "hp": ¦3e }', "the exponent of a number has digits alone"),
     ("a number with a letter", '{ "hp": ¦3px }', "this isn't a number as JSON writes it"),
     ("a number past all floats", '{ "hp": ¦1e999 }', "this number is too large: none of JSON here is above 1.8e308"),
-    ("a blank that can't be seen", '{¦\xa0"name": "Orc" }', "blanks between values are spaces, tabs and line ends alone"),
+    ("a blank that can't be seen", '{¦\xa0"name": "Orc" }',
+     "blanks between values are spaces, tabs and line ends alone"),
     ("a character that can't be seen", '{ "name": ¦\u200b"Orc" }', "this character can't be seen, and may not be here"),
     ("an equals sign", '{ "name" ¦= "Orc" }', "a colon is missing between a name and its value"),
     ("a semicolon", '{ "hp": 3¦; }', "this isn't allowed here"),
@@ -276,9 +281,11 @@ VALUES = [
      "hp: -0 isn't written as a whole number: write 0"),
     ("a zero with a sign and a fraction", '{ "name": "Orc", "hp": ¦-0.0 }', "71 NotWhole in type 5 slot 1",
      "hp: -0.0 is written with a fraction: write 0"),
-    ("a number below those of 64 bits", '{ "name": "Orc", "big": ¦-9223372036854775809 }', "71 NotWhole in type 5 slot 8",
+    ("a number below those of 64 bits", '{ "name": "Orc", "big": ¦-9223372036854775809 }',
+     "71 NotWhole in type 5 slot 8",
      "big: -9223372036854775809 is too small for 64 bits: the least number is -9223372036854775808"),
-    ("a number out of range", '{\n  "name": "Orc",\n  "weapons": [\n    { "damage": 1 },\n    { "damage": ¦70000 }\n  ]\n}',
+    ("a number out of range",
+     '{\n  "name": "Orc",\n  "weapons": [\n    { "damage": 1 },\n    { "damage": ¦70000 }\n  ]\n}',
      "72 OutOfRange in type 3 slot 0",
      "weapons[1].damage: 70000 isn't in -32768 to 32767, the range of short"),
     ("a number of more than 64 bits", '{ "name": "Orc", "big": ¦18446744073709551616 }', "71 NotWhole in type 5 slot 8",
@@ -287,10 +294,12 @@ VALUES = [
      "color: no value of enum Color is called 'Grean'; did you mean 'Green'?"),
     ("a value like no other", '{ "name": "Orc", "color": ¦"Purple" }', "73 UnknownName in type 5 slot 2",
      "color: no value of enum Color is called 'Purple'; it has 'Red', 'Green' and 'Blue'"),
-    ("a mistyped value behind its enum", '{ "name": "Orc", "color": ¦"Color.Grean" }', "73 UnknownName in type 5 slot 2",
+    ("a mistyped value behind its enum", '{ "name": "Orc", "color": ¦"Color.Grean" }',
+     "73 UnknownName in type 5 slot 2",
      "color: no value of enum Color is called 'Color.Grean'; did you mean 'Green'?"),
     ("a mistyped member", '{ "name": "Orc", "equipped_type": ¦"Spel", "equipped": { } }',
-     "73 UnknownName in type 5 slot 5", "equipped_type: no member of union Equipment is called 'Spel'; did you mean 'Spell'?"),
+     "73 UnknownName in type 5 slot 5",
+     "equipped_type: no member of union Equipment is called 'Spel'; did you mean 'Spell'?"),
     ("an unknown field", '{ "name": "Orc", ¦"hpp": 3 }', "74 UnknownMember in type 5",
      "Monster has no field called 'hpp'; did you mean 'hp'?"),
     ("an unknown field twice", '{ "name": "Orc", "hpp": 3, "hp": 4, ¦"hpp": 5 }', "74 UnknownMember in type 5",
@@ -301,7 +310,8 @@ VALUES = [
      "pos: Pos has no field called 'z'; it has 'x' and 'y'"),
     ("a deprecated field", '{ "name": "Orc", ¦"old": 3 }', "74 UnknownMember in type 5",
      "the field 'old' of Monster is deprecated, and isn't written any more"),
-    ("a field of a struct that is missing", '{ "name": "Orc", "pos": ¦{ "x": 1 } }', "75 MissingMember in type 1 slot 1",
+    ("a field of a struct that is missing", '{ "name": "Orc", "pos": ¦{ "x": 1 } }',
+     "75 MissingMember in type 1 slot 1",
      "pos.y: Pos needs the field 'y': a struct has all its fields"),
     ("a required field that is missing", '¦{ "hp": 3 }', "76 MissingRequired in type 5 slot 0",
      "name: Monster needs the field 'name': it is required"),
@@ -313,15 +323,15 @@ VALUES = [
      "hp: a text where a number must be: the field's type is ubyte"),
     ("a union's value without its type", '{ "name": "Orc", "equipped": ¦{ "damage": 3 } }',
      "77 UnionMismatch in type 5 slot 6",
-     "equipped: the union has a value, and its type is missing or NONE: add \"equipped_type\"; it is one of 'Weapon' and "
-     "'Spell'"),
+     "equipped: the union has a value, and its type is missing or NONE: add \"equipped_type\"; "
+     "it is one of 'Weapon' and 'Spell'"),
     ("a union's type without its value", '¦{ "name": "Orc", "equipped_type": "Weapon" }',
      "77 UnionMismatch in type 5 slot 6",
      "equipped: the union has a type and no value: add \"equipped\""),
     ("a union's value whose type is NONE", '{ "name": "Orc", "equipped_type": "NONE", "equipped": ¦{ } }',
      "77 UnionMismatch in type 5 slot 6",
-     "equipped: the union has a value, and its type is missing or NONE: add \"equipped_type\"; it is one of 'Weapon' and "
-     "'Spell'"),
+     "equipped: the union has a value, and its type is missing or NONE: add \"equipped_type\"; "
+     "it is one of 'Weapon' and 'Spell'"),
 ]
 
 # A JSON text under a schema with flags, and the sentence.

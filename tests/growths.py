@@ -4,9 +4,9 @@ calls take on what is nested deep.
 
 usage: tests/growths.py PROGRAM
 
-PROGRAM is built of crates/test_hostile, which makes one call on one example and then the same call again; tests/refuse.c,
-preloaded, refuses growths of the first. The C compiler has to be there (cc, or what CC names). The last line is
-'N passed, M failed'.
+PROGRAM is built of crates/test_hostile, which makes one call on one example and then the same call again;
+tests/refuse.c, preloaded, refuses growths of the first. The C compiler has to be there (cc, or what CC names). The last
+line is 'N passed, M failed'.
 """
 import os
 import resource

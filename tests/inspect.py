@@ -4,8 +4,9 @@ from the FlatBuffers documentation ("FlatBuffer Internals").
 
 usage: tests/inspect.py PROGRAM
 
-Of thousands of damaged buffers each byte is in the range of some line, no part is listed twice under one type, each line
-is plain and has 120 columns at most, and status and fault are those of check. The last line is 'N passed, M failed'.
+Of thousands of damaged buffers each byte is in the range of some line, no part is listed twice under one type, each
+line is plain and has 120 columns at most, and status and fault are those of check. The last line is 'N passed, M
+failed'.
 """
 import os
 import random

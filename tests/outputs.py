@@ -86,7 +86,9 @@ def unchanged(tests):
         os.utime("out.bin", (1, 1))
         tests.expect("OUT has the buffer", [*WORDS, "out.bin"], 0, holds={"out.bin": SEVEN}, **more)
         found = os.stat("out.bin")
-        tests.tell("it stays, and its time is now", found.st_ino == was.st_ino and found.st_mtime >= was.st_mtime, f"{found}")
+        tests.tell(
+            "it stays, and its time is now", found.st_ino == was.st_ino and found.st_mtime >= was.st_mtime, f"{found}"
+        )
     os.link("out.bin", "other")
     tests.expect("OUT has another name", [*WORDS, "out.bin"], 0, holds={"out.bin": SEVEN, "other": SEVEN})
     tests.tell("the other name keeps the old file", os.stat("other").st_ino != os.stat("out.bin").st_ino)

@@ -4,9 +4,9 @@ at once.
 
 usage: tests/pieces.py PROGRAM [--seed N] [--texts N]
 
-PROGRAM is built of crates/test_hostile. The schemas and values are those of tests/soak.py. A fault is one of the text, as a
-byte that is lost, or one of what it means, as a number in place of a text. Whether a text is JSON is judged here too.
-The last line is 'N passed, M failed'.
+PROGRAM is built of crates/test_hostile. The schemas and values are those of tests/soak.py. A fault is one of the text,
+as a byte that is lost, or one of what it means, as a number in place of a text. Whether a text is JSON is judged here
+too. The last line is 'N passed, M failed'.
 """
 import argparse
 import copy
@@ -142,7 +142,8 @@ def pieces(given):
     def part(tests):
         with ThreadPoolExecutor(os.cpu_count()) as pool:
             starts = range(0, given.texts, BATCH)
-            rows = [pool.submit(tell_batch, tests, given.seed + start, min(BATCH, given.texts - start)) for start in starts]
+            rows = [pool.submit(tell_batch, tests, given.seed + start,
+            min(BATCH, given.texts - start)) for start in starts]
             met = {}
             for row in rows:
                 for kind, count in row.result().items():

@@ -38,7 +38,9 @@ def by_hand(tests):
     tests.expect("made", ["binary", PREFIXED, "one.fbs", "seven.json", "out.bin"], 0, holds={"out.bin": MESSAGE})
     tests.expect("printed", ["json", PREFIXED, "one.fbs", "seven.bin"], 0, SEVEN_TEXT)
     tests.expect("checked", ["check", PREFIXED, "one.fbs", "seven.bin"], 0, b"ok\n")
-    tests.expect("to a folder", ["binary", PREFIXED, "-o", ".", "one.fbs", "seven.json"], 0, holds={"seven.bin": MESSAGE})
+    tests.expect(
+        "to a folder", ["binary", PREFIXED, "-o", ".", "one.fbs", "seven.json"], 0, holds={"seven.bin": MESSAGE}
+    )
     tests.expect("from a folder", ["json", PREFIXED, "-o", ".", "one.fbs", "long.bin", "seven.bin"], 1,
                  err=b"long.bin: 54 OutOfBounds at 24\n", holds={"seven.json": SEVEN_TEXT})
     tests.expect("several", ["check", PREFIXED, "one.fbs", "seven.bin", "bare.bin"], 1,
@@ -87,13 +89,14 @@ def verifier(tests):
 
 
 def beside_flatc(tests, verify):
-    """Google's tools on what PROGRAM made of v.json, and PROGRAM on what flatc made; false where flatc takes neither."""
+    """Google's tools on what PROGRAM made of v.json, and PROGRAM on what flatc made; none if flatc takes neither."""
     if ran([THEIRS, "-b", PREFIXED, "-o", "theirs", "s.fbs", "v.json"]).returncode != 0:
         return None
     problems = []
     if not tests.run(["check", PREFIXED, "s.fbs", "theirs/v.bin"]).stdout == b"ok\n":
         problems.append("flatc's buffer is refused")
-    if tests.run(["json", PREFIXED, "s.fbs", "theirs/v.bin"]).stdout != tests.run(["json", PREFIXED, "s.fbs", "v.bin"]).stdout:
+    if tests.run(["json", PREFIXED, "s.fbs", "theirs/v.bin"]).stdout != tests.run(["json", PREFIXED, "s.fbs",
+    "v.bin"]).stdout:
         problems.append("flatc's buffer prints as another value")
     shutil.copy("v.bin", "ours.bin")
     for what, flags in (("ours", [PREFIXED]), ("bare", [])):

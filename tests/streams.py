@@ -55,7 +55,8 @@ def read(tests):
     inputs()
     for name in INPUTS:
         fed(tests, f"JSON is {name}", ["binary", "one.fbs", name, "out.bin"], JSON, 0, holds={"out.bin": SEVEN})
-        fed(tests, f"the schema of binary is {name}", ["binary", name, "seven.json", "o.bin"], ONE, 0, holds={"o.bin": SEVEN})
+        fed(tests, f"the schema of binary is {name}", ["binary", name, "seven.json", "o.bin"], ONE, 0,
+            holds={"o.bin": SEVEN})
         fed(tests, f"BIN of json is {name}", ["json", "one.fbs", name], SEVEN, 0, SEVEN_TEXT)
         fed(tests, f"the schema of json is {name}", ["json", name, "seven.bin"], ONE, 0, SEVEN_TEXT)
         fed(tests, f"BIN of check is {name}", ["check", "one.fbs", name], SEVEN, 0, b"ok\n")

@@ -4,8 +4,8 @@ short, where a file changes before it is explained, and where an input comes thr
 
 usage: tests/told_alike.py PROGRAM
 
-tests/replace.c, preloaded, replaces a file before the line of a fault is written; the C compiler has to be there (cc, or
-what CC names). The last line is 'N passed, M failed'.
+tests/replace.c, preloaded, replaces a file before the line of a fault is written; the C compiler has to be there (cc,
+or what CC names). The last line is 'N passed, M failed'.
 """
 import os
 import resource
@@ -99,7 +99,9 @@ def changed_files(tests):
     tests.expect("a link to a text", words, 1, err=line + place.replace(b"v.json", b"link.json"))
     with open("v.json", "rb") as file:
         words[3] = "/dev/stdin"
-        tests.expect("a text on standard input", words, 1, err=line + place.replace(b"v.json", b"/dev/stdin"), stdin=file)
+        tests.expect(
+            "a text on standard input", words, 1, err=line + place.replace(b"v.json", b"/dev/stdin"), stdin=file
+        )
 
 
 def replaced_schema(tests):
@@ -159,7 +161,9 @@ def pipes(tests):
     write("bad.fbs", bad)
     place = (b"bad.fbs:1:21: the default 300 of field 'a' doesn't fit the type ubyte: 0 to 255\n"
              b"  table T { a:ubyte = 300; } root_type T;\n" + b" " * 22 + b"^\n")
-    piped(tests, "a JSON text under a bad schema", ["binary", "bad.fbs", "/dev/stdin", "out.bin"], b'{"a":3}', line, place)
+    piped(
+        tests, "a JSON text under a bad schema", ["binary", "bad.fbs", "/dev/stdin", "out.bin"], b'{"a":3}', line, place
+    )
     done = run_piped(tests, ["check", "--explain", "s.fbs", "/dev/stdin"], b"")
     good = done.returncode == 1 and done.stderr.startswith(b"50 Short at 0\n/dev/stdin: the buffer's length is 0")
     tests.tell("a buffer", good, told(done))
