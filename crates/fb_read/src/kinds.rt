@@ -59,7 +59,10 @@ pub fn size_in(layout: &Layout, kind: Kind) -> u32
     match kind {
         Kind::Text | Kind::Table(_) => 4,
         Kind::Scalar(base) => u32::from(base.size()),
-        Kind::Enum(_) | Kind::Struct(_) | Kind::Union(_) | Kind::Code(_) => layout.size_of(kind),
+        Kind::Enum(values) => u32::from(layout.base_of(values).size()),
+        Kind::Struct(structure) => layout.size_of(Kind::Struct(structure)),
+        Kind::Union(_) => 4,
+        Kind::Code(_) => 1,
     }
 }
 
@@ -71,7 +74,10 @@ pub fn align_in(layout: &Layout, kind: Kind) -> u32
     match kind {
         Kind::Text | Kind::Table(_) => 4,
         Kind::Scalar(base) => u32::from(base.size()),
-        Kind::Enum(_) | Kind::Struct(_) | Kind::Union(_) | Kind::Code(_) => layout.align_of(kind),
+        Kind::Enum(values) => u32::from(layout.base_of(values).size()),
+        Kind::Struct(structure) => layout.align_of(Kind::Struct(structure)),
+        Kind::Union(_) => 4,
+        Kind::Code(_) => 1,
     }
 }
 

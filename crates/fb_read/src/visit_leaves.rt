@@ -18,8 +18,8 @@ ghost use Rattle.fb_read.specs.Walks.{TicksWithin, EntersAt, EntersSlot};
 use crate::buffer::Buffer;
 use crate::kinds::base_of;
 use crate::part::Part;
-use crate::places::{follow, held_slot, is_stored};
-use crate::rules::{check_code, check_inline, check_number, open_text};
+use crate::places::{follow, held_slot};
+use crate::rules::{check_code, check_inline, check_number, is_next_stored, open_text};
 use crate::stored::default_of;
 use crate::visitor::Visitor;
 use crate::walk::{TableAt, Walk, leave, pass_over};
@@ -131,7 +131,7 @@ pub fn visit_code(
         (next_required (slots_seen buffer.now.layout.now later.now))
         (is_present buffer.now.bytes.now table.at (slot + 1))) at) tables spent) }
 {
-    let present = is_stored(buffer.bytes, table.at, table.vtable_at, slot + 1);
+    let present = is_next_stored(buffer.bytes, table.at, table.vtable_at, slot);
     let required = is_first_required(later);
     check_code(buffer.bytes, at, slot as u16 + 1, required, present)?;
     Ok(())

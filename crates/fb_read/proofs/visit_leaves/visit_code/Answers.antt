@@ -8,7 +8,7 @@ pub returns-in_err-check_code : goal.returns-in_err-check_code
 returns-in_err-check_code c tables spent u =
     let p = err_from_is_err_and c.from_residual.result c.from_residual.ensures.1 in
     let L = c.args.buffer.now.layout.now in
-    rw (p.1, p.2, ← c.is_stored-present.ensures, ← c.is_first_required-required.ensures L)
+    rw (p.1, p.2, ← c.is_next_stored-present.ensures, ← c.is_first_required-required.ensures L)
     (visit_fault L c.args.buffer.now.bytes.now _ _ tables spent _ (c.in_err-check_code.ensures.rules L u))
 
 pub returns : goal.returns
@@ -16,6 +16,6 @@ returns c tables spent u =
     let L = c.args.buffer.now.layout.now in
     let b = c.args.buffer.now.bytes.now in
     let most : Bounds = record { depth = c.args.buffer.now.most_depth; cells = c.args.buffer.now.most_cells } in
-    rw (← c.is_stored-present.ensures, ← c.is_first_required-required.ensures L)
-    (visit_code L b most u (c.args.slot + 1) c.is_first_required-required.result c.is_stored-present.result c.args.at
+    rw (← c.is_next_stored-present.ensures, ← c.is_first_required-required.ensures L)
+    (visit_code L b most u (c.args.slot + 1) c.is_first_required-required.result c.is_next_stored-present.result c.args.at
     tables spent (c.in_ok-check_code.ensures.rules L u))
