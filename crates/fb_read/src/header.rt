@@ -114,6 +114,7 @@ impl<'a> Buffer<'a> {
     /// A buffer with a front that keeps its rules: the header, and the count before it where it is `prefixed`.
     ///
     /// `raw` skips the file identifier check.
+    #[inline(always)]
     #[tactic(auto, using(crate::proofs::buffer::AlignmentsArePositive::layout_sizes))]
     pub fn checked(
         layout: &'a Layout,

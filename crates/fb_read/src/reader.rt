@@ -19,7 +19,6 @@ pub(crate) mod ticks;
 
 use crate::buffer::Buffer;
 use crate::entries::Entries;
-use crate::header::{check_front, identifier_of};
 use crate::numbers::u32_at;
 use crate::values::Values;
 use crate::verdict::{Nobody, Verdict};
@@ -69,7 +68,6 @@ pub fn read<'a>(
 
 /// The same of a buffer that may be `prefixed`: with the count of its bytes in front, from which positions and
 /// alignment count.
-#[tactic(auto, using(crate::proofs::buffer::AlignmentsArePositive::layout_sizes))]
 pub fn read_framed<'a>(
     alloc: Global,
     layout: &'a Layout,
@@ -93,22 +91,14 @@ pub fn read_framed<'a>(
     ensures counted { entries.new.count ≤ entries.old.count + (limits.cells + 1) }
     ensures each { IfOk result (λ v. entries.new.count ≡ entries.old.count + entered (view v)) }
 {
-    let schema = layout.schema();
-    check_front(bytes, identifier_of(layout, raw), prefixed)?;
-    let most_depth = limits.most_depth();
-    let most_cells = limits.most_cells();
-    let buffer = Buffer {
-        layout,
-        bytes,
-        most_depth,
-        most_cells,
-    };
+    let buffer = Buffer::checked(layout, bytes, limits, raw, prefixed)?;
     let mut walk = Walk {
         spent: 0,
         ticks: Ticks::new(),
         visitor: Values { alloc },
     };
-    let value = visit_table_behind(&buffer, &mut walk, schema.root(), front_of(prefixed), 0);
+    let root = layout.schema().root();
+    let value = visit_table_behind(&buffer, &mut walk, root, front_of(prefixed), 0);
     walk.ticks.add_to(entries);
     value
 }
@@ -140,7 +130,6 @@ pub fn verify<'a>(
 
 /// The same of a buffer that may be `prefixed`: with the count of its bytes in front, from which positions and
 /// alignment count.
-#[tactic(auto, using(crate::proofs::buffer::AlignmentsArePositive::layout_sizes))]
 pub fn verify_framed<'a>(
     layout: &'a Layout,
     bytes: &'a [u8],
@@ -160,30 +149,22 @@ pub fn verify_framed<'a>(
     ensures each { OnOk result ((v : Datum) → HoldsFramed prefixed layout.now limits raw bytes.now v
         → entries.new.count ≡ entries.old.count + entered v) }
 {
-    let schema = layout.schema();
-    check_front(bytes, identifier_of(layout, raw), prefixed)?;
+    let buffer = Buffer::checked(layout, bytes, limits, raw, prefixed)?;
+    let root = layout.schema().root();
     let front = front_of(prefixed);
-    let most_depth = limits.most_depth();
-    let most_cells = limits.most_cells();
-    let buffer = Buffer {
-        layout,
-        bytes,
-        most_depth,
-        most_cells,
-    };
     let mut walk = Walk {
         spent: 0,
         ticks: Ticks::new(),
         visitor: Verdict { hearer: Nobody },
     };
-    let visited = visit_table_behind(&buffer, &mut walk, schema.root(), front, 0);
+    let visited = visit_table_behind(&buffer, &mut walk, root, front, 0);
     walk.ticks.add_to(entries);
     visited?;
     let at = front + u32_at(bytes, front) as usize;
     Ok(View {
         layout,
         bytes,
-        table: schema.root(),
+        table: root,
         at,
     })
 }

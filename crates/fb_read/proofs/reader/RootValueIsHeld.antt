@@ -9,7 +9,7 @@ use Rattle.fb_value.specs.declared.faults.ReadFault.{ReadFault}
 use Rattle.fb_value.specs.Bounds.{Bounds}
 use Rattle.fb_value.specs.Datum.{Datum}
 use Rattle.fb_value.specs.Num.{Bytes, num}
-use Rattle.fb_value.specs.Places.{table_part, ref_place, part_place}
+use Rattle.fb_value.specs.Places.{Place, table_part, ref_place, part_place}
 use Rattle.fb_value.specs.Rules.{Keeps, first_failing}
 use Rattle.fb_value.specs.Lies.{LiesAt}
 use Rattle.fb_value.specs.Reached.{Path, ComesBefore}
@@ -23,9 +23,18 @@ use Rattle.fb_value.specs.Fits.{FitsRoot}
 use Rattle.fb_value.proofs.held.HeldValueFitsTheRoot.{fits_where_held_shown}
 use Rattle.fb_value.proofs.types.NestingIsBoundedByDepth.{nesting_of_depth_shown}
 use Rattle.fb_read.specs.Memory.{PartIsReachedBehind}
-use Rattle.fb_read.specs.Values.{Gives}
+use Rattle.fb_read.specs.declared.buffer.Buffer.{Buffer}
+use Rattle.fb_read.specs.Values.{Gives, KeepsAt}
+use Rattle.fb_read.specs.Walks.{IsBufferOf}
 use Rattle.fb_read.specs.Visits.{visit}
 use Rattle.fb_read.proofs.reader.RootVisitDecides.{held_root, refused_root}
+
+-- What is kept of a buffer stands for what lies in its bytes.
+pub kept_of_bytes : {K : Type 0} (keeps : K → Datum → Type 0) (L : LaidSchema) (b : Bytes) (most : Bounds)
+    (buffer : Buffer) (x : Place) → IsBufferOf L b most buffer → (r : Result K ReadFault)
+    → IfOk r (KeepsAt keeps buffer x) → IfOk r (λ kept. (d : Datum) → LiesAt L b x.sort x.at d → keeps kept d)
+kept_of_bytes keeps L b most buffer x same (Ok kept) known = λ d lies. known d (rw (same.layout, same.bytes) lies)
+kept_of_bytes keeps L b most buffer x same (Err f) known = tt
 
 module _ (p : ℕ) (front : Option ReadFault) (L : LaidSchema) (most : Bounds) (b : Bytes) where
   -- What can only be the root's value is held, where a visit finds no fault.

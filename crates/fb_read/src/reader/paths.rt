@@ -5,7 +5,6 @@ ghost use Rattle.fb_value.specs.Holds.{front_fault, checked_identifier, HasNoFau
 ghost use Rattle.fb_read.specs.FaultPaths.{IsFaultPathFramed};
 
 use crate::buffer::Buffer;
-use crate::header::{check_front, identifier_of};
 use crate::reader::ticks::Ticks;
 use crate::step::Step;
 use crate::trail::Trail;
@@ -23,7 +22,6 @@ use std::alloc::{AllocError, Global};
 /// `prefixed` buffer has the count of its bytes in front.
 ///
 /// It checks the bytes once more, and is for a buffer that was refused.
-#[tactic(auto, using(crate::proofs::buffer::AlignmentsArePositive::layout_sizes))]
 pub fn fault_path(
     alloc: Global,
     layout: &Layout,
@@ -37,16 +35,10 @@ pub fn fault_path(
         ⊎ HasNoFaultFramed prefixed layout.now limits raw bytes.now)
         (λ steps. (f : ReadFault) × IsFaultPathFramed prefixed layout.now limits raw bytes.now steps.items f)) }
 {
-    let Ok(()) = check_front(bytes, identifier_of(layout, raw), prefixed) else {
+    let Ok(buffer) = Buffer::checked(layout, bytes, limits, raw, prefixed) else {
         return Ok(None);
     };
     let root = layout.schema().root();
-    let buffer = Buffer {
-        layout,
-        bytes,
-        most_depth: limits.most_depth(),
-        most_cells: limits.most_cells(),
-    };
     let mut walk = Walk {
         spent: 0,
         ticks: Ticks::new(),

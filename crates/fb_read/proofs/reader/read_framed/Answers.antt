@@ -1,25 +1,32 @@
-use Rattle.std.proofs.Common.{◌≡◌, ◌<◌, All, None, arith}
+use Rattle.std.proofs.Common.{◌≡◌, ◌<◌, All, arith}
 use Rattle.std.proofs.lemmas.List.Elements.{All-from_get_or}
 use Rattle.fb_value.specs.Holds.{front_of, front_fault, checked_identifier}
+use Rattle.fb_value.specs.Places.{table_part, ref_place}
+use Rattle.fb_value.specs.View.{view}
+use Rattle.fb_read.specs.Walks.{place}
 use Rattle.fb_read.proofs.reader.RootValueIsHeld.{answer_held, answer_fits, answer_deep, answer_nests, answer_refused}
-use Rattle.fb_read.proofs.reader.RootValueIsHeld.{answer_entered, root_reached}
+use Rattle.fb_read.proofs.reader.RootValueIsHeld.{answer_entered, root_reached, kept_of_bytes}
 use Rattle.fb_read.proofs.reader.read_framed.Goals as goal
 
 pub returns-clause-value : goal.returns-clause-value
 returns-clause-value c =
     let L = c.args.layout.now in
-    let header : front_fault c.args.prefixed c.args.bytes.now (checked_identifier L c.args.raw) ≡ None =
-    rw c.identifier_of.ensures at c.in_ok-check_front.ensures.rules in
+    let header = c.in_ok-buffer.ensures.front in
+    let same = c.in_ok-buffer.ensures.buffer in
     let given = rw (
-      c.most_depth-most_depth.ensures.exact,
-      c.most_cells-most_cells.ensures,
-      c.root.ensures,
+      same.layout,
+      same.bytes,
+      same.depth,
+      same.cells,
+      c.root-root.ensures,
       c.front_of.ensures.exact,
-      c.schema-schema.ensures.schema,
+      c.schema.ensures.schema,
     ) at c.visit_table_behind-value.ensures.visit in
-    let known = rw (c.root.ensures, c.front_of.ensures.exact, c.schema-schema.ensures.schema) at
-    c.visit_table_behind-value.ensures.kept in
-    answer_held (front_of c.args.prefixed) _ L c.args.limits c.args.bytes.now c.schema-schema.ensures.made
+    let known = rw (c.root-root.ensures, c.front_of.ensures.exact, c.schema.ensures.schema) at
+    (kept_of_bytes (λ v d. view v ≡ d) L c.args.bytes.now c.args.limits c.in_ok-buffer.buffer
+    (place (ref_place (table_part c.root-root.result.0)) c.front_of.result) same c.visit_table_behind-value.result
+    c.visit_table_behind-value.ensures.kept) in
+    answer_held (front_of c.args.prefixed) _ L c.args.limits c.args.bytes.now c.schema.ensures.made
     c.visit_table_behind-value.result _ header given known
 
 pub returns-clause-fits : goal.returns-clause-fits
@@ -27,13 +34,13 @@ returns-clause-fits c =
     let small : All (λ x. x < 256) c.args.bytes.now = All-from_get_or (λ x. x < 256) c.args.bytes.now 0
     (λ i less. (let fits = c.type_inv.bytes i in omega arith)) in
     answer_fits (front_of c.args.prefixed) _ c.args.layout.now c.args.limits c.args.bytes.now
-    c.schema-schema.ensures.made small
+    c.schema.ensures.made small
     c.visit_table_behind-value.result (returns-clause-value c)
 
 pub returns-clause-deep : goal.returns-clause-deep
 returns-clause-deep c =
-    let few = c.most_depth-most_depth.ensures.few in
-    let exact = c.most_depth-most_depth.ensures.exact in
+    let few = c.in_ok-buffer.buffer.flat in
+    let exact = c.in_ok-buffer.ensures.buffer.depth in
     answer_deep (front_of c.args.prefixed) _ c.args.layout.now c.args.limits c.args.bytes.now (omega arith)
     c.visit_table_behind-value.result (returns-clause-value c)
 
@@ -41,43 +48,45 @@ pub returns-clause-nests : goal.returns-clause-nests
 returns-clause-nests c =
     answer_nests (front_of c.args.prefixed)
     (front_fault c.args.prefixed c.args.bytes.now (checked_identifier c.args.layout.now c.args.raw)) c.args.layout.now
-    c.args.limits c.args.bytes.now c.schema-schema.ensures.made
+    c.args.limits c.args.bytes.now c.schema.ensures.made
     c.visit_table_behind-value.result (returns-clause-fits c) (returns-clause-deep c)
 
 pub returns-clause-fault : goal.returns-clause-fault
 returns-clause-fault c =
     let L = c.args.layout.now in
-    let header : front_fault c.args.prefixed c.args.bytes.now (checked_identifier L c.args.raw) ≡ None =
-    rw c.identifier_of.ensures at c.in_ok-check_front.ensures.rules in
+    let header = c.in_ok-buffer.ensures.front in
+    let same = c.in_ok-buffer.ensures.buffer in
     let given = rw (
-      c.most_depth-most_depth.ensures.exact,
-      c.most_cells-most_cells.ensures,
-      c.root.ensures,
+      same.layout,
+      same.bytes,
+      same.depth,
+      same.cells,
+      c.root-root.ensures,
       c.front_of.ensures.exact,
-      c.schema-schema.ensures.schema,
+      c.schema.ensures.schema,
     ) at c.visit_table_behind-value.ensures.visit in
-    answer_refused (front_of c.args.prefixed) _ L c.args.limits c.args.bytes.now c.schema-schema.ensures.made
+    answer_refused (front_of c.args.prefixed) _ L c.args.limits c.args.bytes.now c.schema.ensures.made
     c.visit_table_behind-value.result _ header given
 
 pub returns-clause-reached : goal.returns-clause-reached
 returns-clause-reached c memory =
     let L = c.args.layout.now in
     let b = c.args.bytes.now in
-    let header : front_fault c.args.prefixed b (checked_identifier L c.args.raw) ≡ None =
-    rw c.identifier_of.ensures at c.in_ok-check_front.ensures.rules in
-    let opened = rw (c.root.ensures, c.front_of.ensures.exact, c.schema-schema.ensures.schema) at
+    let same = c.in_ok-buffer.ensures.buffer in
+    let opened = rw (same.layout, same.bytes, c.root-root.ensures, c.front_of.ensures.exact, c.schema.ensures.schema) at
     (c.visit_table_behind-value.ensures.open memory) in
     root_reached (front_of c.args.prefixed) _ L c.args.limits b (record {
-      header = header;
+      header = c.in_ok-buffer.ensures.front;
       reference = opened.0;
       table = opened.1.0;
-      deep = omega (arith, opened.1.1, c.most_depth-most_depth.ensures.exact);
-      small = omega (arith, opened.1.2, c.most_cells-most_cells.ensures);
+      deep = omega (arith, opened.1.1, same.depth);
+      small = omega (arith, opened.1.2, same.cells);
     })
 
 pub returns-clause-each : goal.returns-clause-each
 returns-clause-each c =
-    let each = rw (c.root.ensures, c.front_of.ensures.exact, c.schema-schema.ensures.schema) at
+    let same = c.in_ok-buffer.ensures.buffer in
+    let each = rw (same.layout, same.bytes, c.root-root.ensures, c.front_of.ensures.exact, c.schema.ensures.schema) at
     c.visit_table_behind-value.ensures.each in
     answer_entered (front_of c.args.prefixed) _ c.args.layout.now c.args.limits c.args.bytes.now
     c.visit_table_behind-value.result _ _ _ _
