@@ -1,5 +1,5 @@
 -- What is told of a part by its own rules, whatever it leads to.
-use Rattle.std.specs.Prelude.{ℕ, ◌≡◌, Option, Some, Result, MatchResult, IfErr}
+use Rattle.std.specs.Prelude.{ℕ, ◌≡◌, Some, Result, MatchResult, IfErr}
 use Rattle.fb_layout.specs.Laid.{LaidSchema, scalar_kind, struct_kind}
 use Rattle.fb_value.specs.declared.faults.ReadFault.{ReadFault}
 use Rattle.fb_value.specs.Num.{Bytes}

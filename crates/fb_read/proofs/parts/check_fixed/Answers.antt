@@ -1,4 +1,3 @@
-use Rattle.std.proofs.Common.{◌≤◌, ◌≡◌}
 use Rattle.fb_layout.specs.Laid.{struct_kind}
 use Rattle.fb_read.proofs.buffer.AlignmentsArePositive.{aligned_known}
 use Rattle.fb_read.proofs.parts.check_fixed.Goals as goal
