@@ -8,8 +8,8 @@ use byteorder::{ByteOrder, LittleEndian};
 use fb_schema::Base;
 
 /// The number in the two bytes from a position on.
-// Not marked for inlining, it is made one load first: inlined as it stands, its two bytes stay apart where one of them is
-// used again.
+// Not marked for inlining, it is made one load first: inlined as it stands, its two bytes stay apart where one of them
+// is used again.
 pub fn u16_at(bytes: &[u8], at: usize) -> u16
     requires { at + 2 ≤ length bytes.now }
     ensures { result ≡ num bytes.now at 2 }

@@ -43,7 +43,8 @@ use Rattle.fb_encode.proofs.+reads.Goals as goal
 
 -- ---- excerpts and vectors
 
-pub vectors::note_run-returns-then-reads_alone-clause-noted : goal.vectors::note_run-returns-then-reads_alone-clause-noted
+pub vectors::note_run-returns-then-reads_alone-clause-noted :
+    goal.vectors::note_run-returns-then-reads_alone-clause-noted
 vectors::note_run-returns-then-reads_alone-clause-noted t c =
     if_ok_then c.note_element.result _ _ (λ now h. (
       item h.0 no_items,

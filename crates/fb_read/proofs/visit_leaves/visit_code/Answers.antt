@@ -17,5 +17,5 @@ returns c tables spent u =
     let b = c.args.buffer.now.bytes.now in
     let most : Bounds = record { depth = c.args.buffer.now.most_depth; cells = c.args.buffer.now.most_cells } in
     rw (← c.is_next_stored-present.ensures, ← c.is_first_required-required.ensures L)
-    (visit_code L b most u (c.args.slot + 1) c.is_first_required-required.result c.is_next_stored-present.result c.args.at
-    tables spent (c.in_ok-check_code.ensures.rules L u))
+    (visit_code L b most u (c.args.slot + 1) c.is_first_required-required.result c.is_next_stored-present.result
+    c.args.at tables spent (c.in_ok-check_code.ensures.rules L u))
