@@ -5,10 +5,11 @@ use crate::flags::Flags;
 use crate::{layout_of, tell, verified};
 use clap::Error;
 use clap::error::ErrorKind;
-use flatc_cli::{Batch, Form, RunStatus, Task, usage_error};
+use flatc_cli::usage_error;
 use flatc_files::{
     Content, Misuse, Progress, Reasoned, Target, Texts, directory_of, targets_of, write_file,
 };
+use flatc_request::{Batch, Form, RunStatus, Task};
 use flatc_tool::{DecodeOptions, Layout, Noted, ToolFault, decode_to, encode_owned};
 use std::alloc::AllocError;
 use std::fs;

@@ -4,8 +4,8 @@ use crate::faults::read_fault;
 use crate::flags::Flags;
 use crate::{limits, read_both, tell};
 use fb_inspect::{Listing, header_lines};
-use flatc_cli::Inspection;
 use flatc_files::{Reasoned, Texts};
+use flatc_request::Inspection;
 use flatc_tool::{Layout, ReadFault, ToolFault, WriteFault, schema_of};
 use std::io::Write;
 

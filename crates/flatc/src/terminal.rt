@@ -1,6 +1,6 @@
 //! What the terminal and the environment say of explanations.
 use fb_explain::COLUMNS;
-use flatc_cli::Explaining;
+use flatc_request::Explaining;
 use std::env;
 use std::io::IsTerminal;
 

@@ -6,8 +6,8 @@ ghost use Rattle.flatc_cli.specs.Lines.{IsRequest, IsInspection, has_inputs, is_
 use crate::flags::explaining_of;
 use crate::matched::{check_read_once, flag_of, only_bin, paths_of, two_paths};
 use crate::misuse::Misuse;
-use crate::request::{Inspection, Request};
 use clap::ArgMatches;
+use flatc_request::{Inspection, Request};
 use std::alloc::Global;
 
 /// The inspection of a buffer under a schema.

@@ -9,9 +9,9 @@ ghost use Rattle.flatc_cli.specs.Misuses.{IsRefusal};
 use crate::commands::flatc_command;
 use crate::matched::request_at;
 use crate::misuse::{Misuse, misuse_error, other_line};
-use crate::request::{Explaining, Job, Request};
 use clap::error::ErrorKind;
 use clap::{ArgMatches, Error};
+use flatc_request::{Explaining, Job, Request};
 use std::alloc::Global;
 
 /// What the matches of a command line ask for.

@@ -3,16 +3,15 @@ ghost use Rattle.std.specs.Prelude.{◌≡◌, ◌≢◌, ◌≤◌, ◌∷◌, 
 ghost use Rattle.std.specs.Prelude.{map, option_map, string_bytes, codes, length};
 ghost use Rattle.clap.specs.Words.{all_of, first_of, found_of, rows_of};
 ghost use Rattle.flatc_cli.specs.Lines.{IsJob, IsBatch, IsRequest, IsPath, is_set, is_streamed, has_inputs};
-ghost use Rattle.flatc_cli.specs.Inputs.{is_read_once};
+ghost use Rattle.flatc_request.specs.Inputs.{is_read_once};
 ghost use Rattle.flatc_cli.specs.Lines.{paths_in, first_text, listed, is_line_of};
 
 use crate::flags::{check_flags, explaining_of, form_of, is_streamed};
-use crate::inputs::are_read_once;
 use crate::inspections::inspect_request;
 use crate::misuse::Misuse;
-use crate::request::{Batch, Job, Request, Task};
 use crate::streams::stream_request;
 use clap::ArgMatches;
+use flatc_request::{Batch, Job, Request, Task, are_read_once};
 use std::alloc::{AllocError, Global};
 
 /// The first value of an id.

@@ -8,8 +8,8 @@ use crate::matched::{
     binary_job, check_job, check_read_once, flag_of, json_job, only_bin, schema_of, texts_of,
 };
 use crate::misuse::Misuse;
-use crate::request::{Job, Request, Stream, StreamTask};
 use clap::ArgMatches;
+use flatc_request::{Job, Request, Stream, StreamTask};
 use std::alloc::Global;
 
 /// The job of a line `check` with one buffer.

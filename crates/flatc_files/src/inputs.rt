@@ -3,7 +3,7 @@ ghost use Rattle.std.specs.Prelude.{◌≤◌, length, IfOk};
 
 use crate::streams::{Stream, metadata_of};
 use fb_heard::{Heard, TakeFault, take_all};
-use flatc_cli::is_standard_input;
+use flatc_request::is_standard_input;
 use std::alloc::AllocError;
 use std::fs::Metadata;
 use std::os::unix::fs::MetadataExt;

@@ -5,7 +5,7 @@ ghost use Rattle.std.specs.IoError.{error_kind};
 use crate::streams::metadata_of;
 use crate::targets::Target;
 use crate::unchanged::{holds, touch};
-use flatc_cli::is_standard_output;
+use flatc_request::is_standard_output;
 use std::alloc::Global;
 use std::fs::{self, File, Metadata, OpenOptions, Permissions};
 use std::io::{self, ErrorKind, Write};

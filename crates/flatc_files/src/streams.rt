@@ -1,5 +1,5 @@
 //! What a path is read from: a file, or standard input as it was given.
-use flatc_cli::is_standard_input;
+use flatc_request::is_standard_input;
 use std::fs::{self, File, Metadata};
 use std::io::{self, Read, Stdin};
 

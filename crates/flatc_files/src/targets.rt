@@ -1,6 +1,6 @@
 //! The files of a directory that a batch is written to.
 use crate::streams::metadata_of;
-use flatc_cli::{Batch, Task, is_standard_input, targets_in};
+use flatc_request::{Batch, Task, is_standard_input, targets_in};
 use std::alloc::{AllocError, AllocFailed, Global};
 use std::collections::BTreeSet;
 use std::fs::{self, Metadata};

@@ -1,6 +1,6 @@
 use Rattle.std.proofs.Common.{subst, ap, ◌∙◌}
 use Rattle.flatc_cli.specs.Lines.{IsRequestOf}
-use Rattle.flatc_cli.specs.declared.request.Request.TheVariants.{Do}
+use Rattle.flatc_request.specs.declared.request.Request.TheVariants.{Do}
 use Rattle.flatc_cli.proofs.JobLines.{batch_is_no_job, always_is_no_job, never_is_no_job}
 use Rattle.flatc_cli.proofs.JobLines.{formed_job_is_no_job, formed_batch_is_no_job, stream_is_no_job}
 use Rattle.flatc_cli.proofs.JobLines.{inspection_is_no_job, number_is_no_job}

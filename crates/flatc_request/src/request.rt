@@ -73,7 +73,7 @@ pub struct Form {
 }
 
 impl Form {
-    ghost use Rattle.flatc_cli.specs.Forms.{usual_form};
+    ghost use Rattle.flatc_request.specs.Forms.{usual_form};
 
     /// Whether buffers have no length in front, and JSON texts are indented.
     pub fn is_usual(self) -> bool

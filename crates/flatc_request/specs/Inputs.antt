@@ -1,7 +1,10 @@
 -- The names of standard input and output, and how often a line reads standard input.
-use Rattle.std.specs.Prelude.{Bool, ◌||◌, List, codes, count_by, nat_lt}
+use Rattle.std.specs.Prelude.{ℕ, Bool, ◌||◌, List, codes, count_by, nat_lt}
 use Rattle.std.specs.Str.{bytes_eq}
-use Rattle.clap.specs.Words.{Text}
+
+-- a path or another word, by its bytes
+abbrev pub Text : Type 0
+Text = List ℕ
 
 abbrev pub is_standard_input : Text → Bool
 is_standard_input path = bytes_eq path (codes "-") || bytes_eq path (codes "/dev/stdin")

@@ -1,6 +1,6 @@
 //! The status of a run over many files.
 ghost use Rattle.std.specs.Prelude.{◌≡◌, ◌++◌, ◌∷◌, [], Bool, List};
-ghost use Rattle.flatc_cli.specs.Runs.{IsStatusOf, status_of};
+ghost use Rattle.flatc_request.specs.Runs.{IsStatusOf, status_of};
 
 /// Whether one of the files so far was refused.
 #[derive(Clone, Copy, Drop)]

@@ -2,8 +2,8 @@
 use Rattle.std.specs.Prelude.{◌≡◌, ◌++◌, ◌∷◌, ℕ, Bool, not, List, unwrap_or, if◌then◌else◌}
 use Rattle.std.specs.List.{list_any}
 use Rattle.std.specs.Path.{path_file_stem, path_join}
-use Rattle.clap.specs.Words.{Text}
-use Rattle.flatc_cli.specs.declared.run_status.RunStatus.{RunStatus}
+use Rattle.flatc_request.specs.Inputs.{Text}
+use Rattle.flatc_request.specs.declared.run_status.RunStatus.{RunStatus}
 
 -- an input's name with another extension (46 is the dot)
 abbrev pub target_name : Text → Text → Text

@@ -1,6 +1,6 @@
 //! The names of standard input and output.
 ghost use Rattle.std.specs.Prelude.{◌≡◌, ◌∷◌, map, IfErr, OnOk, OnErr, false, true};
-ghost use Rattle.flatc_cli.specs.Inputs.{is_standard_input, is_standard_output, is_read_once};
+ghost use Rattle.flatc_request.specs.Inputs.{is_standard_input, is_standard_output, is_read_once};
 
 /// Whether a path names standard input: `-`, or a path of its descriptor.
 pub fn is_standard_input(path: &str) -> bool
@@ -17,7 +17,7 @@ pub fn is_standard_output(path: &str) -> bool
 }
 
 /// Whether at most one of the paths that a line reads is standard input.
-pub(crate) fn are_read_once(schema: &str, files: &[&str]) -> bool
+pub fn are_read_once(schema: &str, files: &[&str]) -> bool
     ensures { result ≡ is_read_once (schema.now ∷ map (λ f. f.now) files.now) }
 {
     let count = files.iter().filter(|file| is_standard_input(file)).count();

@@ -1,0 +1,3 @@
+pub mod Forms
+pub mod Inputs
+pub mod Runs
