@@ -1,7 +1,7 @@
 //! What the flags of a line say, and which of them go together.
 ghost use Rattle.std.specs.Prelude.{◌≡◌, OnOk, OnErr, true, false};
 ghost use Rattle.clap.specs.Words.{found_of, rows_of};
-ghost use Rattle.flatc_cli.specs.Lines.{is_set, has_dir, is_streamed, explaining_in, form_in};
+ghost use Rattle.flatc_cli.specs.Lines.{is_streamed, explaining_in, form_in};
 ghost use Rattle.flatc_cli.specs.Lines.{is_stream_allowed, is_header_allowed, are_allowed};
 
 use crate::matched::{flag_of, text_of};

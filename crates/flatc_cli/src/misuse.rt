@@ -1,5 +1,5 @@
 //! Lines that clap takes and that ask for nothing.
-ghost use Rattle.std.specs.Prelude.{◌≡◌, ◌≢◌, ◌⊎◌, IfOk};
+ghost use Rattle.std.specs.Prelude.{◌≡◌, ◌⊎◌, IfOk};
 ghost use Rattle.clap.specs.Words.{kind_of};
 ghost use Rattle.flatc_cli.specs.Misuses.{IsRefusal};
 

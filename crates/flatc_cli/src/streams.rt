@@ -1,5 +1,5 @@
 //! From the matches of a line with `--lines` to the stream that it asks for.
-ghost use Rattle.std.specs.Prelude.{◌≡◌, IfOk, IfErr, IfSome, OnOk, true, false, None, codes};
+ghost use Rattle.std.specs.Prelude.{◌≡◌, IfOk, IfErr, IfSome, OnOk, true, None, codes};
 ghost use Rattle.clap.specs.Words.{first_of, found_of, rows_of};
 ghost use Rattle.flatc_cli.specs.Lines.{IsJob, IsRequest, IsStream, has_inputs, is_set, is_streamed};
 

@@ -1,5 +1,5 @@
 //! The names of standard input and output.
-ghost use Rattle.std.specs.Prelude.{◌≡◌, ◌∷◌, map, IfErr, OnOk, OnErr, false, true};
+ghost use Rattle.std.specs.Prelude.{◌≡◌, ◌∷◌, map};
 ghost use Rattle.flatc_request.specs.Inputs.{is_standard_input, is_standard_output, is_read_once};
 
 /// Whether a path names standard input: `-`, or a path of its descriptor.
