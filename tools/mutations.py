@@ -182,7 +182,7 @@ def try_all(crates, names, top):
     wanted.sort(key=lambda it: len(below(crates, it)))
     refused = 0
     with tempfile.TemporaryDirectory(prefix="mutations-") as room:
-        if not top:
+        if wanted and not top:
             copy_crates(crates, wanted, room)
             if not prove(room, len(wanted)):
                 return 1
