@@ -16,6 +16,7 @@ to refuse it with that error, and no other. rt ci has to have left the crates be
 """
 import argparse
 import concurrent.futures
+import contextlib
 import glob
 import os
 import re
@@ -76,21 +77,33 @@ def wanted_error(edit):
     return ""
 
 
-def compile_edit(edit, name, words):
-    """Whether the compiler refuses an edit with its error alone, and why not."""
-    with tempfile.TemporaryDirectory(prefix=f"not-compiled-{name}-") as room:
+@contextlib.contextmanager
+def copy_with(edit, name, kind):
+    """A folder with a crate's copy to which an edit was made; the paths of the files that changed, and why not."""
+    with tempfile.TemporaryDirectory(prefix=f"{kind}-{name}-") as room:
         folder = shutil.copytree(f"{ROOT}/crates/{name}", f"{room}/{name}", ignore=shutil.ignore_patterns("out"))
         texts, why = edited(edit, folder)
-        if texts is None:
-            return False, f"can't be applied: {why}"
-        for path, text in texts.items():
+        for path, text in (texts or {}).items():
             with open(f"{folder}/{path}", "w", encoding="utf-8") as it:
                 it.write(text)
-        how = {"stdin": subprocess.DEVNULL, "stdout": subprocess.PIPE, "stderr": subprocess.STDOUT, "errors": "replace"}
-        ran = subprocess.run(words, cwd=folder, check=False, **how)
-    lines = ran.stdout.rstrip("\n").split("\n")
+        yield room, list(texts or ()), f"can't be applied: {why}" if why else ""
+
+
+def run(words, folder):
+    """A command's status, and the lines that it printed."""
+    how = {"stdin": subprocess.DEVNULL, "stdout": subprocess.PIPE, "stderr": subprocess.STDOUT, "errors": "replace"}
+    ran = subprocess.run(words, cwd=folder, check=False, **how)
+    return ran.returncode, ran.stdout.rstrip("\n").split("\n")
+
+
+def compile_edit(edit, name, words):
+    """Whether the compiler refuses an edit with its error alone, and why not."""
+    with copy_with(edit, name, "not-compiled") as (room, _, why):
+        if why:
+            return False, why
+        status, lines = run(words, f"{room}/{name}")
     errors = [it for it in lines if re.search(r": error\b", it)]
-    if ran.returncode and len(errors) == 1 and f"error[{wanted_error(edit)}]" in errors[0]:
+    if status and len(errors) == 1 and f"error[{wanted_error(edit)}]" in errors[0]:
         return True, ""
     return False, "\n".join([f"isn't refused with error[{wanted_error(edit)}] alone:", *(errors or lines[-6:])])
 
@@ -118,37 +131,34 @@ def modules_of(paths):
 
 def check(words, folder):
     """Whether a crate is proved: None where the prover gives no verdict. And what is said of it."""
-    how = {"stdin": subprocess.DEVNULL, "stdout": subprocess.PIPE, "stderr": subprocess.STDOUT, "errors": "replace"}
-    ran = subprocess.run(words, cwd=folder, check=False, **how)
-    lines = ran.stdout.rstrip("\n").split("\n")
-    if ran.returncode == 0:
-        return True, lines
-    judged = ran.returncode == 1 and re.match(r"logic=not-proved|only=", lines[-1])
-    return False if judged else None, lines
+    status, lines = run(words, folder)
+    judged = status == 1 and re.match(r"logic=not-proved|only=", lines[-1])
+    return True if status == 0 else False if judged else None, lines
 
 
 def reason(lines):
     """What an edit is refused for: None where its text can't be read, so that nothing was tried."""
     said = [it for it in lines if re.search(r":\d+:\d+:? ", it) and (": error" in it or it.startswith("note: "))]
-    unread = r"(src|specs)/\S+: error: .*(is not in scope|has no field|is no name|operand is missing|cannot continue)"
-    return None if not said or any(re.match(unread, it) for it in said) else said[0]
+    wrong = "is not in scope|has no field|is no name|operand is missing|cannot continue"
+    unread = rf"(\./)?(src|specs)/\S+: error: .*({wrong})"
+    if not said or any(re.match(unread, it) for it in said):
+        return None
+    # A proof that names what the edit took away says little of the contract.
+    names = r"(note: )?(\./)?proofs/.*(has no field|is not in scope|has no `|was not admitted)"
+    first = next((it for it in said if not re.match(names, it)), "")
+    return first or f"(only since a proof names what the edit took away) {said[0]}"
 
 
 def try_edit(edit, name, words, seed):
     """Whether the prover refuses an edit, over what it left of the crate as it stands; and what to say."""
-    with tempfile.TemporaryDirectory(prefix=f"mutation-{name}-") as room:
-        folder = shutil.copytree(f"{ROOT}/crates/{name}", f"{room}/{name}", ignore=shutil.ignore_patterns("out"))
-        texts, why = edited(edit, folder)
-        if texts is None:
-            return False, f"can't be applied: {why}"
-        for path, text in texts.items():
-            with open(f"{folder}/{path}", "w", encoding="utf-8") as it:
-                it.write(text)
+    with copy_with(edit, name, "mutation") as (room, paths, why):
+        if why:
+            return False, why
         # The prover replaces files there, and changes none.
         shutil.copytree(seed, f"{room}/seed", symlinks=True, copy_function=os.link)
         words = [*words, "--jobs", "1", "--incremental", f"{room}/seed"]
-        for only in [*(["--only", it] for it in modules_of(texts)), []]:
-            proved, lines = check([*words, *only], folder)
+        for only in [*(["--only", it] for it in modules_of(paths)), []]:
+            proved, lines = check([*words, *only], f"{room}/{name}")
             if proved is None:
                 return False, "\n".join(["is not tried, since the prover gives no verdict:", *lines[-6:]])
             if not proved:
