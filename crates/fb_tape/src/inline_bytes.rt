@@ -1,5 +1,6 @@
 //! The bytes of numbers and structs.
 ghost use Rattle.std.specs.Prelude.{ℕ, ◌≡◌, ◌≤◌, ◌<◌, ◌+◌, ◌^◌, ◌++◌, replicate, length, IsTrue, OnOk, OnErr};
+ghost use Rattle.std.specs.Prelude.{is_ok, if◌then◌else◌};
 ghost use Rattle.fb_schema.specs.Alignments.{base_size};
 ghost use Rattle.fb_schema.specs.Schema.{body_at, is_struct};
 ghost use Rattle.fb_schema.specs.WellDeclared.{InRange};
@@ -44,7 +45,25 @@ pub(crate) fn push_number(bytes: &mut Vec<u8>, base: Base, number: i128) -> Resu
     let bits = bits_of(base, number);
     let mut all = [0u8; 8];
     LittleEndian::write_u64(&mut all, bits);
-    bytes.extend_from_slice(&all[..usize::from(base.size())])
+    push_few(bytes, &all[..usize::from(base.size())])
+}
+
+/// Adds bytes, which are four mostly, or none.
+pub(crate) fn push_few(bytes: &mut Vec<u8>, own: &[u8]) -> Result<(), AllocError>
+    ensures items { bytes.new.items ≡ (if is_ok result then bytes.old.items ++ own.now else bytes.old.items) }
+{
+    if own.is_empty() {
+        return Ok(());
+    }
+    let [a, b, c, d] = own else {
+        return bytes.extend_from_slice(own);
+    };
+    bytes.reserve(4)?;
+    bytes.push_reserved(*a);
+    bytes.push_reserved(*b);
+    bytes.push_reserved(*c);
+    bytes.push_reserved(*d);
+    Ok(())
 }
 
 /// Adds zeros.
