@@ -25,7 +25,7 @@ use crate::inline_bytes::push_inline;
 use crate::known_vtables::KnownVtables;
 use crate::open_fields::OpenFields;
 use crate::ops::{Alignment, NotedField, Op};
-use crate::stored_tables::{Offsets, note_table, start_align};
+use crate::stored_tables::{Offsets, note_table};
 use byteorder::{ByteOrder, LittleEndian};
 use fb_layout::Layout;
 use fb_schema::{Kind, TypeId};
@@ -53,7 +53,6 @@ pub struct Tape<'l> {
     vtables: KnownVtables,
     // for one table at a time
     offsets: Offsets,
-    scratch: Vec<u8>,
     room: usize,
 }
 
@@ -88,7 +87,6 @@ impl<'l> Tape<'l> {
             finished: 0,
             vtables: KnownVtables::new(alloc, layout.schema().key()),
             offsets: Offsets::new(alloc),
-            scratch: Vec::new(alloc),
             room: 0,
         }
     }
@@ -330,17 +328,14 @@ impl<'l> Tape<'l> {
         if self.is_over() {
             return Ok(());
         }
-        let align = start_align(opened, from);
-        note_table(
+        let align = note_table(
             &mut self.fields,
             &mut self.bytes,
             &mut self.offsets,
-            &mut self.scratch,
             opened,
             from,
-            align,
         )?;
-        let vtable = self.vtables.number_of(self.scratch.as_slice())?;
+        let vtable = self.vtables.number_of(self.offsets.vtable.as_slice())?;
         self.finished = self.bytes.len();
         self.ops.push(Op::Table {
             align: Alignment::of(align),
