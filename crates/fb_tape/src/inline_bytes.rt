@@ -48,22 +48,27 @@ pub(crate) fn push_number(bytes: &mut Vec<u8>, base: Base, number: i128) -> Resu
     push_few(bytes, &all[..usize::from(base.size())])
 }
 
-/// Adds bytes, which are four mostly, or none.
+/// Adds bytes, which are four mostly, or one, or none.
+#[inline(always)]
 pub(crate) fn push_few(bytes: &mut Vec<u8>, own: &[u8]) -> Result<(), AllocError>
     ensures items { bytes.new.items ≡ (if is_ok result then bytes.old.items ++ own.now else bytes.old.items) }
 {
-    if own.is_empty() {
-        return Ok(());
+    match own {
+        [] => Ok(()),
+        [one] => {
+            bytes.push(*one)?;
+            Ok(())
+        }
+        [a, b, c, d] => {
+            bytes.reserve(4)?;
+            bytes.push_reserved(*a);
+            bytes.push_reserved(*b);
+            bytes.push_reserved(*c);
+            bytes.push_reserved(*d);
+            Ok(())
+        }
+        _ => bytes.extend_from_slice(own),
     }
-    let [a, b, c, d] = own else {
-        return bytes.extend_from_slice(own);
-    };
-    bytes.reserve(4)?;
-    bytes.push_reserved(*a);
-    bytes.push_reserved(*b);
-    bytes.push_reserved(*c);
-    bytes.push_reserved(*d);
-    Ok(())
 }
 
 /// Adds zeros.

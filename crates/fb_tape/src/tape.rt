@@ -337,11 +337,12 @@ impl<'l> Tape<'l> {
         )?;
         let vtable = self.vtables.number_of(self.offsets.vtable.as_slice())?;
         self.finished = self.bytes.len();
-        self.ops.push(Op::Table {
+        self.ops.reserve(1)?;
+        self.ops.push_reserved(Op::Table {
             align: Alignment::of(align),
             fields: (opened.len() - from) as u16,
             vtable: (vtable % SIZES) as u32,
-        })?;
+        });
         Ok(())
     }
 }

@@ -76,7 +76,7 @@ returns-clause-waits c others xs h waits =
     let adds = c.in_ok-align.ensures.notes before.layout fs (stored_in fs xs) stored in
     let vtable = c.in_ok-align.ensures.vtable before.layout fs (stored_in fs xs) stored in
     let after = record (tape_seen inside) {
-      ops = c.push.new.self.items;
+      ops = c.push_reserved.new.self.items;
       notes = c.note_table.new.notes.items;
       bytes = take c.len-self-inside.result c.note_table.new.bytes.items;
       vtables = c.number_of.new.self;
@@ -93,7 +93,7 @@ returns-clause-waits c others xs h waits =
     table_laid before after t c.in_ok-vtable.vtable c.of.result others xs opens
     (c.of.ensures ∙ c.in_ok-align.ensures.align) (record {
       layout = ap (λ (t : Taped). t.layout) seen;
-      ops = rw (← count, ← ap (λ (t : Taped). t.ops) seen) c.in_ok-push.ensures.items;
+      ops = rw (← count, ← ap (λ (t : Taped). t.ops) seen) (rw c.reserve.ensures.items at c.push_reserved.ensures.items);
       notes = adds.notes_are
           ∙ ap (λ (ns : List NotedField). ns ++ notes_of (in_order opens)) (ap (λ (t : Taped). t.notes) seen);
       bytes = all_taken c.len-self-inside.result c.note_table.new.bytes.items
