@@ -3,29 +3,35 @@ ghost use Rattle.std.specs.Prelude.{ℕ, ◌≡◌, ◌<◌, ◌++◌, ◌⊎◌
 ghost use Rattle.std.specs.Prelude.{◌↔◌, IsTrue, IfSome};
 ghost use Rattle.fb_tape.specs.KnownVtables.{EachHasOneNumber, IsNumbered};
 
+use byteorder::{ByteOrder, LittleEndian};
 use fb_index::{DigestIndex, HashKey};
 use std::alloc::{AllocError, Global};
 use std::marker::Model;
 
-// Up to so many bytes are compared one by one, which is quicker than by groups.
-const FEW: usize = 16;
+/// Whether eight bytes are the same.
+fn same_word(a: &[u8], b: &[u8]) -> bool
+    requires a { length a.now ≡ 8 }
+    requires b { length b.now ≡ 8 }
+    ensures { IsTrue result ↔ (a.now ≡ b.now) }
+{
+    LittleEndian::read_u64(a) == LittleEndian::read_u64(b)
+}
 
-/// Whether bytes are the same.
+/// Whether vtables are the same. Those of a few slots are two words, which may overlap.
 fn are_equal(a: &[u8], b: &[u8]) -> bool
     ensures { IsTrue result ↔ (a.now ≡ b.now) }
 {
     if a.len() != b.len() {
         return false;
     }
-    if a.len() > FEW {
+    if a.len() < 8 || a.len() > 16 {
         return a == b;
     }
-    for k in 0..a.len() {
-        if a[k] != b[k] {
-            return false;
-        }
+    let last = a.len() - 8;
+    if !same_word(&a[..8], &b[..8]) {
+        return false;
     }
-    true
+    same_word(&a[last..], &b[last..])
 }
 
 /// Where a vtable's bytes are among those of all.
