@@ -92,14 +92,15 @@ impl OpenFields {
             self.old self.new) }
         ensures kept { OnErr result (self.new ≡ self.old) }
     {
+        self.fields.reserve(1)?;
         let first = self.bytes.len();
         push_number(&mut self.bytes, Base::U8, i128::from(code))?;
-        self.fields.push(OpenField {
+        self.fields.push_reserved(OpenField {
             slot,
             align: 1,
             note: NotedField::Inline(1),
             first,
-        })?;
+        });
         Ok(())
     }
 
@@ -118,14 +119,15 @@ impl OpenFields {
         ensures kept { OnErr result (self.new ≡ self.old) }
     {
         let _schema = layout.schema(); // its contract: the layout is well made
+        self.fields.reserve(1)?;
         let first = self.bytes.len();
         push_inline(&mut self.bytes, layout, kind, value)?;
-        self.fields.push(OpenField {
+        self.fields.push_reserved(OpenField {
             slot,
             align: layout.align_of(kind) as u16,
             note: NotedField::Inline(layout.size_of(kind) as u16),
             first,
-        })?;
+        });
         Ok(())
     }
 
@@ -134,13 +136,14 @@ impl OpenFields {
         ensures adds { OnOk result (self.new ≡ self.old ++ (reference_field slot ∷ [])) }
         ensures kept { OnErr result (self.new ≡ self.old) }
     {
+        self.fields.reserve(1)?;
         let first = self.bytes.len();
-        self.fields.push(OpenField {
+        self.fields.push_reserved(OpenField {
             slot,
             align: 4,
             note: NotedField::Reference,
             first,
-        })?;
+        });
         Ok(())
     }
 
