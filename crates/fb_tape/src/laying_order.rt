@@ -75,6 +75,7 @@ pub(crate) fn note_fields(
 {
     let before = notes.len();
     let count = opened.len() - first;
+    // Each alignment is a power of two, so that the next below it is its half.
     let mut align = greatest;
     while notes.len() - before < count {
         note_fields_at(notes, bytes, offsets, opened, first, align)?;

@@ -21,7 +21,7 @@ ghost use Rattle.fb_tape.specs.StoredFields.{is_reference, ItemsKnown};
 ghost use Rattle.fb_tape.specs.Tapes.{IsUnfinished, Waits};
 ghost use Rattle.fb_tape.specs.declared.ops.Op.TheVariants.{Data};
 
-use crate::inline_bytes::push_inline;
+use crate::inline_bytes::{push_few, push_inline};
 use crate::known_vtables::KnownVtables;
 use crate::open_fields::OpenFields;
 use crate::ops::{Alignment, NotedField, Op};
@@ -154,7 +154,7 @@ impl<'l> Tape<'l> {
         ensures adds { OnOk result (self.new ≡ record self.old { unfinished = self.old.unfinished ++ bytes.now }) }
         ensures layout { self.new.layout ≡ self.old.layout }
     {
-        self.bytes.extend_from_slice(bytes)
+        push_few(&mut self.bytes, bytes)
     }
 
     /// Adds a count to the unfinished bytes: its lowest four bytes.
@@ -264,10 +264,11 @@ impl<'l> Tape<'l> {
         ensures layout { self.new.layout ≡ self.old.layout }
     {
         let size = self.bytes.len() - self.finished;
-        self.ops.push(Op::Data {
+        self.ops.reserve(1)?;
+        self.ops.push_reserved(Op::Data {
             align,
             size: (size % SIZES) as u32,
-        })?;
+        });
         self.finished = self.bytes.len();
         Ok(())
     }
