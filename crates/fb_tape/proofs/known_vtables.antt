@@ -1,1 +1,2 @@
 mod OneMoreIsKnown
+mod WordsTellBytes

@@ -1,3 +1,4 @@
 pub mod AlignmentsFall
 pub mod AllIsInOrder
 pub mod NotesFollowTheOrder
+pub mod LowAlignmentsAreLeft

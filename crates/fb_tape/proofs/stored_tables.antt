@@ -4,3 +4,4 @@ mod OffsetsAreTold
 mod SlotsAreTold
 mod OffsetsAreTrimmed
 mod TableIsNoted
+mod OffsetsArePut

@@ -1,9 +1,8 @@
 -- Open fields as they are held: each one's bytes are among those of all.
-use Rattle.std.specs.Prelude.{ℕ, ◌+◌, ◌≤◌, List, [], ◌∷◌, map, length}
+use Rattle.std.specs.Prelude.{ℕ, ◌+◌, ◌≤◌, ◌≡◌, List, [], ◌∷◌, Some, map, length, slice_get}
 use Rattle.fb_value.specs.Num.{Bytes, part_of}
 use Rattle.fb_tape.specs.OpenFields.{OpenField}
 use Rattle.fb_tape.specs.declared.open_fields.OpenField.{OpenField as Held}
-use Rattle.fb_tape.specs.declared.open_fields.FieldInTable.{FieldInTable}
 use Rattle.fb_tape.specs.declared.open_fields.OpenFields.TheInside.{Inside}
 use Rattle.fb_tape.specs.declared.ops.NotedField.{NotedField}
 use Rattle.fb_tape.specs.declared.ops.NotedField.TheVariants.{Reference, Inline}
@@ -32,6 +31,10 @@ StandInTurn p (x ∷ xs) end = (p ≤ x.first) × StandInTurn (x.first + own_siz
 abbrev pub IsOpenList : Inside → Type 0
 IsOpenList o = StandInTurn 0 o.fields.items (length o.bytes.items)
 
--- a field with its bytes
-abbrev pub field_in : FieldInTable → OpenField
-field_in x = record { slot = x.slot; align = x.align; note = x.note; bytes = x.bytes.now }
+-- The field of an index is this one, whatever its bytes.
+abbrev pub IsFieldAt : List OpenField → ℕ → Held → Type 0
+IsFieldAt xs i held = (all : Bytes) × (slice_get xs i ≡ Some (field_seen all held))
+
+-- The field of an index has these bytes.
+abbrev pub AreBytesAt : List OpenField → ℕ → Bytes → Type 0
+AreBytesAt xs i bytes = (x : OpenField) → slice_get xs i ≡ Some x → bytes ≡ x.bytes

@@ -1,7 +1,8 @@
 -- The stored fields of a table in the order of laying, and where each will stand in it.
 use Rattle.std.specs.Prelude.{ℕ, ◌+◌, ◌-◌, ◌≡◌, ◌≤◌, ◌++◌, ◌==◌, true, List, [], ◌∷◌, length, map, filter, flat_map}
 use Rattle.std.specs.Prelude.{sum_by}
-use Rattle.std.specs.Prelude.{slice_get, slice_set, Option, Some}
+use Rattle.std.specs.Prelude.{◌*◌, slice_get, slice_set, slice_index, Option, Some}
+use Rattle.byteorder.specs.Endian.{little_bytes}
 use Rattle.fb_layout.specs.Laid.{LaidSchema, Slot}
 use Rattle.fb_layout.specs.Sizes.{IsAlignment}
 use Rattle.fb_layout.specs.Widths.{inline_align}
@@ -43,6 +44,17 @@ abbrev pub placed : ℕ → ℕ → List OpenField → List ℕ → List ℕ
 placed size laid [] slots = slots
 placed size laid (x ∷ xs) slots =
     placed size (laid + taken_by x.note) xs (slice_set slots x.slot (size - (laid + taken_by x.note)))
+
+-- a number of two bytes, put into bytes at a place
+abbrev pub put_number : Bytes → ℕ → ℕ → Bytes
+put_number bytes at n =
+    slice_set (slice_set bytes (at + 1) (slice_index (little_bytes 2 n) 1)) at (slice_index (little_bytes 2 n) 0)
+
+-- the same in the bytes of a vtable, which has each slot's number behind its own size and its table's
+abbrev pub told : ℕ → ℕ → List OpenField → Bytes → Bytes
+told size laid [] vtable = vtable
+told size laid (x ∷ xs) vtable = told size (laid + taken_by x.note) xs
+    (put_number vtable (4 + 2 * x.slot) (size - (laid + taken_by x.note)))
 
 -- what each slot that is stored is aligned to
 abbrev pub StoredAligned : LaidSchema → List Slot → List (Option Datum) → Type 0

@@ -1,5 +1,6 @@
 //! The bytes of numbers and structs.
 ghost use Rattle.std.specs.Prelude.{ℕ, ◌≡◌, ◌≤◌, ◌<◌, ◌+◌, ◌^◌, ◌++◌, replicate, length, IsTrue, OnOk, OnErr};
+ghost use Rattle.std.specs.Prelude.{is_ok, if◌then◌else◌};
 ghost use Rattle.fb_schema.specs.Alignments.{base_size};
 ghost use Rattle.fb_schema.specs.Schema.{body_at, is_struct};
 ghost use Rattle.fb_schema.specs.WellDeclared.{InRange};
@@ -44,7 +45,30 @@ pub(crate) fn push_number(bytes: &mut Vec<u8>, base: Base, number: i128) -> Resu
     let bits = bits_of(base, number);
     let mut all = [0u8; 8];
     LittleEndian::write_u64(&mut all, bits);
-    bytes.extend_from_slice(&all[..usize::from(base.size())])
+    push_few(bytes, &all[..usize::from(base.size())])
+}
+
+/// Adds bytes, which are four mostly, or one, or none.
+#[inline(always)]
+pub(crate) fn push_few(bytes: &mut Vec<u8>, own: &[u8]) -> Result<(), AllocError>
+    ensures items { bytes.new.items ≡ (if is_ok result then bytes.old.items ++ own.now else bytes.old.items) }
+{
+    match own {
+        [] => Ok(()),
+        [one] => {
+            bytes.push(*one)?;
+            Ok(())
+        }
+        [a, b, c, d] => {
+            bytes.reserve(4)?;
+            bytes.push_reserved(*a);
+            bytes.push_reserved(*b);
+            bytes.push_reserved(*c);
+            bytes.push_reserved(*d);
+            Ok(())
+        }
+        _ => bytes.extend_from_slice(own),
+    }
 }
 
 /// Adds zeros.

@@ -3,9 +3,36 @@ ghost use Rattle.std.specs.Prelude.{ℕ, ◌≡◌, ◌<◌, ◌++◌, ◌⊎◌
 ghost use Rattle.std.specs.Prelude.{◌↔◌, IsTrue, IfSome};
 ghost use Rattle.fb_tape.specs.KnownVtables.{EachHasOneNumber, IsNumbered};
 
+use byteorder::{ByteOrder, LittleEndian};
 use fb_index::{DigestIndex, HashKey};
 use std::alloc::{AllocError, Global};
 use std::marker::Model;
+
+/// Whether eight bytes are the same.
+fn same_word(a: &[u8], b: &[u8]) -> bool
+    requires a { length a.now ≡ 8 }
+    requires b { length b.now ≡ 8 }
+    ensures { IsTrue result ↔ (a.now ≡ b.now) }
+{
+    LittleEndian::read_u64(a) == LittleEndian::read_u64(b)
+}
+
+/// Whether vtables are the same. Those of a few slots are two words, which may overlap.
+fn are_equal(a: &[u8], b: &[u8]) -> bool
+    ensures { IsTrue result ↔ (a.now ≡ b.now) }
+{
+    if a.len() != b.len() {
+        return false;
+    }
+    if a.len() < 8 || a.len() > 16 {
+        return a == b;
+    }
+    let last = a.len() - 8;
+    if !same_word(&a[..8], &b[..8]) {
+        return false;
+    }
+    same_word(&a[last..], &b[last..])
+}
 
 /// Where a vtable's bytes are among those of all.
 #[derive(Clone, Copy)]
@@ -20,8 +47,9 @@ pub(crate) struct KnownVtables {
     digests: DigestIndex,
     ranges: Vec<VtableRange>,
     bytes: Vec<u8>,
-    // Compared first: the one behind that which was found last, since vtables come again in about the same order.
-    near: usize,
+    // The one that was found last. It and the one behind it are compared first, since vtables come again in about the
+    // same order.
+    last: usize,
 }
 
 impl Model for KnownVtables {
@@ -46,7 +74,7 @@ impl KnownVtables {
             digests: DigestIndex::new(alloc, key),
             ranges: Vec::new(alloc),
             bytes: Vec::new(alloc),
-            near: 0,
+            last: 0,
         }
     }
 
@@ -71,7 +99,13 @@ impl KnownVtables {
     fn is_at(&self, number: usize, vtable: &[u8]) -> bool
         ensures { IsTrue result ↔ (slice_get self.now number ≡ Some vtable.now) }
     {
-        number < self.ranges.len() && self.vtable(number) == vtable
+        number < self.ranges.len() && are_equal(self.vtable(number), vtable)
+    }
+
+    /// The number behind that which was found last; behind the last of all is the first.
+    fn next(&self) -> usize {
+        let next = self.last.saturating_add(1);
+        if next < self.ranges.len() { next } else { 0 }
     }
 
     /// The number of the vtable with these bytes, if it is known.
@@ -79,8 +113,12 @@ impl KnownVtables {
         ensures found { IfSome result (λ number. slice_get self.now number ≡ Some vtable.now) }
         ensures absent { result ≡ None → (number : ℕ) → slice_get self.now number ≡ Some vtable.now → ⊥ }
     {
-        if self.is_at(self.near, vtable) {
-            return Some(self.near);
+        let next = self.next();
+        if self.is_at(next, vtable) {
+            return Some(next);
+        }
+        if self.is_at(self.last, vtable) {
+            return Some(self.last);
         }
         self.digests
             .find(vtable, |number| self.is_at(number, vtable))
@@ -92,7 +130,7 @@ impl KnownVtables {
         ensures kept { OnErr result (self.new ≡ self.old) }
     {
         if let Some(number) = self.find(vtable) {
-            self.near = number.saturating_add(1);
+            self.last = number;
             return Ok(number);
         }
         self.digests.reserve(1)?;

@@ -1,5 +1,5 @@
 //! The stored fields of tables that aren't whole yet.
-ghost use Rattle.std.specs.Prelude.{ℕ, ◌≡◌, ◌≤◌, ◌<◌, ◌++◌, [], ◌∷◌, Some, length, slice_get, take, pos, OnOk, OnErr};
+ghost use Rattle.std.specs.Prelude.{ℕ, ◌≡◌, ◌≤◌, ◌<◌, ◌++◌, [], ◌∷◌, length, take, pos, OnOk, OnErr};
 ghost use Rattle.fb_schema.specs.declared.kinds.Base.TheVariants.{U8};
 ghost use Rattle.fb_layout.specs.Laid.{LaidSchema, one_of, scalar_kind};
 ghost use Rattle.fb_layout.specs.Seen.{kind_seen};
@@ -8,7 +8,7 @@ ghost use Rattle.fb_value.specs.Fits.{Fits};
 ghost use Rattle.fb_value.specs.View.{view};
 ghost use Rattle.fb_tape.specs.InlineBytes.{IsInline};
 ghost use Rattle.fb_tape.specs.OpenFields.{AddsInlineField, reference_field};
-ghost use Rattle.fb_tape.specs.OpenList.{field_in, own_size};
+ghost use Rattle.fb_tape.specs.OpenList.{AreBytesAt, IsFieldAt, own_size};
 
 use crate::inline_bytes::{push_inline, push_number};
 use crate::ops::NotedField;
@@ -21,19 +21,10 @@ use std::marker::Model;
 /// A field, whose bytes are among those of all open fields.
 #[derive(Clone, Copy)]
 pub(crate) struct OpenField {
-    slot: u16,
-    align: u16,
-    note: NotedField,
-    first: usize,
-}
-
-/// A field as it is to be noted.
-#[derive(Clone, Copy)]
-pub(crate) struct FieldInTable<'b> {
     pub(crate) slot: u16,
     pub(crate) align: u16,
     pub(crate) note: NotedField,
-    pub(crate) bytes: &'b [u8],
+    first: usize,
 }
 
 /// How many bytes of a field are noted.
@@ -101,14 +92,15 @@ impl OpenFields {
             self.old self.new) }
         ensures kept { OnErr result (self.new ≡ self.old) }
     {
+        self.fields.reserve(1)?;
         let first = self.bytes.len();
         push_number(&mut self.bytes, Base::U8, i128::from(code))?;
-        self.fields.push(OpenField {
+        self.fields.push_reserved(OpenField {
             slot,
             align: 1,
             note: NotedField::Inline(1),
             first,
-        })?;
+        });
         Ok(())
     }
 
@@ -127,14 +119,15 @@ impl OpenFields {
         ensures kept { OnErr result (self.new ≡ self.old) }
     {
         let _schema = layout.schema(); // its contract: the layout is well made
+        self.fields.reserve(1)?;
         let first = self.bytes.len();
         push_inline(&mut self.bytes, layout, kind, value)?;
-        self.fields.push(OpenField {
+        self.fields.push_reserved(OpenField {
             slot,
             align: layout.align_of(kind) as u16,
             note: NotedField::Inline(layout.size_of(kind) as u16),
             first,
-        })?;
+        });
         Ok(())
     }
 
@@ -143,29 +136,34 @@ impl OpenFields {
         ensures adds { OnOk result (self.new ≡ self.old ++ (reference_field slot ∷ [])) }
         ensures kept { OnErr result (self.new ≡ self.old) }
     {
+        self.fields.reserve(1)?;
         let first = self.bytes.len();
-        self.fields.push(OpenField {
+        self.fields.push_reserved(OpenField {
             slot,
             align: 4,
             note: NotedField::Reference,
             first,
-        })?;
+        });
         Ok(())
     }
 
-    /// The field of an index.
+    /// The field of an index, but for its bytes.
     #[inline(always)]
-    pub(crate) fn field(&self, index: usize) -> FieldInTable<'_>
+    pub(crate) fn field(&self, index: usize) -> OpenField
         requires within { index < length self.now }
-        ensures is { slice_get self.now index ≡ Some (field_in result) }
+        ensures is { IsFieldAt self.now index result }
+    {
+        self.fields[index]
+    }
+
+    /// The bytes of the field of an index.
+    #[inline(always)]
+    pub(crate) fn bytes_of(&self, index: usize) -> &[u8]
+        requires within { index < length self.now }
+        ensures are { AreBytesAt self.now index result.now }
     {
         let field = self.fields[index];
         let end = field.first + own_size(field.note);
-        FieldInTable {
-            slot: field.slot,
-            align: field.align,
-            note: field.note,
-            bytes: &self.bytes[field.first..end],
-        }
+        &self.bytes[field.first..end]
     }
 }

@@ -21,11 +21,11 @@ ghost use Rattle.fb_tape.specs.StoredFields.{is_reference, ItemsKnown};
 ghost use Rattle.fb_tape.specs.Tapes.{IsUnfinished, Waits};
 ghost use Rattle.fb_tape.specs.declared.ops.Op.TheVariants.{Data};
 
-use crate::inline_bytes::push_inline;
+use crate::inline_bytes::{push_few, push_inline};
 use crate::known_vtables::KnownVtables;
 use crate::open_fields::OpenFields;
 use crate::ops::{Alignment, NotedField, Op};
-use crate::stored_tables::{Offsets, note_table, start_align};
+use crate::stored_tables::{Offsets, note_table};
 use byteorder::{ByteOrder, LittleEndian};
 use fb_layout::Layout;
 use fb_schema::{Kind, TypeId};
@@ -53,7 +53,6 @@ pub struct Tape<'l> {
     vtables: KnownVtables,
     // for one table at a time
     offsets: Offsets,
-    scratch: Vec<u8>,
     room: usize,
 }
 
@@ -88,7 +87,6 @@ impl<'l> Tape<'l> {
             finished: 0,
             vtables: KnownVtables::new(alloc, layout.schema().key()),
             offsets: Offsets::new(alloc),
-            scratch: Vec::new(alloc),
             room: 0,
         }
     }
@@ -156,7 +154,7 @@ impl<'l> Tape<'l> {
         ensures adds { OnOk result (self.new ≡ record self.old { unfinished = self.old.unfinished ++ bytes.now }) }
         ensures layout { self.new.layout ≡ self.old.layout }
     {
-        self.bytes.extend_from_slice(bytes)
+        push_few(&mut self.bytes, bytes)
     }
 
     /// Adds a count to the unfinished bytes: its lowest four bytes.
@@ -266,10 +264,11 @@ impl<'l> Tape<'l> {
         ensures layout { self.new.layout ≡ self.old.layout }
     {
         let size = self.bytes.len() - self.finished;
-        self.ops.push(Op::Data {
+        self.ops.reserve(1)?;
+        self.ops.push_reserved(Op::Data {
             align,
             size: (size % SIZES) as u32,
-        })?;
+        });
         self.finished = self.bytes.len();
         Ok(())
     }
@@ -330,23 +329,21 @@ impl<'l> Tape<'l> {
         if self.is_over() {
             return Ok(());
         }
-        let align = start_align(opened, from);
-        note_table(
+        let align = note_table(
             &mut self.fields,
             &mut self.bytes,
             &mut self.offsets,
-            &mut self.scratch,
             opened,
             from,
-            align,
         )?;
-        let vtable = self.vtables.number_of(self.scratch.as_slice())?;
+        let vtable = self.vtables.number_of(self.offsets.vtable.as_slice())?;
         self.finished = self.bytes.len();
-        self.ops.push(Op::Table {
+        self.ops.reserve(1)?;
+        self.ops.push_reserved(Op::Table {
             align: Alignment::of(align),
             fields: (opened.len() - from) as u16,
             vtable: (vtable % SIZES) as u32,
-        })?;
+        });
         Ok(())
     }
 }

@@ -163,20 +163,17 @@ found_field bytes xs seen k x is low found =
     let long : length xs ≡ length seen = sym (length-map xs (field_seen bytes)) ∙ ap length is in
     slice_get_read xs (length xs) k x refl (omega (arith, low, long)) found
 
-field_is : (bytes : Bytes) (xs : List Held) (seen : List OpenField) (k : ℕ) (x : Held)
+pub field_is : (bytes : Bytes) (xs : List Held) (seen : List OpenField) (k : ℕ) (x : Held)
     → map (field_seen bytes) xs ≡ seen → slice_get xs k ≡ Some x → slice_get seen k ≡ Some (field_seen bytes x)
 field_is bytes xs seen k x is at =
     ap (λ ys. slice_get ys k) (sym is) ∙ slice_get-map (field_seen bytes) xs k ∙ ap (option_map (field_seen bytes)) at
 
 -- its bytes, read from an equal list
-pub field_read : (bytes read : Bytes) (xs : List Held) (seen : List OpenField) (k size : ℕ) (x : Held)
+pub bytes_read : (bytes read : Bytes) (xs : List Held) (seen : List OpenField) (k size : ℕ) (x : Held) (y : OpenField)
     → map (field_seen bytes) xs ≡ seen → slice_get xs k ≡ Some x → read ≡ bytes → size ≡ own_size x.note
-    → slice_get seen k ≡ Some (record {
-      slot = x.slot;
-      align = x.align;
-      note = x.note;
-      bytes = take ((x.first + size) - x.first) (drop x.first read);
-    })
-field_read bytes read xs seen k size x is at same size_is =
+    → slice_get seen k ≡ Some y → take ((x.first + size) - x.first) (drop x.first read) ≡ y.bytes
+bytes_read bytes read xs seen k size x y is at same size_is there =
     let long : (x.first + size) - x.first ≡ own_size x.note = omega (arith, size_is) in
-    rw (long, same) (field_is bytes xs seen k x is at)
+    let found = field_is bytes xs seen k x is at in
+    let whole : field_seen bytes x ≡ y = cc in
+    rw (long, same, ← whole) refl

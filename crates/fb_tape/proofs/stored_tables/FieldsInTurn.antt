@@ -1,7 +1,7 @@
 -- One field after the other is noted.
 use Rattle.std.proofs.Common.{◌≡◌, ◌≤◌, ◌+◌, ◌-◌, ◌++◌, ◌==◌, ◌∙◌, ℕ, zero, suc, true, false, List, [], ◌∷◌}
 use Rattle.std.proofs.Common.{Some, slice_get, slice_set, length, length-append, drop, map, max, refl, sym, ap, arith}
-use Rattle.std.proofs.Common.{◌<◌}
+use Rattle.std.proofs.Common.{◌<◌, ◌*◌}
 use Rattle.std.proofs.lemmas.Bool.{ne_eqb}
 use Rattle.std.proofs.lemmas.List.{append_assoc, append-nil, length-map, length-set}
 use Rattle.fb_schema.specs.Alignments.{greatest_in}
@@ -9,7 +9,7 @@ use Rattle.std.proofs.lemmas.Grind.{flat_map-append}
 use Rattle.std.proofs.lemmas.List.Sums.{sum_by-cons}
 use Rattle.fb_value.specs.Num.{Bytes}
 use Rattle.fb_tape.specs.OpenFields.{OpenField}
-use Rattle.fb_tape.specs.StoredTables.{taken_by, taken, at_align, notes_of, bytes_of, placed}
+use Rattle.fb_tape.specs.StoredTables.{taken_by, taken, at_align, notes_of, bytes_of, placed, put_number, told}
 use Rattle.fb_tape.specs.declared.ops.NotedField.{NotedField}
 
 pub drop_next : {A : Type 0} (xs : List A) (i : ℕ) (x : A) → slice_get xs i ≡ Some x → drop i xs ≡ x ∷ drop (i + 1) xs
@@ -23,8 +23,11 @@ pub record Noting (size : ℕ) (left all : List OpenField) (notes notes_before :
   pub notes_are : notes ++ notes_of left ≡ notes_before ++ notes_of all
   pub bytes_are : bytes ++ bytes_of left ≡ bytes_before ++ bytes_of all
   pub laid_are : laid + taken left ≡ laid_before + taken all
-  pub placed_are : placed size laid left slots ≡ placed size laid_before all slots_before
+  pub told_are : told size laid left slots ≡ told size laid_before all slots_before
   pub slots_long : length slots ≡ length slots_before
+
+pub put_long : (bytes : Bytes) (at n : ℕ) → length (put_number bytes at n) ≡ length bytes
+put_long bytes at n = simp length-set
 
 pub begun : (size : ℕ) (all : List OpenField) (notes : List NotedField) (bytes : Bytes) (laid : ℕ) (slots : List ℕ)
     → Noting size all all notes notes bytes bytes laid laid slots slots
@@ -32,7 +35,7 @@ begun size all notes bytes laid slots = record {
   notes_are = refl;
   bytes_are = refl;
   laid_are = refl;
-  placed_are = refl;
+  told_are = refl;
   slots_long = refl;
 }
 
@@ -49,13 +52,14 @@ module _ (size : ℕ) (x : OpenField) (rest all : List OpenField) (notes notes_b
     (h : Noting size (x ∷ rest) all notes notes_before bytes bytes_before laid laid_before slots slots_before)
   where
     pub noted : Noting size rest all (notes ++ (x.note ∷ [])) notes_before (bytes ++ x.bytes) bytes_before
-        (laid + taken_by x.note) laid_before (slice_set slots x.slot (size - (laid + taken_by x.note))) slots_before
+        (laid + taken_by x.note) laid_before
+        (put_number slots (4 + 2 * x.slot) (size - (laid + taken_by x.note))) slots_before
     noted = record {
       notes_are = append_assoc notes (x.note ∷ []) (notes_of rest) ∙ h.notes_are;
       bytes_are = append_assoc bytes x.bytes (bytes_of rest) ∙ h.bytes_are;
       laid_are = omega (arith, h.laid_are, sum_by-cons (λ (y : OpenField). taken_by y.note) x rest);
-      placed_are = h.placed_are;
-      slots_long = length-set slots x.slot (size - (laid + taken_by x.note)) ∙ h.slots_long;
+      told_are = h.told_are;
+      slots_long = put_long slots (4 + 2 * x.slot) (size - (laid + taken_by x.note)) ∙ h.slots_long;
     }
 
     pub room_here : laid + taken_by x.note ≤ laid_before + taken all
@@ -66,12 +70,12 @@ pub all_noted : (size : ℕ) (left all : List OpenField) (notes notes_before : L
     (bytes bytes_before : Bytes) (laid laid_before : ℕ) (slots slots_before : List ℕ) → left ≡ []
     → Noting size left all notes notes_before bytes bytes_before laid laid_before slots slots_before
     → (notes ≡ notes_before ++ notes_of all) × (bytes ≡ bytes_before ++ bytes_of all)
-    × (laid ≡ laid_before + taken all) × (slots ≡ placed size laid_before all slots_before)
+    × (laid ≡ laid_before + taken all) × (slots ≡ told size laid_before all slots_before)
 all_noted size left all notes notes_before bytes bytes_before laid laid_before slots slots_before none h = (
   sym (append-nil notes) ∙ rw none at h.notes_are,
   sym (append-nil bytes) ∙ rw none at h.bytes_are,
   omega (arith, rw none at h.laid_are),
-  rw none at h.placed_are,
+  rw none at h.told_are,
 )
 
 -- ---- several fields at once
@@ -99,6 +103,15 @@ placed_both size laid (x ∷ xs) ys slots =
     rw same (placed_both size (laid + taken_by x.note) xs ys
     (slice_set slots x.slot (size - (laid + taken_by x.note))))
 
+pub told_both : (size laid : ℕ) (xs ys : List OpenField) (vtable : Bytes)
+    → told size laid (xs ++ ys) vtable ≡ told size (laid + taken xs) ys (told size laid xs vtable)
+told_both size laid [] ys vtable = let same : laid + 0 ≡ laid = omega arith in rw same refl
+told_both size laid (x ∷ xs) ys vtable =
+    let one = sum_by-cons (λ (y : OpenField). taken_by y.note) x xs in
+    let same : laid + taken (x ∷ xs) ≡ (laid + taken_by x.note) + taken xs = omega (arith, one) in
+    rw same (told_both size (laid + taken_by x.note) xs ys
+    (put_number vtable (4 + 2 * x.slot) (size - (laid + taken_by x.note))))
+
 pub placed_long : (size laid : ℕ) (xs : List OpenField) (slots : List ℕ)
     → length (placed size laid xs slots) ≡ length slots
 placed_long size laid [] slots = refl
@@ -109,7 +122,7 @@ placed_long size laid (x ∷ xs) slots =
 pub several_noted : (size : ℕ) (some rest all : List OpenField) (notes new_notes notes_before : List NotedField)
     (bytes new_bytes bytes_before : Bytes) (laid new_laid laid_before : ℕ) (slots new_slots slots_before : List ℕ)
     → new_notes ≡ notes ++ notes_of some → new_bytes ≡ bytes ++ bytes_of some → new_laid ≡ laid + taken some
-    → new_slots ≡ placed size laid some slots → length new_slots ≡ length slots
+    → new_slots ≡ told size laid some slots → length new_slots ≡ length slots
     → Noting size (some ++ rest) all notes notes_before bytes bytes_before laid laid_before slots slots_before
     → Noting size rest all new_notes notes_before new_bytes bytes_before new_laid laid_before new_slots slots_before
 several_noted size some rest all notes new_notes notes_before bytes new_bytes bytes_before laid new_laid laid_before
@@ -119,7 +132,7 @@ several_noted size some rest all notes new_notes notes_before bytes new_bytes by
       bytes_are = rw bytes_are (append_assoc bytes (bytes_of some) (bytes_of rest)
           ∙ rw (bytes_both some rest) at h.bytes_are);
       laid_are = omega (arith, laid_are, taken_both some rest, h.laid_are);
-      placed_are = rw (laid_are, slots_are) (sym (placed_both size laid some rest slots) ∙ h.placed_are);
+      told_are = rw (laid_are, slots_are) (sym (told_both size laid some rest slots) ∙ h.told_are);
       slots_long = long ∙ h.slots_long;
     }
 
@@ -139,7 +152,7 @@ no_field (x ∷ xs) none = absurd (omega (arith, none))
 -- Once as many are noted as there are, none is left.
 pub none_left : (size : ℕ) (left all : List OpenField) (notes notes_before : List NotedField)
     (bytes bytes_before : Bytes)
-    (laid laid_before : ℕ) (slots slots_before : List ℕ) → length notes ≡ length notes_before + length all
+    (laid laid_before : ℕ) (slots slots_before : List ℕ) → length notes_before + length all ≤ length notes
     → Noting size left all notes notes_before bytes bytes_before laid laid_before slots slots_before → left ≡ []
 none_left size left all notes notes_before bytes bytes_before laid laid_before slots slots_before many h =
     no_field left (omega (

@@ -1,7 +1,7 @@
 use Rattle.std.proofs.Common.{◌≡◌, ◌+◌, ◌-◌, ◌<◌, ℕ, zero, suc, List, [], ◌∷◌, Some, slice_get, length, drop, ap, sym}
 use Rattle.std.proofs.Common.{arith}
 use Rattle.std.proofs.lemmas.List.{drop_all, length-drop}
-use Rattle.fb_tape.specs.OpenList.{field_in}
+use Rattle.fb_tape.specs.OpenList.{field_seen}
 use Rattle.fb_tape.proofs.stored_tables.OffsetsAreTrimmed.{all_used}
 use Rattle.fb_tape.proofs.stored_tables.slots_used.Goals as goal
 
@@ -25,8 +25,8 @@ returns c L fs xs h =
     let long = length-drop first opens in
     let some : first < length opens = omega (arith, c.if-len-first.false, c.len.ensures, c.requires.within) in
     let at : first + ((length opens - 1) - first) ≡ length opens - 1 = omega (arith, some) in
-    let last = used.last ((length opens - 1) - first) (field_in c.field.result)
+    let last = used.last ((length opens - 1) - first) (field_seen c.field.ensures.is.0 c.field.result)
     (omega (arith, long, c.requires.within, some))
-    (dropped opens first ((length opens - 1) - first) (field_in c.field.result)
-    (rw at (rw c.len-2.ensures.exact at c.field.ensures.is))) in
+    (dropped opens first ((length opens - 1) - first) (field_seen c.field.ensures.is.0 c.field.result)
+    (rw at (rw c.len-2.ensures.exact at c.field.ensures.is.1))) in
     omega (arith, last, c.from.ensures)

@@ -6,7 +6,7 @@ use Rattle.fb_value.specs.Datum.{a_number}
 use Rattle.fb_tape.specs.OpenFields.{OpenField, AddsInlineField}
 use Rattle.fb_tape.specs.OpenList.{field_seen}
 use Rattle.fb_tape.proofs.inline_bytes.InlineKindsAreNumbersOrStructs.{same_wide}
-use Rattle.fb_tape.proofs.open_fields.FieldsStandInTurn.{kept_inside, fails_as_before, inline_inside}
+use Rattle.fb_tape.proofs.open_fields.FieldsStandInTurn.{inline_inside}
 use Rattle.fb_tape.proofs.open_fields.FieldsStandInTurn.{inline_field_added}
 use Rattle.fb_tape.proofs.open_fields.OpenFields.push_code.Goals as goal
 
@@ -14,31 +14,18 @@ use Rattle.fb_tape.proofs.open_fields.OpenFields.push_code.Goals as goal
 abbrev empty : LaidSchema
 empty = record { schema = record { types = []; root = 0; identifier = None }; structs = [] }
 
-pub invariant_of-self-in_err-push : goal.invariant_of-self-in_err-push
-invariant_of-self-in_err-push c =
-    let added = c.in_ok-push_number.ensures.adds empty in
-    rw c.in_err-push.ensures.items (kept_inside c.self.inside.fields.items c.self.inside.bytes.items
-    c.push_number.new.bytes.items (added.0, added.1) c.self.invariant)
-
-pub returns-in_err-push-clause-kept : goal.returns-in_err-push-clause-kept
-returns-in_err-push-clause-kept c =
-    let added = c.in_ok-push_number.ensures.adds empty in
-    fails_as_before c.from_residual-in_err-push.result c.self.inside.bytes.items c.push_number.new.bytes.items
-    c.self.inside.fields.items c.push.new.self.items c.args.self.now (added.0, added.1) c.self.invariant
-    c.in_err-push.ensures.items c.self.view_is
-
 pub invariant_of-self-2 : goal.invariant_of-self-2
 invariant_of-self-2 c =
     inline_inside empty (scalar_kind U8) _ c.self.inside.bytes.items c.push_number.new.bytes.items
-    c.self.inside.fields.items c.push.new.self.items _ c.self.invariant (c.in_ok-push_number.ensures.adds empty)
-    c.in_ok-push.ensures.items refl (omega (arith, c.len-first.ensures))
+    c.self.inside.fields.items c.push_reserved.new.self.items _ c.self.invariant (c.in_ok-push_number.ensures.adds empty)
+    (rw c.reserve.ensures.items at c.push_reserved.ensures.items) refl (omega (arith, c.len-first.ensures))
 
 pub returns-clause-adds : goal.returns-clause-adds
 returns-clause-adds c L =
     let same = same_wide U8 (pos c.args.code) (omega (arith, ints), omega (arith, ints)) in
     subst (λ (xs : List OpenField). AddsInlineField L c.args.slot (scalar_kind U8) (a_number (pos c.args.code)) xs
-    (map (field_seen c.push_number.new.bytes.items) c.push.new.self.items)) c.self.view_is
+    (map (field_seen c.push_number.new.bytes.items) c.push_reserved.new.self.items)) c.self.view_is
     (inline_field_added L c.args.slot (scalar_kind U8) (a_number (pos c.args.code)) c.self.inside.bytes.items
-    c.push_number.new.bytes.items c.self.inside.fields.items c.push.new.self.items _ c.self.invariant
-    (rw (c.from.ensures, same) at c.in_ok-push_number.ensures.adds L) c.in_ok-push.ensures.items refl refl refl
+    c.push_number.new.bytes.items c.self.inside.fields.items c.push_reserved.new.self.items _ c.self.invariant
+    (rw (c.from.ensures, same) at c.in_ok-push_number.ensures.adds L) (rw c.reserve.ensures.items at c.push_reserved.ensures.items) refl refl refl
     (omega (arith, c.len-first.ensures)))

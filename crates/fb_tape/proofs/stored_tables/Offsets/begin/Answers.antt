@@ -1,15 +1,13 @@
-use Rattle.std.proofs.Common.{◌∙◌, ◌+◌, drop, ap, arith}
-use Rattle.fb_layout.specs.Sizes.{ceil4}
-use Rattle.fb_tape.proofs.stored_tables.OpenFieldsAreStored.{taken_is}
+use Rattle.std.proofs.Common.{◌≡◌, ◌∙◌, ◌+◌, ◌*◌, ◌/◌, replicate, ap}
+use Rattle.fb_value.specs.Num.{Bytes}
+use Rattle.fb_tape.specs.StoredTables.{put_number}
+use Rattle.fb_tape.proofs.stored_tables.OffsetsArePut.{sizes_put}
 use Rattle.fb_tape.proofs.stored_tables.Offsets.begin.Goals as goal
 
-pub table_size-self-requires-clause-small : goal.table_size-self-requires-clause-small
-table_size-self-requires-clause-small c =
-    let some = c.requires.some in
-    let taken = taken_is some.0 0 some.1 some.2 (drop c.args.first c.args.opened.now) some.3.are in
-    omega (arith, taken, some.3.small)
-
-pub returns-clause-size : goal.returns-clause-size
-returns-clause-size c L fs xs h =
-    c.table_size-self.ensures
-    ∙ ap (λ (n : _). 4 + ceil4 n) (taken_is L 0 fs xs (drop c.args.first c.args.opened.now) h.are)
+pub returns-clause-begun : goal.returns-clause-begun
+returns-clause-begun c =
+    let size = 4 + (c.args.fields_size + 3) / 4 * 4 in
+    let long = 4 + 2 * c.args.slots in
+    let own : c.put_u16.new.bytes.items ≡ put_number (replicate long 0) 0 long =
+    c.put_u16.ensures.put ∙ ap (λ (bs : Bytes). put_number bs 0 long) c.in_ok-set_zeros.ensures.zeros in
+    c.put_u16-2.ensures.put ∙ ap (λ (bs : Bytes). put_number bs 2 size) own ∙ sizes_put size c.args.slots

@@ -47,7 +47,7 @@ of-requires-clause-few c =
     let stored = open_stored L t opens xs made c.requires.stored.1 in
     let few = fields_fit opens (all_aligned L 0 (slots_of L t) (stored_in (slots_of L t) xs) opens stored.aligned
     stored.are) in
-    omega (arith, few, c.start_align-align.ensures)
+    omega (arith, few, c.in_ok-align.ensures.align)
 
 pub overflow_cast-len : goal.overflow_cast-len
 overflow_cast-len c =
@@ -73,10 +73,10 @@ returns-clause-waits c others xs h waits =
     let seen : tape_seen inside ≡ record before { room = at_most_usize (before.room + c.table_room.result) } =
     c.self-2.view_is ∙ c.add_room.ensures.adds in
     let stored = open_stored before.layout t opens xs made h in
-    let adds = c.in_ok-note_table.ensures.notes before.layout fs (stored_in fs xs) stored in
-    let vtable = c.in_ok-note_table.ensures.vtable before.layout fs (stored_in fs xs) stored in
+    let adds = c.in_ok-align.ensures.notes before.layout fs (stored_in fs xs) stored in
+    let vtable = c.in_ok-align.ensures.vtable before.layout fs (stored_in fs xs) stored in
     let after = record (tape_seen inside) {
-      ops = c.push.new.self.items;
+      ops = c.push_reserved.new.self.items;
       notes = c.note_table.new.notes.items;
       bytes = take c.len-self-inside.result c.note_table.new.bytes.items;
       vtables = c.number_of.new.self;
@@ -91,9 +91,9 @@ returns-clause-waits c others xs h waits =
     let own : c.table_room.result ≡ at_most_usize (table_room before.layout t) =
     omega (arith, rw layout at c.table_room.ensures, c.table_room.type_inv) in
     table_laid before after t c.in_ok-vtable.vtable c.of.result others xs opens
-    (c.of.ensures ∙ c.start_align-align.ensures) (record {
+    (c.of.ensures ∙ c.in_ok-align.ensures.align) (record {
       layout = ap (λ (t : Taped). t.layout) seen;
-      ops = rw (← count, ← ap (λ (t : Taped). t.ops) seen) c.in_ok-push.ensures.items;
+      ops = rw (← count, ← ap (λ (t : Taped). t.ops) seen) (rw c.reserve.ensures.items at c.push_reserved.ensures.items);
       notes = adds.notes_are
           ∙ ap (λ (ns : List NotedField). ns ++ notes_of (in_order opens)) (ap (λ (t : Taped). t.notes) seen);
       bytes = all_taken c.len-self-inside.result c.note_table.new.bytes.items

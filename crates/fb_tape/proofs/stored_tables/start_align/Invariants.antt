@@ -1,8 +1,0 @@
-use Rattle.std.proofs.Common.{◌≡◌, drop, map, max}
-use Rattle.fb_schema.specs.Alignments.{greatest_in}
-use Rattle.fb_tape.proofs.stored_tables.start_align.Given as goal
-
-abbrev pub invariant-loop-i : goal.invariant-loop-i
-invariant-loop-i l =
-    max l.align (greatest_in (map (λ x. x.align) (drop l.i l.opened)))
-    ≡ max 4 (greatest_in (map (λ x. x.align) (drop l.first l.opened)))
