@@ -7,6 +7,7 @@ ghost use Rattle.fb_layout.specs.Sizes.{IsAlignment};
 ghost use Rattle.fb_build.specs.Tails.{Grows};
 
 use crate::blocks::{end_of, put_in_front};
+use crate::padding::zeros_to;
 use byteorder::{ByteOrder, LittleEndian};
 use std::marker::Model;
 
@@ -137,7 +138,7 @@ impl Tail {
         ensures grows { Grows self.old self.new }
     {
         let after = self.count() + more;
-        let zeros = (align - after % align) % align;
+        let zeros = zeros_to(align, after);
         self.skip(zeros);
         self.widen(align);
         zeros
