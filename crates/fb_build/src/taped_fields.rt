@@ -39,30 +39,6 @@ pub(crate) fn bytes_in(notes: &[NotedField]) -> usize
     count
 }
 
-/// How many bytes a field takes in its table.
-fn size_of(note: NotedField) -> usize
-    ensures exact { result ≡ noted_size note }
-    ensures small { result ≤ 65535 }
-{
-    match note {
-        NotedField::Reference => 4,
-        NotedField::Inline(size) => size as usize,
-    }
-}
-
-/// How many bytes some fields take in their table.
-pub(crate) fn size_in(notes: &[NotedField]) -> usize
-    requires few { length notes.now ≤ 65535 }
-    ensures exact { result ≡ notes_size notes.now }
-    ensures small { result ≤ 4294967296 }
-{
-    let mut count = 0;
-    for i in 0..notes.len() {
-        count += size_of(notes[i]);
-    }
-    count
-}
-
 /// How many of the parts that wait a field refers to.
 fn references_of(note: NotedField) -> usize
     ensures { result ≡ noted_references note }
