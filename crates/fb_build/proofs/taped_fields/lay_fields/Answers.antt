@@ -1,21 +1,19 @@
 use Rattle.std.proofs.Common.{◌≡◌, ◌+◌, ◌-◌, ◌%◌, ◌<◌, ◌∙◌, ℕ, suc, true, List, ◌∷◌, length, drop, slice_index_or, refl}
-use Rattle.std.proofs.Common.{ap, subst, arith, length-drop, false}
+use Rattle.std.proofs.Common.{ap, subst, arith, false}
 use Rattle.std.proofs.lemmas.Bool.{eq-eqb, eqb-true}
-use Rattle.std.proofs.lemmas.List.{drop-drop}
 use Rattle.std.proofs.lemmas.List.Sums.{sum_by-cons}
 use Rattle.std.proofs.Math.Seq.{drop-cons}
 use Rattle.fb_layout.specs.Sizes.{IsAlignment}
 use Rattle.fb_value.specs.Num.{divides}
 use Rattle.fb_value.proofs.tails.TailsAreKeptInFront.{through}
-use Rattle.fb_tape.specs.OpenList.{own_size}
 use Rattle.fb_tape.specs.declared.ops.NotedField.{NotedField}
 use Rattle.fb_tape.specs.declared.ops.NotedField.TheVariants.{Reference}
 use Rattle.fb_build.specs.Lengths.{zeros_to}
-use Rattle.fb_build.specs.NotesLaid.{noted_size, noted_references, notes_size}
+use Rattle.fb_build.specs.NotesLaid.{noted_size, notes_size}
 use Rattle.fb_build.proofs.fields.FieldsAreLaidInOrder.{none_laid_before, slots_laid, size_laid, leads_laid}
 use Rattle.fb_build.proofs.tail.WhatIsLaidStaysLaid.{same_grows, then_grows, grown_long, four_power, power_divides}
 use Rattle.fb_build.proofs.taped.NotedFieldsAreLaidInTurn.{to_be_aligned, fields_wide, note_may, note_laid}
-use Rattle.fb_build.proofs.taped.NotedFieldsAreLaidInTurn.{taken_within, all_left, none_left, none_noted, relinked}
+use Rattle.fb_build.proofs.taped.NotedFieldsAreLaidInTurn.{none_left, none_noted, relinked}
 use Rattle.fb_build.proofs.taped.SlotsAreInLayingOrder.{links_next, slots_ordered, first_link}
 use Rattle.fb_tape.specs.LayingOrder.{laying_order}
 use Rattle.fb_build.proofs.taped_fields.lay_fields.Goals as goal

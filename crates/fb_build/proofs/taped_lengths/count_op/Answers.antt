@@ -1,4 +1,4 @@
-use Rattle.std.proofs.Common.{◌∙◌, arith}
+use Rattle.std.proofs.Common.{arith}
 use Rattle.std.proofs.lemmas.Option.{slice_get_within}
 use Rattle.fb_layout.specs.Sizes.{IsAlignment}
 use Rattle.fb_tape.specs.Alignments.{aligned_to}

@@ -1,4 +1,4 @@
-use Rattle.std.proofs.Common.{◌≡◌, ◌∙◌, take, drop, slice_index_or, arith, length-drop}
+use Rattle.std.proofs.Common.{◌∙◌, take, drop, slice_index_or, arith, length-drop}
 use Rattle.std.proofs.lemmas.List.{drop-drop}
 use Rattle.fb_layout.specs.WellMade.{IsWellMade}
 use Rattle.fb_build.specs.TapeLaid.{op_fields, op_bytes, op_vtable}
