@@ -9,7 +9,7 @@ ghost use Rattle.fb_build.specs.Steps.{MayLayNext, Steps};
 
 use crate::tail::Tail;
 use crate::taped_fields::lay_fields;
-use crate::taped_vtables::close_table;
+use crate::taped_vtables::{NumberedVtable, close_table};
 use crate::{taped_data, taped_references};
 use fb_tape::{Alignment, NotedField};
 
@@ -68,7 +68,7 @@ pub(crate) fn lay_table(
     laying: &mut Laying,
     align: Alignment,
     number: usize,
-    vtable: &[u8],
+    vtable: &NumberedVtable<'_, '_>,
     notes: &[NotedField],
     bytes: &[u8],
     taken: usize,

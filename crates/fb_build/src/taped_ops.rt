@@ -13,6 +13,7 @@ ghost use Rattle.fb_build.specs.Waiting.{AreWaiting};
 
 use crate::laying::{Laying, lay_data, lay_references, lay_table};
 use crate::taped_fields::taken_by;
+use crate::taped_vtables::NumberedVtable;
 use fb_layout::Layout;
 use fb_tape::{NotedField, Op, Tape};
 
@@ -42,13 +43,7 @@ struct PassedBy {
 }
 
 /// Lays an operation, whose fields and bytes come first, and returns how many these are.
-fn lay_op(
-    laying: &mut Laying,
-    tape: &Tape,
-    op: Op,
-    fields: &[NotedField],
-    bytes: &[u8],
-) -> PassedBy
+fn lay_op(laying: &mut Laying, tape: &Tape, op: Op, fields: &[NotedField], bytes: &[u8]) -> PassedBy
     requires fields { op_fields op ≤ length fields.now }
     requires bytes { op_bytes op (take (op_fields op) fields.now) ≤ length bytes.now }
     requires ready { MayLayOp tape.now.layout tape.now.vtables op (take (op_fields op) fields.now)
@@ -88,8 +83,8 @@ fn lay_op(
             let notes = &fields[..count as usize];
             let taken = taken_by(notes);
             let own = &bytes[..taken.bytes];
-            let vtable = tape.vtable(number);
-            lay_table(laying, align, number, vtable, notes, own, taken.references);
+            let vtable = NumberedVtable::new(tape, number);
+            lay_table(laying, align, number, &vtable, notes, own, taken.references);
             PassedBy {
                 fields: notes.len(),
                 bytes: taken.bytes,
