@@ -1,5 +1,5 @@
 //! How many bytes a tape takes, counted before it is laid.
-ghost use Rattle.std.specs.Prelude.{ℕ, List, Bool, ◌≡◌, ◌≤◌, ◌<◌, ◌+◌, ◌-◌, length, drop};
+ghost use Rattle.std.specs.Prelude.{ℕ, List, Bool, ◌≡◌, ◌≤◌, ◌<◌, ◌+◌, ◌-◌, length, take, drop};
 ghost use Rattle.byteorder.specs.Endian.{little_number};
 ghost use Rattle.fb_layout.specs.Sizes.{IsAlignment};
 ghost use Rattle.fb_layout.specs.Widths.{greatest};
@@ -43,9 +43,9 @@ fn table_end(align: usize, vtable: &[u8], is_known: bool, laid: usize) -> usize
     requires long { 4 ≤ length vtable.now }
     requires small { laid ≤ 2147483647 }
     ensures exact { result
-        ≡ sized_end align (little_number 2 (drop 2 vtable.now)) (length vtable.now) is_known laid }
+        ≡ sized_end align (little_number 2 (take 2 (drop 2 vtable.now))) (length vtable.now) is_known laid }
 {
-    let size = LittleEndian::read_u16(&vtable[2..]) as usize;
+    let size = LittleEndian::read_u16(&vtable[2..4]) as usize;
     let table = laid + (zeros_to(align, laid) + size);
     table + if is_known { 0 } else { vtable.len() }
 }

@@ -1,5 +1,6 @@
 //! Lays the vtables of a tape, each once, and what is before the fields of its tables.
-ghost use Rattle.std.specs.Prelude.{ℕ, List, Option, Some, slice_get, ◌≡◌, ◌≤◌, ◌<◌, ◌+◌, ◌-◌, ◌++◌, length, max, slice_index};
+ghost use Rattle.std.specs.Prelude.{ℕ, List, Option, Some, ◌≡◌, ◌≤◌, ◌<◌, ◌+◌, ◌-◌, ◌++◌, length, max};
+ghost use Rattle.std.specs.Prelude.{slice_get, slice_index};
 ghost use Rattle.byteorder.specs.Endian.{little_bytes};
 ghost use Rattle.std.specs.Vec.{vec_capacity};
 ghost use Rattle.fb_layout.specs.Laid.{LaidSchema};

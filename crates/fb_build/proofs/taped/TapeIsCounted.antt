@@ -1,9 +1,9 @@
 -- How long a tape is, counted by what the vtables of its tables tell.
 use Rattle.std.proofs.Common.{◌≡◌, ◌∙◌, ℕ, ◌+◌, ◌*◌, ◌^◌, ◌≤◌, ◌<◌, ◌++◌, ap, sym, arith, length-append, nat_lt}
-use Rattle.std.proofs.Common.{Bool, true, false, if◌then◌else◌, List, length, drop, flat_map, slice_get, Option, Some}
+use Rattle.std.proofs.Common.{Bool, true, false, if◌then◌else◌, List, length, take, drop, flat_map, slice_get, Option, Some}
 use Rattle.std.proofs.Math.Seq.{drop-append_seam}
 use Rattle.byteorder.specs.Endian.{little_bytes, little_number}
-use Rattle.byteorder.specs.Numbers.{length-bytes_low_first, little_number-reads_back}
+use Rattle.byteorder.specs.Numbers.{length-bytes_low_first, little_from-take, little_number-reads_back}
 use Rattle.fb_layout.specs.Laid.{LaidSchema, Slot, slots_of}
 use Rattle.fb_layout.specs.Sizes.{ceil4, IsAlignment}
 use Rattle.fb_layout.specs.WellMade.{IsWellMade}
@@ -28,16 +28,17 @@ use Rattle.fb_build.proofs.taped.TapeFitsItsRoom.{fields_padded, sizes_noted}
 -- ---- what a vtable tells
 
 size_told : (L : LaidSchema) (fs : List Slot) (zs : List (Option Datum)) → table_size L fs zs < 256 ^ 2
-    → little_number 2 (drop 2 (vtable_of L fs zs)) ≡ table_size L fs zs
+    → little_number 2 (take 2 (drop 2 (vtable_of L fs zs))) ≡ table_size L fs zs
 size_told L fs zs small =
     let os = trimmed (offsets_from L fs zs 0 fs zs) in
     let first = little_bytes 2 (4 + 2 * length os) in
-    let rest = little_bytes 2 (table_size L fs zs) ++ flat_map (little_bytes 2) os in
+    let offsets = flat_map (little_bytes 2) os in
+    let rest = little_bytes 2 (table_size L fs zs) ++ offsets in
     let two : length first ≡ 2 = length-bytes_low_first 0 2 (4 + 2 * length os) in
-    let behind : drop 2 (first ++ rest) ≡ rest = ap (λ n. drop n (first ++ rest)) (sym two) ∙ drop-append_seam first rest
-    in
-    ap (little_number 2) behind
-    ∙ little_number-reads_back 2 (table_size L fs zs) (flat_map (little_bytes 2) os) small
+    let behind : drop 2 (first ++ rest) ≡ rest =
+    ap (λ n. drop n (first ++ rest)) (sym two) ∙ drop-append_seam first rest in
+    little_from-take 0 2 2 (drop 2 (first ++ rest)) (omega arith) ∙ ap (little_number 2) behind
+    ∙ little_number-reads_back 2 (table_size L fs zs) offsets small
 
 vtable_long : (L : LaidSchema) (fs : List Slot) (zs : List (Option Datum)) → 4 ≤ length (vtable_of L fs zs)
 vtable_long L fs zs =
@@ -83,7 +84,7 @@ module _ (L : LaidSchema) (vtables : List Bytes) (fields : ℕ) (align : Alignme
     vtable_counts = rw same (vtable_long L own stored)
 
     pub table_counted : (known laid : ℕ)
-        → sized_end (aligned_to align) (little_number 2 (drop 2 vtable)) (length vtable) (nat_lt number known) laid
+        → sized_end (aligned_to align) (little_number 2 (take 2 (drop 2 vtable))) (length vtable) (nat_lt number known) laid
         ≡ op_end vtables known (Table align fields number) notes laid
     table_counted known laid =
         let table = known_in L t.table t.entries made t.fits t.whole in

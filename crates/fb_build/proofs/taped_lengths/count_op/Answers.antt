@@ -38,8 +38,9 @@ returns-in-References-clause-power c = rw c.max-in-References.ensures (power_max
 pub returns-in-Table-clause-laid : goal.returns-in-Table-clause-laid
 returns-in-Table-clause-laid c room ps qs notes bytes lays =
     let t = rw c.in-Table.is at lays in
-    rw (c.in-Table.is, c.table_end.ensures.exact, c.bytes-in-Table.ensures) (table_counted _ _ _ c.in-Table.align _ _ _ _ _ _
-    c.requires.some.made t c.vtable-own.result.now c.vtable-own.ensures.is c.args.before.known c.args.before.laid)
+    rw (c.in-Table.is, c.table_end.ensures.exact, c.bytes-in-Table.ensures)
+    (table_counted _ _ _ c.in-Table.align _ _ _ _ _ _ c.requires.some.made t c.vtable-own.result.now
+    c.vtable-own.ensures.is c.args.before.known c.args.before.laid)
 
 pub returns-in-Table-clause-power : goal.returns-in-Table-clause-power
 returns-in-Table-clause-power c =
