@@ -12,4 +12,5 @@ pub mod ReferencesComeInOrder
 pub mod TableTakesItsParts
 pub mod TapeIsLaidInTurn
 pub mod TapeFitsItsRoom
+pub mod TapeIsCounted
 pub mod PaddedToTheGreatest

@@ -31,6 +31,11 @@ closed_end size is_known laid = first_end size is_known (laid + zeros_to 4 laid)
 abbrev pub table_end : ℕ → ℕ → ℕ → ℕ → ℕ
 table_end size number known laid = closed_end size (nat_lt number known) laid
 
+-- A table that takes so many bytes up to the end of its fields, and its vtable where that is new.
+abbrev pub sized_end : ℕ → ℕ → ℕ → Bool → ℕ → ℕ
+sized_end align size vtable_size is_known laid =
+    laid + (zeros_to align laid + size) + (if is_known then 0 else vtable_size)
+
 -- The root's reference and the identifier, if there is one, and what comes before them: with these the whole length is
 -- a multiple.
 abbrev pub header_end : ℕ → Option (List ℕ) → ℕ → ℕ → ℕ

@@ -1,12 +1,13 @@
 -- A tape, operation by operation.
-use Rattle.std.specs.Prelude.{ℕ, ◌+◌, ◌≡◌, ◌≤◌, ◌<◌, List, [], length, slice_get, Option, unwrap_or}
+use Rattle.std.specs.Prelude.{ℕ, ◌+◌, ◌≡◌, ◌≤◌, List, [], length, slice_get, Option, unwrap_or}
 use Rattle.std.specs.List.{sum_by}
 use Rattle.fb_layout.specs.Laid.{LaidSchema}
+use Rattle.fb_layout.specs.WellMade.{IsWellMade}
 use Rattle.fb_value.specs.Num.{Bytes}
 use Rattle.fb_tape.specs.NamedParts.{NamedPart}
 use Rattle.fb_tape.specs.OpenList.{own_size}
 use Rattle.fb_value.specs.Datum.{Datum}
-use Rattle.fb_tape.specs.Tapes.{Taped, Lay, MeansRoot}
+use Rattle.fb_tape.specs.Tapes.{Taped, Lay, Lays, MeansRoot}
 use Rattle.fb_tape.specs.declared.ops.NotedField.{NotedField}
 use Rattle.fb_tape.specs.declared.ops.Op.{Op}
 use Rattle.fb_tape.specs.declared.ops.Op.TheVariants.{Data, References, Table}
@@ -78,11 +79,15 @@ pub record SomeLay (t : Taped) : Type 0 where
 
 -- ---- counted, and not laid
 
--- Data have a count, and a table's vtable is there.
-abbrev pub MayCount : List Bytes → Op → Type 0
-MayCount vtables (Data align size) = 4 ≤ size
-MayCount vtables (References count) = Unit {0}
-MayCount vtables (Table align fields number) = number < length vtables
+-- an operation of a tape
+pub record SomeOp (L : LaidSchema) (vtables : List Bytes) (op : Op) : Type 0 where
+  pub room : ℕ
+  pub before : List NamedPart
+  pub behind : List NamedPart
+  pub notes : List NotedField
+  pub bytes : Bytes
+  pub made : IsWellMade L
+  pub lays : Lays L vtables op room before notes bytes behind
 
 -- So many bytes are laid and so many vtables have come, and with the rooms of the operations that are left these are
 -- `most` at most.
@@ -94,6 +99,12 @@ pub record IsCountedUpTo (L : LaidSchema) (vtables : List Bytes) (most known : �
   pub room_left : ℕ
   pub lay : Lay L vtables known room_left parts ops notes bytes behind
   pub enough : laid + room_left ≤ most
+
+-- With the fields of the operations that are left, these make the whole tape.
+pub record IsCountedSoFar (t : Taped) (ops : List Op) (known laid : ℕ) : Type 0 where
+  pub notes : List NotedField
+  pub counted : IsCountedUpTo t.layout t.vtables t.room known ops notes laid
+  pub long : ops_end t.vtables known ops notes laid ≡ tape_end t
 
 -- The tape means some value of the root table.
 pub record SomeRoot (t : Taped) : Type 0 where

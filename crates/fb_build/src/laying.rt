@@ -4,12 +4,12 @@ ghost use Rattle.std.specs.Vec.{vec_capacity};
 ghost use Rattle.fb_tape.specs.Alignments.{aligned_to};
 ghost use Rattle.fb_tape.specs.declared.ops.Op.TheVariants.{Data, References, Table};
 ghost use Rattle.fb_build.specs.Lengths.{data_end, references_end, fields_end, table_end};
-ghost use Rattle.fb_build.specs.NotesLaid.{notes_size};
+ghost use Rattle.fb_build.specs.NotesLaid.{notes_references, notes_size};
 ghost use Rattle.fb_build.specs.Steps.{MayLayNext, Steps};
 
 use crate::tail::Tail;
-use crate::taped_fields::{lay_fields, references_in};
-use crate::taped_vtables::close_table;
+use crate::taped_fields::lay_fields;
+use crate::taped_vtables::{NumberedVtable, close_table};
 use crate::{taped_data, taped_references};
 use fb_tape::{Alignment, NotedField};
 
@@ -68,10 +68,12 @@ pub(crate) fn lay_table(
     laying: &mut Laying,
     align: Alignment,
     number: usize,
-    vtable: &[u8],
+    vtable: &NumberedVtable<'_, '_>,
     notes: &[NotedField],
     bytes: &[u8],
+    taken: usize,
 )
+    requires taken { taken ≡ notes_references notes.now }
     requires ready { MayLayNext (Table align (length notes.now) number) vtable.now notes.now bytes.now laying.old }
     requires reserved { length laying.old.waiting.items < vec_capacity laying.old.waiting }
     requires places { number ≡ length laying.old.places.items
@@ -82,7 +84,6 @@ pub(crate) fn lay_table(
         (fields_end (aligned_to align) (notes_size notes.now) (length laying.old.tail.bytes)) }
     ensures most { laying.new.tail.most ≡ max (max laying.old.tail.most (aligned_to align)) 4 }
 {
-    let taken = references_in(notes);
     let first = laying.waiting.len() - taken;
     let waiting = &laying.waiting[first..];
     let _start = lay_fields(&mut laying.tail, align.bytes(), notes, bytes, waiting);

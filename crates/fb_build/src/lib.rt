@@ -8,6 +8,7 @@ mod faults;
 mod laws;
 mod laying;
 mod noting;
+mod padding;
 mod plans;
 mod references;
 mod rooms;

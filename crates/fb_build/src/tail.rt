@@ -7,6 +7,7 @@ ghost use Rattle.fb_layout.specs.Sizes.{IsAlignment};
 ghost use Rattle.fb_build.specs.Tails.{Grows};
 
 use crate::blocks::{end_of, put_in_front};
+use crate::padding::zeros_to;
 use byteorder::{ByteOrder, LittleEndian};
 use std::marker::Model;
 
@@ -90,6 +91,24 @@ impl Tail {
         self.put(bytes);
     }
 
+    /// Lays the bytes of a number or a struct. Those of a short number are copied by one store, since their count is
+    /// known then.
+    #[tactic(auto, using(crate::proofs::tail::WhatIsLaidStaysLaid::grows_by))]
+    pub(crate) fn lay_number(&mut self, bytes: &[u8])
+        requires room { length bytes.now ≤ self.old.free }
+        ensures bytes { self.new.bytes ≡ bytes.now ++ self.old.bytes }
+        ensures free { self.new.free + length bytes.now ≡ self.old.free }
+        ensures most { self.new.most ≡ self.old.most }
+        ensures grows { Grows self.old self.new }
+    {
+        match bytes.len() {
+            4 => self.put(&bytes[..4]),
+            2 => self.put(&bytes[..2]),
+            1 => self.put(&bytes[..1]),
+            _ => self.put(bytes),
+        }
+    }
+
     /// Lays a number of four bytes.
     pub(crate) fn lay_u32(&mut self, number: u32)
         requires room { 4 ≤ self.old.free }
@@ -137,7 +156,7 @@ impl Tail {
         ensures grows { Grows self.old self.new }
     {
         let after = self.count() + more;
-        let zeros = (align - after % align) % align;
+        let zeros = zeros_to(align, after);
         self.skip(zeros);
         self.widen(align);
         zeros

@@ -1,5 +1,5 @@
 //! Lays the fields of the tables of a tape.
-ghost use Rattle.std.specs.Prelude.{ℕ, List, Option, ◌≡◌, ◌≤◌, ◌+◌, length, max};
+ghost use Rattle.std.specs.Prelude.{ℕ, List, Option, ◌≡◌, ◌≤◌, ◌+◌, length, max, drop};
 ghost use Rattle.fb_layout.specs.Laid.{LaidSchema, Slot};
 ghost use Rattle.fb_value.specs.Datum.{Datum};
 ghost use Rattle.fb_tape.specs.OpenList.{own_size};
@@ -27,42 +27,6 @@ fn bytes_of(note: NotedField) -> usize
     }
 }
 
-/// How many of the tape's bytes some fields have.
-pub(crate) fn bytes_in(notes: &[NotedField]) -> usize
-    requires few { length notes.now ≤ 65535 }
-    ensures { result ≡ notes_bytes notes.now }
-{
-    let mut count = 0;
-    for i in 0..notes.len() {
-        count += bytes_of(notes[i]);
-    }
-    count
-}
-
-/// How many bytes a field takes in its table.
-fn size_of(note: NotedField) -> usize
-    ensures exact { result ≡ noted_size note }
-    ensures small { result ≤ 65535 }
-{
-    match note {
-        NotedField::Reference => 4,
-        NotedField::Inline(size) => size as usize,
-    }
-}
-
-/// How many bytes some fields take in their table.
-pub(crate) fn size_in(notes: &[NotedField]) -> usize
-    requires few { length notes.now ≤ 65535 }
-    ensures exact { result ≡ notes_size notes.now }
-    ensures small { result ≤ 4294967296 }
-{
-    let mut count = 0;
-    for i in 0..notes.len() {
-        count += size_of(notes[i]);
-    }
-    count
-}
-
 /// How many of the parts that wait a field refers to.
 fn references_of(note: NotedField) -> usize
     ensures { result ≡ noted_references note }
@@ -73,28 +37,54 @@ fn references_of(note: NotedField) -> usize
     }
 }
 
-/// How many of the parts that wait some fields refer to.
-pub(crate) fn references_in(notes: &[NotedField]) -> usize
-    ensures { result ≡ notes_references notes.now }
-{
-    let mut count = 0;
-    for i in 0..notes.len() {
-        count += references_of(notes[i]);
-    }
-    count
+/// How many of the tape's bytes, and of the parts that wait, are those of some fields.
+#[derive(Clone, Copy)]
+pub(crate) struct Taken {
+    pub(crate) bytes: usize,
+    pub(crate) references: usize,
 }
 
-/// Lays a field: a reference to what was laid at the first end-count, or the first bytes.
-fn lay_note(out: &mut Tail, note: NotedField, bytes: &[u8], ends: &[u32])
+/// Counts what some fields take.
+pub(crate) fn taken_by(notes: &[NotedField]) -> Taken
+    requires few { length notes.now ≤ 65535 }
+    ensures bytes { result.bytes ≡ notes_bytes notes.now }
+    ensures references { result.references ≡ notes_references notes.now }
+{
+    let mut bytes = 0;
+    let mut references = 0;
+    for i in 0..notes.len() {
+        bytes += bytes_of(notes[i]);
+        references += references_of(notes[i]);
+    }
+    Taken { bytes, references }
+}
+
+/// Lays a field: a reference to what was laid at the first end-count, or the first bytes. Returns the bytes and the
+/// end-counts that are left.
+fn lay_note<'t>(
+    out: &mut Tail,
+    note: NotedField,
+    bytes: &'t [u8],
+    ends: &'t [u32],
+) -> (&'t [u8], &'t [u32])
     requires ready { MayLay note bytes.now ends.now out.old }
     ensures laid { LaysField note bytes.now ends.now out.old out.new }
+    ensures bytes { result.0.now ≡ drop (own_size note) bytes.now }
+    ensures ends { result.1.now ≡ drop (noted_references note) ends.now }
     ensures free { out.new.free + noted_size note ≡ out.old.free }
     ensures most { out.new.most ≡ out.old.most }
     ensures grows { Grows out.old out.new }
 {
     match note {
-        NotedField::Reference => lay_reference(out, ends[0]),
-        NotedField::Inline(size) => out.lay(&bytes[..size as usize]),
+        NotedField::Reference => {
+            lay_reference(out, ends[0]);
+            (bytes, &ends[1..])
+        }
+        NotedField::Inline(size) => {
+            let (own, behind) = bytes.split_at(size as usize);
+            out.lay_number(own);
+            (behind, ends)
+        }
     }
 }
 
@@ -121,13 +111,12 @@ pub(crate) fn lay_fields(
 {
     out.fit(align, 0);
     let start = out.count();
-    let mut at = 0;
-    let mut next = 0;
+    let mut bytes_left = bytes;
+    let mut ends_left = ends;
     for i in 0..notes.len() {
-        let note = notes[i];
-        lay_note(out, note, &bytes[at..], &ends[next..]);
-        at += bytes_of(note);
-        next += references_of(note);
+        let left = lay_note(out, notes[i], bytes_left, ends_left);
+        bytes_left = left.0;
+        ends_left = left.1;
     }
     start
 }

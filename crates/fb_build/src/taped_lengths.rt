@@ -1,27 +1,32 @@
 //! How many bytes a tape takes, counted before it is laid.
-ghost use Rattle.std.specs.Prelude.{◌≡◌, ◌≤◌, ◌<◌, ◌+◌, ◌-◌, length};
+ghost use Rattle.std.specs.Prelude.{ℕ, List, Bool, ◌≡◌, ◌≤◌, ◌<◌, ◌+◌, ◌-◌, length, take, drop};
+ghost use Rattle.byteorder.specs.Endian.{little_number};
+ghost use Rattle.fb_layout.specs.Sizes.{IsAlignment};
 ghost use Rattle.fb_layout.specs.Widths.{greatest};
-ghost use Rattle.fb_tape.specs.Tapes.{known_after};
-ghost use Rattle.fb_build.specs.Lengths.{zeros_to, data_end, fields_end, closed_end};
-ghost use Rattle.fb_build.specs.TapeLaid.{MayCount, SomeLay, op_end, op_most, tape_end, tape_most, buffer_end};
+ghost use Rattle.fb_value.specs.Num.{Bytes};
+ghost use Rattle.fb_tape.specs.NamedParts.{NamedPart};
+ghost use Rattle.fb_tape.specs.Tapes.{Lays, known_after};
+ghost use Rattle.fb_tape.specs.declared.ops.NotedField.{NotedField};
+ghost use Rattle.fb_build.specs.Lengths.{data_end, sized_end};
+ghost use Rattle.fb_build.specs.TapeLaid.{SomeOp, SomeLay, op_end, op_most, tape_end, tape_most, buffer_end};
 
-use crate::taped_fields::size_in;
-use crate::taped_ops::{fields_at, fields_of};
+use crate::padding::zeros_to;
+use byteorder::{ByteOrder, LittleEndian};
 use fb_layout::Layout;
-use fb_tape::{NotedField, Op, Tape};
+use fb_tape::{Op, Tape};
 
-/// The zeros that make a count of bytes a multiple.
-fn zeros_to(align: usize, count: usize) -> usize
-    requires some { 0 < align }
-    ensures exact { result ≡ zeros_to align count }
-    ensures few { result < align }
-{
-    (align - count % align) % align
+/// What is counted of the operations so far: how many bytes are laid, what they are padded to at most, and how many
+/// vtables have come.
+#[derive(Clone, Copy)]
+struct Counted {
+    laid: usize,
+    most: usize,
+    known: usize,
 }
 
 /// How many bytes are laid once some data are.
 fn data_end(align: usize, size: usize, laid: usize) -> usize
-    requires some { 0 < align }
+    requires power { IsAlignment align }
     requires low { align ≤ 65535 }
     requires counted { 4 ≤ size }
     requires short { size ≤ 68719476736 }
@@ -31,99 +36,76 @@ fn data_end(align: usize, size: usize, laid: usize) -> usize
     laid + (zeros_to(align, laid + (size - 4)) + size)
 }
 
-/// How many bytes are laid once a table is, whose fields take so many.
-fn table_end(align: usize, size: usize, vtable_size: usize, is_known: bool, laid: usize) -> usize
-    requires some { 0 < align }
+/// How many bytes are laid once a table is: its vtable tells how many it takes up to the end of its fields.
+fn table_end(align: usize, vtable: &[u8], is_known: bool, laid: usize) -> usize
+    requires power { IsAlignment align }
     requires low { align ≤ 65535 }
-    requires short { size ≤ 4294967296 }
-    requires narrow { vtable_size ≤ 9223372036854775807 }
+    requires long { 4 ≤ length vtable.now }
     requires small { laid ≤ 2147483647 }
-    ensures exact { result ≡ closed_end vtable_size is_known (fields_end align size laid) }
+    ensures exact { result
+        ≡ sized_end align (little_number 2 (take 2 (drop 2 vtable.now))) (length vtable.now) is_known laid }
 {
-    let fields = laid + (zeros_to(align, laid) + size);
-    let place = fields + zeros_to(4, fields);
-    place + if is_known { 4 } else { 4 + vtable_size }
+    let size = LittleEndian::read_u16(&vtable[2..4]) as usize;
+    let table = laid + (zeros_to(align, laid) + size);
+    table + if is_known { 0 } else { vtable.len() }
 }
 
-/// How many bytes are laid once an operation is.
-fn op_end(tape: &Tape, known: usize, op: Op, notes: &[NotedField], laid: usize) -> usize
-    requires may { MayCount tape.now.vtables op }
-    requires few { length notes.now ≤ 65535 }
-    requires small { laid ≤ 2147483647 }
-    ensures exact { result ≡ op_end tape.now.vtables known op notes.now laid }
+/// Counts an operation.
+fn count_op(before: Counted, tape: &Tape, op: Op) -> Counted
+    requires some { SomeOp tape.now.layout tape.now.vtables op }
+    requires small { before.laid ≤ 2147483647 }
+    requires power { IsAlignment before.most }
+    ensures laid { (room : ℕ) (ps qs : List NamedPart) (notes : List NotedField) (bytes : Bytes)
+        → Lays tape.now.layout tape.now.vtables op room ps notes bytes qs
+        → result.laid ≡ op_end tape.now.vtables before.known op notes before.laid }
+    ensures most { result.most ≡ op_most op before.most }
+    ensures power { IsAlignment result.most }
+    ensures known { result.known ≡ known_after before.known op }
 {
     match op {
-        Op::Data { align, size } => data_end(align.bytes(), size as usize, laid),
-        Op::References { count } => data_end(4, 4 + count as usize * 4, laid),
+        Op::Data { align, size } => Counted {
+            laid: data_end(align.bytes(), size as usize, before.laid),
+            most: before.most.max(align.bytes()),
+            known: before.known,
+        },
+        Op::References { count } => Counted {
+            laid: data_end(4, 4 + count as usize * 4, before.laid),
+            most: before.most.max(4),
+            known: before.known,
+        },
         Op::Table { align, vtable, .. } => {
             let number = vtable as usize;
-            let size = tape.vtable(number).len();
-            table_end(align.bytes(), size_in(notes), size, number < known, laid)
+            let own = tape.vtable(number);
+            Counted {
+                laid: table_end(align.bytes(), own, number < before.known, before.laid),
+                most: before.most.max(align.bytes()),
+                known: before.known.max(number + 1),
+            }
         }
     }
 }
 
-/// How many vtables have come once an operation is laid.
-fn known_behind(known: usize, op: Op) -> usize
-    ensures exact { result ≡ known_after known op }
-{
-    match op {
-        Op::Table { vtable, .. } => known.max(vtable as usize + 1),
-        _ => known,
-    }
-}
-
-/// How many bytes a tape takes, once it is laid.
-pub(crate) fn tape_end(layout: &Layout, tape: &Tape) -> usize
+/// Counts a tape.
+fn count_tape(layout: &Layout, tape: &Tape) -> Counted
     requires layout { tape.now.layout ≡ layout.now }
     requires means { SomeLay tape.now }
     requires short { tape.now.room ≤ 2147483647 }
-    ensures exact { result ≡ tape_end tape.now }
-    ensures bound { result ≤ tape.now.room }
+    ensures laid { result.laid ≡ tape_end tape.now }
+    ensures bound { result.laid ≤ tape.now.room }
+    ensures most { result.most ≡ tape_most tape.now }
+    ensures power { IsAlignment result.most }
 {
     let _schema = layout.schema(); // its contract: the layout is well made
     let ops = tape.ops();
-    let fields = tape.fields();
-    let mut laid = 0;
-    let mut known = 0;
-    let mut at_field = 0;
+    let mut counted = Counted {
+        laid: 0,
+        most: 4,
+        known: 0,
+    };
     for i in 0..ops.len() {
-        let op = ops[i];
-        let count = fields_of(op);
-        let own_fields = fields_at(fields, at_field, count);
-        laid = op_end(tape, known, op, own_fields, laid);
-        known = known_behind(known, op);
-        at_field += count;
+        counted = count_op(counted, tape, ops[i]);
     }
-    laid
-}
-
-/// What is padded to at most once an operation is laid.
-fn op_most(op: Op, most: usize) -> usize
-    requires low { most ≤ 65535 }
-    ensures exact { result ≡ op_most op most }
-    ensures low { result ≤ 65535 }
-    ensures least { most ≤ result }
-{
-    match op {
-        Op::Data { align, .. } => most.max(align.bytes()),
-        Op::References { .. } => most.max(4),
-        Op::Table { align, .. } => most.max(align.bytes()).max(4),
-    }
-}
-
-/// What is padded to at most in the buffer of a tape.
-fn tape_most(tape: &Tape) -> usize
-    ensures exact { result ≡ tape_most tape.now }
-    ensures low { result ≤ 65535 }
-    ensures least { 4 ≤ result }
-{
-    let ops = tape.ops();
-    let mut most = 4;
-    for i in 0..ops.len() {
-        most = op_most(ops[i], most);
-    }
-    most
+    counted
 }
 
 /// How long the buffer of a tape is, with so many bytes before it.
@@ -136,8 +118,7 @@ pub(crate) fn buffer_end(layout: &Layout, tape: &Tape, front: usize) -> usize
     ensures bound { result ≤ front + (tape.now.room + (8 + (greatest layout.now - 1))) }
 {
     let _schema = layout.schema(); // its contract: the layout is well made
-    let most = tape_most(tape);
-    let laid = tape_end(layout, tape);
+    let Counted { laid, most, .. } = count_tape(layout, tape);
     let header = match layout.schema().identifier() {
         Some(_) => 8 + front,
         None => 4 + front,

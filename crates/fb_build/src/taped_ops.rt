@@ -12,65 +12,83 @@ ghost use Rattle.fb_build.specs.Tails.{Grows};
 ghost use Rattle.fb_build.specs.Waiting.{AreWaiting};
 
 use crate::laying::{Laying, lay_data, lay_references, lay_table};
-use crate::taped_fields::bytes_in;
+use crate::taped_fields::taken_by;
+use crate::taped_vtables::NumberedVtable;
 use fb_layout::Layout;
 use fb_tape::{NotedField, Op, Tape};
 
-/// How many fields an operation has.
-pub(crate) fn fields_of(op: Op) -> usize
-    ensures exact { result ≡ op_fields op }
-    ensures small { result ≤ 65535 }
+/// The fields from an index on.
+#[tactic(auto, using(crate::proofs::taped::NotedFieldsAreLaidInTurn::all_left))]
+fn fields_from(fields: &[NotedField], at: usize) -> &[NotedField]
+    requires within { at ≤ length fields.now }
+    ensures exact { result.now ≡ drop at fields.now }
 {
-    match op {
-        Op::Table { fields, .. } => fields as usize,
-        _ => 0,
-    }
+    &fields[at..]
 }
 
-/// How many of the tape's bytes an operation has.
-fn bytes_of(op: Op, notes: &[NotedField]) -> usize
-    requires few { length notes.now ≤ 65535 }
-    ensures { result ≡ op_bytes op notes.now }
+/// The bytes from an index on.
+#[tactic(auto, using(crate::proofs::taped::NotedFieldsAreLaidInTurn::all_left))]
+fn bytes_from(bytes: &[u8], at: usize) -> &[u8]
+    requires within { at ≤ length bytes.now }
+    ensures exact { result.now ≡ drop at bytes.now }
 {
-    match op {
-        Op::Data { size, .. } => size as usize,
-        Op::References { .. } => 0,
-        Op::Table { .. } => bytes_in(notes),
-    }
+    &bytes[at..]
 }
 
-/// So many fields from an index on.
-pub(crate) fn fields_at(fields: &[NotedField], at: usize, count: usize) -> &[NotedField]
-    requires within { at + count ≤ length fields.now }
-    ensures exact { result.now ≡ take count (drop at fields.now) }
-{
-    &fields[at..at + count]
+/// How many of a tape's fields and bytes are those of an operation.
+#[derive(Clone, Copy)]
+struct PassedBy {
+    fields: usize,
+    bytes: usize,
 }
 
-/// So many bytes from an index on.
-fn bytes_at(bytes: &[u8], at: usize, count: usize) -> &[u8]
-    requires within { at + count ≤ length bytes.now }
-    ensures exact { result.now ≡ take count (drop at bytes.now) }
-{
-    &bytes[at..at + count]
-}
-
-/// Lays an operation with its fields and its bytes.
-fn lay_op(laying: &mut Laying, tape: &Tape, op: Op, notes: &[NotedField], bytes: &[u8])
-    requires ready { MayLayOp tape.now.layout tape.now.vtables op notes.now bytes.now laying.old }
+/// Lays an operation, whose fields and bytes come first, and returns how many these are.
+fn lay_op(laying: &mut Laying, tape: &Tape, op: Op, fields: &[NotedField], bytes: &[u8]) -> PassedBy
+    requires fields { op_fields op ≤ length fields.now }
+    requires bytes { op_bytes op (take (op_fields op) fields.now) ≤ length bytes.now }
+    requires ready { MayLayOp tape.now.layout tape.now.vtables op (take (op_fields op) fields.now)
+        (take (op_bytes op (take (op_fields op) fields.now)) bytes.now) laying.old }
     requires reserved { length laying.old.waiting.items < vec_capacity laying.old.waiting }
     requires places { length tape.now.vtables ≤ vec_capacity laying.old.places }
-    ensures laid { Steps op (op_vtable tape.now.vtables op) notes.now bytes.now laying.old laying.new }
-    ensures long { length laying.new.tail.bytes ≡ op_end tape.now.vtables (length laying.old.places.items) op notes.now
-        (length laying.old.tail.bytes) }
+    ensures fields { result.fields ≡ op_fields op }
+    ensures bytes { result.bytes ≡ op_bytes op (take (op_fields op) fields.now) }
+    ensures laid { Steps op (op_vtable tape.now.vtables op) (take (op_fields op) fields.now)
+        (take (op_bytes op (take (op_fields op) fields.now)) bytes.now) laying.old laying.new }
+    ensures long { length laying.new.tail.bytes ≡ op_end tape.now.vtables (length laying.old.places.items) op
+        (take (op_fields op) fields.now) (length laying.old.tail.bytes) }
     ensures most { laying.new.tail.most ≡ op_most op laying.old.tail.most }
 {
     match op {
-        Op::Data { align, .. } => lay_data(laying, align, bytes),
-        Op::References { count } => lay_references(laying, count as usize),
-        Op::Table { align, vtable, .. } => {
+        Op::Data { align, size } => {
+            let own = &bytes[..size as usize];
+            lay_data(laying, align, own);
+            PassedBy {
+                fields: 0,
+                bytes: own.len(),
+            }
+        }
+        Op::References { count } => {
+            lay_references(laying, count as usize);
+            PassedBy {
+                fields: 0,
+                bytes: 0,
+            }
+        }
+        Op::Table {
+            align,
+            fields: count,
+            vtable,
+        } => {
             let number = vtable as usize;
-            lay_table(laying, align, number, tape.vtable(number), notes, bytes);
+            let notes = &fields[..count as usize];
+            let taken = taken_by(notes);
+            let own = &bytes[..taken.bytes];
+            let vtable = NumberedVtable::new(tape, number);
+            lay_table(laying, align, number, &vtable, notes, own, taken.references);
+            PassedBy {
+                fields: notes.len(),
+                bytes: taken.bytes,
+            }
         }
     }
 }
@@ -99,13 +117,10 @@ pub(crate) fn lay_tape(laying: &mut Laying, layout: &Layout, tape: &Tape)
     let mut at_field = 0;
     let mut at_byte = 0;
     for i in 0..ops.len() {
-        let op = ops[i];
-        let count = fields_of(op);
-        let own_fields = fields_at(fields, at_field, count);
-        let size = bytes_of(op, own_fields);
-        let own_bytes = bytes_at(bytes, at_byte, size);
-        lay_op(laying, tape, op, own_fields, own_bytes);
-        at_field += count;
-        at_byte += size;
+        let fields_left = fields_from(fields, at_field);
+        let bytes_left = bytes_from(bytes, at_byte);
+        let passed_by = lay_op(laying, tape, ops[i], fields_left, bytes_left);
+        at_field += passed_by.fields;
+        at_byte += passed_by.bytes;
     }
 }

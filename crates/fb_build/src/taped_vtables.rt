@@ -1,5 +1,6 @@
 //! Lays the vtables of a tape, each once, and what is before the fields of its tables.
-ghost use Rattle.std.specs.Prelude.{ℕ, List, Option, ◌≡◌, ◌≤◌, ◌<◌, ◌+◌, ◌-◌, ◌++◌, length, max, slice_index};
+ghost use Rattle.std.specs.Prelude.{ℕ, List, Option, Some, ◌≡◌, ◌≤◌, ◌<◌, ◌+◌, ◌-◌, ◌++◌, length, max};
+ghost use Rattle.std.specs.Prelude.{slice_get, slice_index};
 ghost use Rattle.byteorder.specs.Endian.{little_bytes};
 ghost use Rattle.std.specs.Vec.{vec_capacity};
 ghost use Rattle.fb_layout.specs.Laid.{LaidSchema};
@@ -10,6 +11,43 @@ ghost use Rattle.fb_build.specs.NumberedVtables.{IsVtableInTurn, IsVtableLaid, I
 ghost use Rattle.fb_build.specs.Tails.{Grows};
 
 use crate::tail::Tail;
+use fb_tape::Tape;
+use std::marker::Model;
+
+/// A vtable of a tape. Its bytes are looked up only where it is laid, which most tables do without.
+#[derive(Drop)]
+pub(crate) struct NumberedVtable<'t, 'l> {
+    tape: &'t Tape<'l>,
+    number: usize,
+}
+
+impl<'t, 'l> Model for NumberedVtable<'t, 'l> {
+    ghost use Rattle.std.specs.Prelude.{◌<◌, [], length, slice_get, unwrap_or};
+    ghost use Rattle.fb_value.specs.Num.{Bytes};
+
+    ghost Value = { Bytes };
+
+    ghost view = { λ v. unwrap_or (slice_get v.tape.now.vtables v.number) [] };
+
+    ghost invariant = { λ v. v.number < length v.tape.now.vtables };
+}
+
+impl<'t, 'l> NumberedVtable<'t, 'l> {
+    /// That of a number.
+    pub(crate) fn new(tape: &'t Tape<'l>, number: usize) -> NumberedVtable<'t, 'l>
+        requires within { number < length tape.now.vtables }
+        ensures is { slice_get tape.now.vtables number ≡ Some result }
+    {
+        NumberedVtable { tape, number }
+    }
+
+    /// Its bytes.
+    fn bytes(&self) -> &[u8]
+        ensures exact { result.now ≡ self.now }
+    {
+        self.tape.vtable(self.number)
+    }
+}
 
 /// What a table's first number is, where its vtable is laid before it.
 fn way_back(place: u32, at: u32) -> u32
@@ -35,7 +73,12 @@ fn lay_new(out: &mut Tail, vtable: &[u8])
 
 /// Lays the first number of a table, and its vtable where that is the next to come, and returns how many bytes are laid
 /// up to the table.
-fn lay_vtable(out: &mut Tail, places: &mut Vec<u32>, number: usize, vtable: &[u8]) -> usize
+fn lay_vtable(
+    out: &mut Tail,
+    places: &mut Vec<u32>,
+    number: usize,
+    vtable: &NumberedVtable<'_, '_>,
+) -> usize
     requires room { vtable_end (length vtable.now) number (length places.old.items) (length out.old.bytes)
         ≤ length out.old.bytes + out.old.free }
     requires short { length vtable.now ≤ 65534 }
@@ -61,7 +104,7 @@ fn lay_vtable(out: &mut Tail, places: &mut Vec<u32>, number: usize, vtable: &[u8
         out.lay_u32(way_back(place as u32, places[number]));
         return place;
     }
-    lay_new(out, vtable);
+    lay_new(out, vtable.bytes());
     places.push_reserved(out.count() as u32);
     place
 }
@@ -72,7 +115,7 @@ pub(crate) fn close_table(
     out: &mut Tail,
     places: &mut Vec<u32>,
     number: usize,
-    vtable: &[u8],
+    vtable: &NumberedVtable<'_, '_>,
 ) -> usize
     requires room { table_end (length vtable.now) number (length places.old.items) (length out.old.bytes)
         ≤ length out.old.bytes + out.old.free }

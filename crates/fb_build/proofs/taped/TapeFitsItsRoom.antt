@@ -4,7 +4,6 @@ use Rattle.std.proofs.Common.{if◌then◌else◌}
 use Rattle.std.proofs.Common.{List, [], ◌∷◌, length, take, drop, flat_map, slice_get, Option, Some, refl, ap, sym, ◌∙◌}
 use Rattle.std.proofs.Common.{arith, length-append}
 use Rattle.std.proofs.lemmas.List.Sums.{sum_by-cons}
-use Rattle.std.proofs.lemmas.Option.{slice_get_within}
 use Rattle.byteorder.specs.Endian.{little_bytes}
 use Rattle.byteorder.specs.Numbers.{length-bytes_low_first}
 use Rattle.fb_layout.specs.Laid.{LaidSchema, Slot, slots_of}
@@ -27,7 +26,7 @@ use Rattle.fb_build.specs.FieldOrder.{before}
 use Rattle.fb_build.specs.Fields.{AreKnown, fields_size, stored_in}
 use Rattle.fb_build.specs.Lengths.{zeros_to}
 use Rattle.fb_build.specs.NotesLaid.{noted_size, notes_size}
-use Rattle.fb_build.specs.TapeLaid.{op_fields, op_end, MayCount, IsCountedUpTo}
+use Rattle.fb_build.specs.TapeLaid.{op_fields, op_end, IsCountedUpTo}
 use Rattle.fb_build.proofs.fields.EntriesAreKnown.{known_in}
 use Rattle.fb_build.proofs.fields.SlotStoresItsEntry.{same_some}
 use Rattle.fb_build.proofs.order.LaidFieldsTakeTheirSizes.{size_from, size_retested, size_all, size_none}
@@ -135,7 +134,7 @@ vtable_most : (t : Bool) (size : ℕ) → (if t then 4 else 4 + size) ≤ 4 + si
 vtable_most true size = omega arith
 vtable_most false size = omega arith
 
-fields_padded : (align fs laid : ℕ) → IsAlignment align → 4 ≤ align
+pub fields_padded : (align fs laid : ℕ) → IsAlignment align → 4 ≤ align
     → zeros_to 4 (laid + (zeros_to align laid + fs)) + fs ≡ ceil4 fs
 fields_padded align fs laid power least =
     let start = laid + zeros_to align laid in
@@ -190,17 +189,6 @@ op_bound L vtables known (References count) room ps notes bytes qs laid made lay
 op_bound L vtables known (Table align fields number) room ps notes bytes qs laid made lays =
     table_bound L vtables known fields align number room ps notes bytes qs laid made lays
 
-op_may : (L : LaidSchema) (vtables : List Bytes) (op : Op) (room : ℕ) (ps : List NamedPart)
-    (notes : List NotedField) (bytes : Bytes) (qs : List NamedPart) → Lays L vtables op room ps notes bytes qs
-    → MayCount vtables op
-op_may L vtables (Data align size) room ps notes bytes qs lays =
-    let d = lays.1 in
-    let is = data_aligned L d.part (aligned_to align) bytes d.is (omega arith) in
-    omega (arith, is.1, d.size_is)
-op_may L vtables (References count) room ps notes bytes qs lays = tt
-op_may L vtables (Table align fields number) room ps notes bytes qs lays =
-    slice_get_within vtables number _ lays.vtable_is
-
 -- ---- the next operation
 
 module _ (L : LaidSchema) (vtables : List Bytes) (most known : ℕ) (op : Op) (ops : List Op) (notes : List NotedField)
@@ -208,7 +196,7 @@ module _ (L : LaidSchema) (vtables : List Bytes) (most known : ℕ) (op : Op) (o
   own_count : length h.lay.own_notes ≡ op_fields op
   own_count = own_fields L vtables op _ _ _ _ _ h.lay.lays
 
-  taken : take (op_fields op) notes ≡ h.lay.own_notes
+  pub taken : take (op_fields op) notes ≡ h.lay.own_notes
   taken = ap (take (op_fields op)) h.lay.notes_are
       ∙ ap (λ n. take n (h.lay.own_notes ++ h.lay.notes_behind)) (sym own_count)
       ∙ take-append_seam h.lay.own_notes h.lay.notes_behind
@@ -217,17 +205,6 @@ module _ (L : LaidSchema) (vtables : List Bytes) (most known : ℕ) (op : Op) (o
   left = ap (drop (op_fields op)) h.lay.notes_are
       ∙ ap (λ n. drop n (h.lay.own_notes ++ h.lay.notes_behind)) (sym own_count)
       ∙ drop-append_seam h.lay.own_notes h.lay.notes_behind
-
-  pub count_within : op_fields op ≤ length notes
-  count_within = omega (
-    arith,
-    own_count,
-    ap length h.lay.notes_are,
-    length-append h.lay.own_notes h.lay.notes_behind,
-  )
-
-  pub may_count : MayCount vtables op
-  may_count = op_may L vtables op _ _ _ _ _ h.lay.lays
 
   pub counted : IsCountedUpTo L vtables most (known_after known op) ops (drop (op_fields op) notes)
       (op_end vtables known op (take (op_fields op) notes) laid)

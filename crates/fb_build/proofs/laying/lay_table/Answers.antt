@@ -19,7 +19,7 @@ pub overflow_sub-first : goal.overflow_sub-first
 overflow_sub-first c =
     let w = c.requires.ready in
     let few = references_within _ _ _ _ _ _ _ _ _ _ _ _ _ _ w.may in
-    omega (arith, few, c.len.ensures, c.references_in-taken.ensures)
+    omega (arith, few, c.len.ensures, c.requires.taken)
 
 pub lay_fields-start-requires : goal.lay_fields-start-requires
 lay_fields-start-requires c =
@@ -27,9 +27,9 @@ lay_fields-start-requires c =
     let ends = c.args.laying.now.waiting.items in
     record {
       ready = rw (
-        slice_is ends c.deref.result.now c.len.result c.references_in-taken.result
+        slice_is ends c.deref.result.now c.len.result c.args.taken
             (notes_references c.args.notes.now) c.deref.ensures.value (omega (arith, c.len.ensures))
-            c.references_in-taken.ensures,
+            c.requires.taken,
         c.bytes.ensures,
       ) (record {
         layout = w.layout;
@@ -49,15 +49,15 @@ given : (c : goal.After-close_table-arg-2-1) → let w = c.requires.ready in
     (spread (slots_of w.layout w.may.lays.table) (stored_in (slots_of w.layout w.may.lays.table) w.may.lays.entries)
     (drop (length c.args.laying.now.waiting.items - notes_references c.args.notes.now) c.args.laying.now.waiting.items))
     c.bytes.result c.args.notes.now c.args.bytes.now
-    (take (length c.deref.result.now - (c.len.result - c.references_in-taken.result))
-    (drop (c.len.result - c.references_in-taken.result) c.deref.result.now)) c.args.laying.now.tail
+    (take (length c.deref.result.now - (c.len.result - c.args.taken))
+    (drop (c.len.result - c.args.taken) c.deref.result.now)) c.args.laying.now.tail
 given c =
     let w = c.requires.ready in
     let ends = c.args.laying.now.waiting.items in
     rw (
-      slice_is ends c.deref.result.now c.len.result c.references_in-taken.result
+      slice_is ends c.deref.result.now c.len.result c.args.taken
           (notes_references c.args.notes.now) c.deref.ensures.value (omega (arith, c.len.ensures))
-          c.references_in-taken.ensures,
+          c.requires.taken,
       c.bytes.ensures,
     ) (to_be_laid _ _ _ _ _ _ _ _ _ _ _ _ _ _ w.may)
 
@@ -80,7 +80,7 @@ pub wait-requires-clause-within : goal.wait-requires-clause-within
 wait-requires-clause-within c =
     let w = c.requires.ready in
     let few = references_within _ _ _ _ _ _ _ _ _ _ _ _ _ _ w.may in
-    omega (arith, few, c.references_in-taken.ensures)
+    omega (arith, few, c.requires.taken)
 
 pub returns-clause-laid : goal.returns-clause-laid
 returns-clause-laid c =
@@ -94,27 +94,27 @@ returns-clause-laid c =
     let front = rw c.bytes.ensures at fields.front in
     let most = rw c.bytes.ensures at fields.most in
     let closing = c.close_table-end.ensures in
-    let slice = slice_is ends c.deref.result.now c.len.result c.references_in-taken.result (notes_references notes)
-    c.deref.ensures.value (omega (arith, c.len.ensures)) c.references_in-taken.ensures in
+    let slice = slice_is ends c.deref.result.now c.len.result c.args.taken (notes_references notes)
+    c.deref.ensures.value (omega (arith, c.len.ensures)) c.requires.taken in
     record {
       waits = λ L vtables room ps qs m. (let to_be : AreToBeLaid L (slots_of L m.lays.table)
           (stored_in (slots_of L m.lays.table) m.lays.entries)
           (spread (slots_of L m.lays.table) (stored_in (slots_of L m.lays.table) m.lays.entries)
           (drop (length ends - notes_references notes) ends)) c.bytes.result notes c.args.bytes.now
-          (take (length c.deref.result.now - (c.len.result - c.references_in-taken.result))
-          (drop (c.len.result - c.references_in-taken.result) c.deref.result.now)) a =
+          (take (length c.deref.result.now - (c.len.result - c.args.taken))
+          (drop (c.len.result - c.args.taken) c.deref.result.now)) a =
           rw (slice, c.bytes.ensures) (to_be_laid _ _ _ _ _ _ _ _ _ _ _ _ _ _ m) in
           let laid = fields.laid _ _ _ _ to_be in
           let open_now = table_open _ _ _ _ _ _ _ _ _ _ _ _ _ _ m _ _ laid front fields.grows in
-          rw (c.wait.ensures.items, c.references_in-taken.ensures)
+          rw (c.wait.ensures.items, c.requires.taken)
           (table_waits _ _ _ _ _ _ _ _ _ _ _ _ _ _ m _ _ laid front fields.grows _ _ _ closing.grows most
           closing.most (closing.closed _ _ _ _ _ _ open_now)));
       come = omega (arith, closing.come);
       most_waiting = omega (
         arith,
         ap length c.wait.ensures.items,
-        length-append (take (length ends - c.references_in-taken.result) ends) (c.close_table-end.result ∷ []),
-        length-take-le (length ends - c.references_in-taken.result) ends (omega arith),
+        length-append (take (length ends - c.args.taken) ends) (c.close_table-end.result ∷ []),
+        length-take-le (length ends - c.args.taken) ends (omega arith),
       );
       reserved_waiting = c.wait.ensures.reserved;
       reserved_places = closing.capacity;

@@ -1,21 +1,19 @@
 use Rattle.std.proofs.Common.{◌≡◌, ◌+◌, ◌-◌, ◌%◌, ◌<◌, ◌∙◌, ℕ, suc, true, List, ◌∷◌, length, drop, slice_index_or, refl}
-use Rattle.std.proofs.Common.{ap, subst, arith, length-drop, false}
+use Rattle.std.proofs.Common.{ap, subst, arith, false}
 use Rattle.std.proofs.lemmas.Bool.{eq-eqb, eqb-true}
-use Rattle.std.proofs.lemmas.List.{drop-drop}
 use Rattle.std.proofs.lemmas.List.Sums.{sum_by-cons}
 use Rattle.std.proofs.Math.Seq.{drop-cons}
 use Rattle.fb_layout.specs.Sizes.{IsAlignment}
 use Rattle.fb_value.specs.Num.{divides}
 use Rattle.fb_value.proofs.tails.TailsAreKeptInFront.{through}
-use Rattle.fb_tape.specs.OpenList.{own_size}
 use Rattle.fb_tape.specs.declared.ops.NotedField.{NotedField}
 use Rattle.fb_tape.specs.declared.ops.NotedField.TheVariants.{Reference}
 use Rattle.fb_build.specs.Lengths.{zeros_to}
-use Rattle.fb_build.specs.NotesLaid.{noted_size, noted_references, notes_size}
+use Rattle.fb_build.specs.NotesLaid.{noted_size, notes_size}
 use Rattle.fb_build.proofs.fields.FieldsAreLaidInOrder.{none_laid_before, slots_laid, size_laid, leads_laid}
 use Rattle.fb_build.proofs.tail.WhatIsLaidStaysLaid.{same_grows, then_grows, grown_long, four_power, power_divides}
 use Rattle.fb_build.proofs.taped.NotedFieldsAreLaidInTurn.{to_be_aligned, fields_wide, note_may, note_laid}
-use Rattle.fb_build.proofs.taped.NotedFieldsAreLaidInTurn.{taken_within, all_left, none_left, none_noted, relinked}
+use Rattle.fb_build.proofs.taped.NotedFieldsAreLaidInTurn.{none_left, none_noted, relinked}
 use Rattle.fb_build.proofs.taped.SlotsAreInLayingOrder.{links_next, slots_ordered, first_link}
 use Rattle.fb_tape.specs.LayingOrder.{laying_order}
 use Rattle.fb_build.proofs.taped_fields.lay_fields.Goals as goal
@@ -41,8 +39,6 @@ loop-i-init c =
     let multiple : divides c.args.align (length c.fit.new.self.bytes) ≡ true =
     eq-eqb _ _ (rw all at c.fit.ensures.multiple) in
     record {
-      at = omega arith;
-      next = omega arith;
       laid = λ L fs xs targets is. (let ordered = slots_ordered L fs xs is.known in
           let upto = none_laid_before L c.args.out.now c.fit.new.self c.count-start.result c.args.align fs xs targets
           (first_link (laying_order L fs xs)) is.known
@@ -62,16 +58,15 @@ loop-i-init c =
       grows = same_grows _;
     }
 
-pub lay_note-requires : goal.lay_note-requires
-lay_note-requires c =
+pub lay_note-left-requires : goal.lay_note-left-requires
+lay_note-left-requires c =
     let w = c.requires.ready in
     let inv = c.loop-i.invariant in
     let notes = c.args.notes.now in
     let cons = note_behind notes c.loop-i.i c.loop-i-test.true in
     let so_far = rw cons at (inv.laid w.layout w.slots w.stored w.targets w.are) in
     record {
-      ready = rw (all_left c.args.bytes.now c.loop-i.at, all_left c.args.ends.now c.loop-i.next)
-          (note_may w.layout w.slots w.stored w.targets c.args.align c.fit.result c.count-start.result _ _ _
+      ready = (note_may w.layout w.slots w.stored w.targets c.args.align c.fit.result c.count-start.result _ _ _
           c.args.out.now c.fit.new.self c.loop-i.out w.are c.fit.ensures.free (zeros_are _ _ _ c.fit.ensures.exact)
           c.fit.ensures.wide
           c.count-start.ensures.exact inv.grows inv.most _ _ _ _ so_far);
@@ -79,44 +74,28 @@ lay_note-requires c =
 
 pub loop-i-preserved : goal.loop-i-preserved
 loop-i-preserved c =
-    let w = c.requires.ready in
     let inv = c.loop-i.invariant in
     let notes = c.args.notes.now in
-    let bytes = c.args.bytes.now in
-    let ends = c.args.ends.now in
     let i = c.loop-i.i in
     let a = c.loop-i.out in
-    let b = c.lay_note.new.out in
+    let b = c.lay_note-left.new.out in
+    let now = c.lay_note-left.ensures in
     let note = slice_index_or notes i Reference in
     let cons = note_behind notes i c.loop-i-test.true in
-    let so_far = rw cons at (inv.laid w.layout w.slots w.stored w.targets w.are) in
-    let may = note_may w.layout w.slots w.stored w.targets c.args.align c.fit.result c.count-start.result _ _ _
-    c.args.out.now c.fit.new.self a w.are c.fit.ensures.free (zeros_are _ _ _ c.fit.ensures.exact) c.fit.ensures.wide
-    c.count-start.ensures.exact inv.grows inv.most _ _ _ _ so_far in
-    let within = taken_within note (drop c.loop-i.at bytes) (drop c.loop-i.next ends) a may in
-    let lays = rw (all_left bytes c.loop-i.at, all_left ends c.loop-i.next) at c.lay_note.ensures.laid in
-    let most = c.lay_note.ensures.most ∙ inv.most in
-    let grows = then_grows _ _ _ inv.grows c.lay_note.ensures.grows in
+    let most = now.most ∙ inv.most in
+    let grows = then_grows _ _ _ inv.grows now.grows in
     record {
-      at = omega (arith, within.0, length-drop c.loop-i.at bytes, inv.at, c.bytes_of-at.ensures.exact);
-      next = omega (arith, within.1, length-drop c.loop-i.next ends, inv.next, c.references_of-next.ensures);
-      laid = λ L fs xs targets is.
-          (rw (
-            c.bytes_of-at.ensures.exact,
-            c.references_of-next.ensures,
-            ← drop-drop (own_size note) c.loop-i.at bytes,
-            ← drop-drop (noted_references note) c.loop-i.next ends,
-          )
+      laid = λ L fs xs targets is. rw (now.bytes, now.ends)
           (note_laid L fs xs is.known targets c.count-start.result a b note (drop (i + 1) notes)
-          (drop c.loop-i.at bytes) (drop c.loop-i.next ends) c.lay_note.ensures.grows c.lay_note.ensures.free
+          c.loop-i.bytes_left.now c.loop-i.ends_left.now now.grows now.free
           (fields_wide L fs xs targets c.args.align c.fit.result c.count-start.result _ _ _ c.args.out.now
           c.fit.new.self b is c.fit.ensures.free (zeros_are _ _ _ c.fit.ensures.exact) c.fit.ensures.wide
           c.count-start.ensures.exact
-          grows most) lays (rw cons at (inv.laid L fs xs targets is))));
-      long = (let grown = grown_long a b c.lay_note.ensures.grows in
+          grows most) now.laid (rw cons at (inv.laid L fs xs targets is)));
+      long = (let grown = grown_long a b now.grows in
           let step : notes_size (drop i notes) ≡ noted_size note + notes_size (drop (i + 1) notes) =
           ap notes_size cons ∙ sum_by-cons noted_size note (drop (i + 1) notes) in
-          omega (arith, grown, step, c.lay_note.ensures.free, inv.long));
+          omega (arith, grown, step, now.free, inv.long));
       most = most;
       grows = grows;
     }

@@ -17,4 +17,4 @@ returns-clause-bound c =
       | in-Some w ↦ omega (arith, w.header-is)
       | in-None w ↦ omega (arith, w.header-is)
     ] in
-    omega (arith, header, low, c.tape_most-most.ensures.exact, c.zeros_to.ensures.few, c.tape_end-laid.ensures.bound)
+    omega (arith, header, low, c.zeros_to.ensures.few, c.count_tape-laid.ensures.bound, c.count_tape-laid.ensures.most)

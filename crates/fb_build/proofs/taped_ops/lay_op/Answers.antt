@@ -2,8 +2,8 @@ use Rattle.std.proofs.Common.{arith}
 use Rattle.std.proofs.lemmas.Option.{slice_get_within}
 use Rattle.fb_build.proofs.taped_ops.lay_op.Goals as goal
 
-pub vtable-requires : goal.vtable-requires
-vtable-requires c =
+pub new-vtable-requires : goal.new-vtable-requires
+new-vtable-requires c =
     let t = rw c.in-Table.is at c.requires.ready.may.lays in
     record { within = slice_get_within c.args.tape.now.vtables c.in-Table.vtable _ t.vtable_is }
 

@@ -50,11 +50,12 @@ returns-clause-laid c vtables is =
     let s = c.lay_new.new.out.bytes in
     let vt = c.args.vtable.now in
     let e = c.count.result in
+    let bytes = rw c.bytes.ensures.exact at c.lay_new.ensures.bytes in
     let last : length places ≡ c.args.number =
     omega (arith, c.if-number-len.false, c.len.ensures, c.requires.turn) in
     let here : slice_get vtables (length places) ≡ Some vt = rw last is.is in
     let more = come_more vtables places e vt here in
-    let now = new_stands s old vt e c.lay_new.ensures.bytes c.count.ensures.exact is.four is.even in
+    let now = new_stands s old vt e bytes c.count.ensures.exact is.four is.even in
     let long = grown_long c.args.out.now c.lay_new.new.out c.lay_new.ensures.grows in
     let some : 0 < e = omega (arith, c.count.ensures.exact, c.lay_new.ensures.free, long) in
     let each = is.shared.each in
@@ -70,10 +71,10 @@ returns-clause-laid c vtables is =
       laid = inr (record {
         is = rw more key;
         places = ap (λ n. places ++ (n ∷ [])) c.count.ensures.exact;
-        bytes = c.lay_new.ensures.bytes;
+        bytes = bytes;
       });
       key = rw (more, ← last) key;
-      leads = rw (← last, own) (new_way s old vt (c.count-place.result + 4) c.lay_new.ensures.bytes
+      leads = rw (← last, own) (new_way s old vt (c.count-place.result + 4) bytes
           (ap (λ n. n + 4) c.count-place.ensures.exact) c.requires.short);
     } in
     rw c.push_reserved.ensures.items laid
@@ -90,4 +91,7 @@ lay_new-requires-clause-room c =
     let past : nat_lt c.args.number (length c.args.places.now.items) ≡ false =
     not_low _ _ (omega (arith, c.if-number-len.false, c.len.ensures)) in
     let room = rw past at c.requires.room in
-    omega (arith, room)
+    rw c.bytes.ensures.exact (omega (arith, room))
+
+pub lay_new-requires-clause-short : goal.lay_new-requires-clause-short
+lay_new-requires-clause-short c = rw c.bytes.ensures.exact c.requires.short

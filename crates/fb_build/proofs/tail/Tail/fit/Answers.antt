@@ -5,8 +5,8 @@ use Rattle.fb_build.proofs.tail.Tail.fit.Goals as goal
 
 pub returns-clause-multiple : goal.returns-clause-multiple
 returns-clause-multiple c = padded_bytes c.args.align c.args.more c.count.result c.args.self.now.bytes
-    c.widen.new.self.bytes (power_some c.args.align c.requires.power) c.count.ensures.exact (c.widen.ensures.bytes
-    ∙ c.skip.ensures.bytes)
+    c.widen.new.self.bytes (power_some c.args.align c.requires.power) c.count.ensures.exact
+    (rw (← c.zeros_to-zeros.ensures.exact) (c.widen.ensures.bytes ∙ c.skip.ensures.bytes))
 
 pub returns-clause-wide : goal.returns-clause-wide
 returns-clause-wide c = rw c.widen.ensures.most
