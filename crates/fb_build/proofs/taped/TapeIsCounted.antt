@@ -1,6 +1,7 @@
 -- How long a tape is, counted by what the vtables of its tables tell.
 use Rattle.std.proofs.Common.{◌≡◌, ◌∙◌, ℕ, ◌+◌, ◌*◌, ◌^◌, ◌≤◌, ◌<◌, ◌++◌, ap, sym, arith, nat_lt}
-use Rattle.std.proofs.Common.{Bool, true, false, if◌then◌else◌, List, length, take, drop, flat_map, slice_get, Option, Some}
+use Rattle.std.proofs.Common.{Bool, true, false, if◌then◌else◌, List, length, take, drop, flat_map}
+use Rattle.std.proofs.Common.{slice_get, Option, Some}
 use Rattle.std.proofs.Math.Seq.{drop-append_seam}
 use Rattle.byteorder.specs.Endian.{little_bytes, little_number}
 use Rattle.byteorder.specs.Numbers.{length-bytes_low_first, little_from-take, little_number-reads_back}
@@ -70,7 +71,8 @@ module _ (L : LaidSchema) (vtables : List Bytes) (fields : ℕ) (align : Alignme
     same = same_some (slice_get vtables number) vtable (vtable_of L own stored) is t.vtable_is
 
     pub table_counted : (known laid : ℕ)
-        → sized_end (aligned_to align) (little_number 2 (take 2 (drop 2 vtable))) (length vtable) (nat_lt number known) laid
+        → sized_end (aligned_to align) (little_number 2 (take 2 (drop 2 vtable))) (length vtable)
+        (nat_lt number known) laid
         ≡ op_end vtables known (Table align fields number) notes laid
     table_counted known laid =
         let table = known_in L t.table t.entries made t.fits t.whole in
