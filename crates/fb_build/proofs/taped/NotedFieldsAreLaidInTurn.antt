@@ -377,11 +377,6 @@ module _ (L : LaidSchema) (fs : List Slot) (xs : List (Option Datum)) (targets :
       (omega (arith, grown, begin, padded, exact, is.room)) note
       (note_next L fs xs targets start out note notes_left bytes_left ends_left h)
 
-pub taken_within : (note : NotedField) (bytes : Bytes) (ends : List ℕ) (o : TailSeen) → MayLay note bytes ends o
-    → (own_size note ≤ length bytes) × (noted_references note ≤ length ends)
-taken_within Reference bytes ends o may = (omega arith, omega (arith, may.some))
-taken_within (Inline n) bytes ends o may = (may.0, omega arith)
-
 pub all_left : {A : Type 0} (xs : List A) (n : ℕ) → take (length xs - n) (drop n xs) ≡ drop n xs
 all_left xs n = take_whole (length xs - n) (drop n xs) (omega (arith, length-drop n xs))
 

@@ -1,6 +1,7 @@
 -- How long a tape is, counted by what the vtables of its tables tell.
-use Rattle.std.proofs.Common.{◌≡◌, ◌∙◌, ℕ, ◌+◌, ◌*◌, ◌^◌, ◌≤◌, ◌<◌, ◌++◌, ap, sym, arith, length-append, nat_lt}
-use Rattle.std.proofs.Common.{Bool, true, false, if◌then◌else◌, List, length, take, drop, flat_map, slice_get, Option, Some}
+use Rattle.std.proofs.Common.{◌≡◌, ◌∙◌, ℕ, ◌+◌, ◌*◌, ◌^◌, ◌≤◌, ◌<◌, ◌++◌, ap, sym, arith, nat_lt}
+use Rattle.std.proofs.Common.{Bool, true, false, if◌then◌else◌, List, length, take, drop, flat_map}
+use Rattle.std.proofs.Common.{slice_get, Option, Some}
 use Rattle.std.proofs.Math.Seq.{drop-append_seam}
 use Rattle.byteorder.specs.Endian.{little_bytes, little_number}
 use Rattle.byteorder.specs.Numbers.{length-bytes_low_first, little_from-take, little_number-reads_back}
@@ -40,17 +41,6 @@ size_told L fs zs small =
     little_from-take 0 2 2 (drop 2 (first ++ rest)) (omega arith) ∙ ap (little_number 2) behind
     ∙ little_number-reads_back 2 (table_size L fs zs) offsets small
 
-vtable_long : (L : LaidSchema) (fs : List Slot) (zs : List (Option Datum)) → 4 ≤ length (vtable_of L fs zs)
-vtable_long L fs zs =
-    let os = trimmed (offsets_from L fs zs 0 fs zs) in
-    let first = little_bytes 2 (4 + 2 * length os) in
-    let second = little_bytes 2 (table_size L fs zs) in
-    let whole = length-append first (second ++ flat_map (little_bytes 2) os) in
-    let parts = length-append second (flat_map (little_bytes 2) os) in
-    let two = length-bytes_low_first 0 2 (4 + 2 * length os) in
-    let four = length-bytes_low_first 0 2 (table_size L fs zs) in
-    omega (arith, whole, parts, two, four)
-
 -- ---- a table
 
 table_sum : (known : Bool) (front size padding laid more : ℕ) → padding + size ≡ ceil4 size
@@ -73,18 +63,16 @@ module _ (L : LaidSchema) (vtables : List Bytes) (fields : ℕ) (align : Alignme
       let table = known_in L t.table t.entries made t.fits t.whole in
       rw t.align_is (stored_aligned L 4 own stored four_power table.known.each)
 
-  pub table_least : 4 ≤ aligned_to align
+  table_least : 4 ≤ aligned_to align
   table_least = omega (arith, t.align_is)
 
   module _ (vtable : Bytes) (is : slice_get vtables number ≡ Some vtable) where
     same : vtable ≡ vtable_of L own stored
     same = same_some (slice_get vtables number) vtable (vtable_of L own stored) is t.vtable_is
 
-    pub vtable_counts : 4 ≤ length vtable
-    vtable_counts = rw same (vtable_long L own stored)
-
     pub table_counted : (known laid : ℕ)
-        → sized_end (aligned_to align) (little_number 2 (take 2 (drop 2 vtable))) (length vtable) (nat_lt number known) laid
+        → sized_end (aligned_to align) (little_number 2 (take 2 (drop 2 vtable))) (length vtable)
+        (nat_lt number known) laid
         ≡ op_end vtables known (Table align fields number) notes laid
     table_counted known laid =
         let table = known_in L t.table t.entries made t.fits t.whole in
