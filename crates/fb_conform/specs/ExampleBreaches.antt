@@ -1,7 +1,6 @@
 -- Breaches that stand: rows worked by hand.
-use Rattle.std.proofs.Common.{◌≡◌, ℕ, zero, suc, ◌<◌, ℤ, pos, List, [], ◌∷◌, get_or, Some, refl, sym, ap, subst, arith}
+use Rattle.std.proofs.Common.{◌≡◌, ℕ, zero, suc, ◌<◌, ℤ, pos, List, [], ◌∷◌, get_or, Some, refl, sym, ap, arith}
 use Rattle.std.proofs.Common.{lit≤, lit<}
-use Rattle.fb_schema.specs.Found.{name_at}
 use Rattle.fb_conform.specs.declared.breaches.Breach.TheVariants.{RootChanged, IdentifierChanged, TypeGone}
 use Rattle.fb_conform.specs.declared.breaches.Breach.TheVariants.{StructChanged, SlotGone, FieldTypeChanged}
 use Rattle.fb_conform.specs.declared.breaches.Breach.TheVariants.{DefaultChanged, RequiredChanged, DeprecatedTakenBack}
@@ -103,5 +102,5 @@ pub union_row : Stands u_ab u_ba (UnionChanged (id 2))
 union_row kept =
     let there = kept 2 refl 1 0 refl in
     let second : there.0 ≡ 1 = same_number _ _ (sym there.1) in
-    let letter = same_letter 0x41 0x42 (subst (λ (u : ℕ). name_at u_ab.schema 0 ≡ name_at u_ba.schema u) second there.2)
+    let letter = same_letter 0x41 0x42 (rw second at there.2)
     in omega (arith, letter)

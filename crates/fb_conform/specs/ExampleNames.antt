@@ -1,6 +1,6 @@
 -- Names that are moved, names that are kept, and JSON texts that name what is kept: rows worked by hand.
 use Rattle.std.proofs.Common.{◌≡◌, ℕ, zero, suc, Bool, true, false, cond, List, [], ◌∷◌, None, Some, option_map}
-use Rattle.std.proofs.Common.{bytes_eq, pos, refl, subst, arith}
+use Rattle.std.proofs.Common.{bytes_eq, pos, refl, arith}
 use Rattle.std.proofs.lemmas.Slice.Eq.{bytes_eq-Decides}
 use Rattle.serde_json.specs.Data.{Data, unsigned, number, object, no_members, member}
 use Rattle.fb_schema.specs.declared.kinds.Kind.TheVariants.{Table}
@@ -86,11 +86,11 @@ same_slot name k j old new = by (bytes_eq name (0x68 ∷ [])) (bytes_eq name (0x
         (cond x (Some (named 0x68 (int_field 0))) (cond y (Some (named 0x6d (int_field 1))) None)) ≡ Some k → j ≡ k
     by true y is_h is_m e =
         let here = (bytes_eq-Decides name (0x68 ∷ [])).0 is_h in
-        let gone : None ≡ Some j = subst (λ (n : Name). slot_named (body_at vm.schema 0) n ≡ Some j) here new in
+        let gone : None ≡ Some j = rw here at new in
         absurd cc
     by false true is_h is_m e =
         let here = (bytes_eq-Decides name (0x6d ∷ [])).0 is_m in
-        let is : Some 1 ≡ Some j = subst (λ (n : Name). slot_named (body_at vm.schema 0) n ≡ Some j) here new in
+        let is : Some 1 ≡ Some j = rw here at new in
         let was : Some 1 ≡ Some k = e in
         cc
     by false false is_h is_m e = absurd cc
@@ -99,7 +99,7 @@ pub renamed_row : KeepsNames hm vm
 renamed_row zero u k j name twins old new =
     let first : Some 0 ≡ Some u = twins in
     let same : u ≡ 0 = cc in
-    same_slot name k j old (subst (λ (w : ℕ). slot_named (body_at vm.schema w) name ≡ Some j) same new)
+    same_slot name k j old (rw same at new)
 renamed_row (suc t) u k j name twins old new = let none : None ≡ Some u = twins in absurd cc
 
 -- ---- JSON texts of a schema in which h was renamed

@@ -1,6 +1,6 @@
 -- Keys of items, all different: of those before an item none is equal to its own.
 use Rattle.std.proofs.Common.{◌≡◌, ◌≢◌, ℕ, ◌+◌, ◌<◌, Bool, true, false, List, [], ◌∷◌, ◌++◌, length, map, take, get_or}
-use Rattle.std.proofs.Common.{AllPairs, Some, None, cond, position, slice_get, nat_lt, refl, ap, sym, subst, ◌∙◌, arith}
+use Rattle.std.proofs.Common.{AllPairs, Some, None, cond, position, slice_get, nat_lt, refl, ap, sym, ◌∙◌, arith}
 use Rattle.std.specs.Bool.{Decides}
 use Rattle.std.specs.List.{list_any, position_or_len}
 use Rattle.std.proofs.lemmas.List.{take-map, take_more, map-append, get_or-take, get_or-map, length-take-le, length-map}
@@ -34,9 +34,7 @@ module _ {K : Type 0} (eq : K → K → Bool) (same : (a b : K) → Decides (eq 
     fresh items i d pairs within =
         let inside : i < length (map key items) = omega (arith, length-map items key) in
         let at : get_or (map key items) i (key d) ≡ key (get_or items i d) = get_or-map key items i d (key d) within in
-        subst (λ (k : K). list_any (eq k) (map key (take i items)) ≡ false) at
-        (subst (λ (ks : List K). list_any (eq (get_or (map key items) i (key d))) ks ≡ false) (take-map key i items)
-        (none_before (map key items) i (key d) pairs inside))
+        rw (← at) (rw (← (take-map key i items)) (none_before (map key items) i (key d) pairs inside))
 
 -- the keys of one item more
 pub keys_more : {X K : Type 0} (key : X → K) (items : List X) (i : ℕ) (d : X) → i < length items
@@ -52,7 +50,7 @@ module _ {K : Type 0} (eq : K → K → Bool) (same : (a b : K) → Decides (eq 
       let within : i < length keys = slice_get_within keys i k there in
       let at : get_or keys i k ≡ k = get_or_from_slice_get keys i k k there in
       let before : (j : ℕ) → j < i → eq k (get_or keys j k) ≡ false =
-      λ j less. differ eq same k (get_or keys j k) (subst (λ x. get_or keys j k ≢ x) at (pairs j i k less within))
+      λ j less. differ eq same k (get_or keys j k) (rw at at (pairs j i k less within))
       in
       let first : position_or_len (eq k) keys ≡ i =
       position_or_len_is (eq k) keys i k (omega (arith, within)) before (λ _. rw at ((same k k).1 refl)) in

@@ -1,6 +1,6 @@
 -- Keys are found by halves among their places in ascending order.
 use Rattle.std.proofs.Common.{◌≡◌, ◌≢◌, ℕ, ◌+◌, ◌<◌, Bool, true, false, List, length, get_or, position, Option, None}
-use Rattle.std.proofs.Common.{Some, is_some, AllPairs, Contains, refl, ap, sym, subst, ◌∙◌, ◌⊎◌, inl, inr, arith, Ok}
+use Rattle.std.proofs.Common.{Some, is_some, AllPairs, Contains, refl, ap, sym, ◌∙◌, ◌⊎◌, inl, inr, arith, Ok}
 use Rattle.std.proofs.Common.{Err, nat_lt}
 use Rattle.std.specs.declared.cmp.Ordering.{Ordering}
 use Rattle.std.specs.declared.cmp.Ordering.TheVariants.{Less, Equal, Greater}
@@ -51,9 +51,9 @@ module _ {K : Type 0} {cmp : K → K → Ordering} (order : IsTotalOrder cmp) (e
   within : (p : ℕ) → Contains places p → p < length keys
   within p there =
       let k = Contains-permutation places all_places p (IsPermutation-sym all_places places ordered.all) there in
-      let inside : k.0 < length keys = subst (λ n. k.0 < n) (length-range_with_len 0 (length keys)) k.1 in
+      let inside : k.0 < length keys = rw (length-range_with_len 0 (length keys)) at k.1 in
       let is : k.0 ≡ p = sym (from_zero k.0) ∙ (sym (get_or-range_with_len 0 (length keys) k.0 p inside) ∙ k.2) in
-      subst (λ n. n < length keys) is inside
+      rw (← is) inside
 
   -- the key at a place that compares as equal is the one that is looked for
   pub found : AllPairs (λ a b. a ≢ b) keys → (i d : ℕ) → i < length places
@@ -73,7 +73,7 @@ module _ {K : Type 0} {cmp : K → K → Ordering} (order : IsTotalOrder cmp) (e
     where
       by : (b : Bool) → eq key a ≡ b → eq key a ≡ false
       by false e = e
-      by true e = absurd (other (cmp a key) apart (subst (λ k. cmp k key ≡ Equal) ((same key a).0 e) (equal key)))
+      by true e = absurd (other (cmp a key) apart (rw (← ((same key a).0 e)) (equal key)))
 
   -- no key is between those that are less and those that are greater
   pub nowhere : (i : ℕ) → IsPartitionPoint (λ p. cmp (get_or keys p none) key ≡ Less)
@@ -85,8 +85,8 @@ module _ {K : Type 0} {cmp : K → K → Ordering} (order : IsTotalOrder cmp) (e
       each : (k : ℕ) → k < length keys → eq key (get_or keys k none) ≡ false
       each k inside =
           let there = Contains-permutation all_places places k ordered.all (place_of k inside) in
-          subst (λ n. eq key (get_or keys n none) ≡ false) there.2
-          (differs (get_or keys (get_or places there.0 k) none) (by (nat_lt there.0 i) there.0 k refl there.1))
+          rw (← there.2) (differs (get_or keys (get_or places there.0 k) none)
+          (by (nat_lt there.0 i) there.0 k refl there.1))
         where
           by : (b : Bool) → (j d : ℕ) → nat_lt j i ≡ b → j < length places
               → (cmp (get_or keys (get_or places j d) none) key ≡ Less) ⊎

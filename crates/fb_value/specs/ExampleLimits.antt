@@ -3,7 +3,7 @@ use Rattle.std.specs.Prelude.{ℕ, zero, suc, ◌+◌, ◌-◌, ◌/◌, ◌%◌
 use Rattle.std.specs.Prelude.{Some, refl}
 use Rattle.std.specs.Str.Lossy.{utf8_valid_len}
 use Rattle.std.specs.Str.{is_utf8, chars}
-use Rattle.std.proofs.Common.{ap, subst, sym, lit≤}
+use Rattle.std.proofs.Common.{ap, lit≤}
 use Rattle.fb_layout.specs.Laid.{slots_of}
 use Rattle.fb_value.specs.declared.faults.ReadFault.{ReadFault}
 use Rattle.fb_value.specs.declared.faults.ReadFault.TheVariants.{TooDeep, TooManyCells}
@@ -13,7 +13,7 @@ use Rattle.fb_value.specs.Counts.{cells}
 use Rattle.fb_value.specs.Num.{Bytes, num}
 use Rattle.fb_value.specs.Places.{table_part, ref_place, part_place, Place, slot_number, named_slots, named_elements}
 use Rattle.fb_value.specs.Rules.{first_failing, fault_by, fault_at}
-use Rattle.fb_value.specs.Lies.{Lies, LiesSlots}
+use Rattle.fb_value.specs.Lies.{Lies}
 use Rattle.fb_value.specs.Faults.{all_within, all, limited_fault, first_fault, fault_from}
 use Rattle.fb_value.specs.Holds.{header_fault, Holds, computed_fault}
 use Rattle.fb_value.specs.ExampleLayouts.{usual, one_int, one_text, table_in_table, tables_in_table}
@@ -124,18 +124,15 @@ chain_held b zero p e =
     let met : met_last b p ≡ last_link = cc in (
       ap (λ x. x.0) met,
       refl,
-      subst (λ (xs : List (Option Place)). LiesSlots table_in_table b (slots_of table_in_table 0) xs
-          (absent_entry no_entries)) (sym (ap (λ x. x.1) met)) (refl, tt),
+      rw (ap (λ x. x.1) met) (refl, tt),
     )
 chain_held b (suc n) p e =
     let met : met_at b p ≡ link p = cc in
     let behind : Lies table_in_table b (part_place (table_part 0)) (p + 8) (nested n) = chain_held b n (p + 8) cc in
-    let there = subst (λ (q : ℕ). Lies table_in_table b (part_place (table_part 0)) q (nested n))
-    (sym (ap (λ x. x.3) met)) behind in (
+    let there = rw (← (ap (λ x. x.3) met)) at behind in (
       ap (λ x. x.0) met,
       refl,
-      subst (λ (xs : List (Option Place)). LiesSlots table_in_table b (slots_of table_in_table 0) xs
-          (present_entry (nested n) no_entries)) (sym (ap (λ x. x.1) met)) ((ap (λ x. x.2) met, there), tt),
+      rw (ap (λ x. x.1) met) ((ap (λ x. x.2) met, there), tt),
     )
 
 -- The tables in one another are held where so many are allowed.

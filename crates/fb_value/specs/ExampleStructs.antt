@@ -2,7 +2,7 @@
 use Rattle.std.specs.Prelude.{◌≡◌, ◌≤◌, [], ◌∷◌, false, length, None, Some, refl, pos, ℕ, ◌++◌, replicate}
 use Rattle.std.specs.Str.Lossy.{utf8_valid_len}
 use Rattle.std.specs.Str.{is_utf8, chars}
-use Rattle.std.proofs.Common.{subst, lit≤, arith}
+use Rattle.std.proofs.Common.{lit≤, arith}
 use Rattle.fb_schema.specs.Schema.{force_align_in, body_at}
 use Rattle.fb_layout.specs.Laid.{parts_of, struct_at}
 use Rattle.fb_layout.specs.WellMade.{IsStructLaid}
@@ -69,7 +69,7 @@ pub forced_laid : IsStructLaid wide_structs (parts_of wide_structs 0) (force_ali
 forced_laid = record {
   end = 1;
   fields = (record { multiple = (0, refl); above = lit≤ tt; least = λ k h. omega arith }, refl);
-  forced = λ a e. let is : 16 ≡ a = cc in subst (λ (n : ℕ). 1 ≤ n) is (lit≤ tt);
+  forced = λ a e. let is : 16 ≡ a = cc in rw (← is) (lit≤ tt);
   aligned = refl;
   sized = record { multiple = (1, refl); above = lit≤ tt; least = λ k h. omega arith };
 }

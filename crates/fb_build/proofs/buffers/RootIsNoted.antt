@@ -1,5 +1,5 @@
 -- The tape of a root's value is of the room that was found, and means the value.
-use Rattle.std.proofs.Common.{◌≡◌, ℕ, ◌≤◌, ◌+◌, ◌∙◌, ◌∷◌, [], ap, sym, refl, subst, Option, Vec, Global, arith}
+use Rattle.std.proofs.Common.{◌≡◌, ◌≤◌, ◌+◌, ◌∙◌, ◌∷◌, [], ap, sym, refl, Option, Vec, Global, arith}
 use Rattle.fb_schema.specs.declared.kinds.TypeId.{TypeId}
 use Rattle.fb_layout.specs.Laid.{LaidSchema, one_of, slots_of, table_kind}
 use Rattle.fb_value.specs.Datum.{a_table}
@@ -38,8 +38,5 @@ root_noted L value table es tape is fits same low waits sum =
     record {
       room = omega (arith, sum, own, low);
       value_is = rw (is, view-Fields table es, root) refl;
-      means = subst (λ (r : ℕ). Waits tape (record {
-        target = table_part r;
-        value = a_table r (entries_view es.items);
-      } ∷ [])) (root ∙ sym (ap (λ M. M.schema.root) same)) waits;
+      means = rw (root ∙ sym (ap (λ M. M.schema.root) same)) at waits;
     }

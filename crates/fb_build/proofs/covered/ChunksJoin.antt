@@ -1,6 +1,6 @@
 -- Chunks in front of chunks.
 use Rattle.std.proofs.Common.{◌≡◌, ℕ, ◌+◌, ◌≤◌, ◌++◌, false, List, [], ◌∷◌, replicate, length, map, refl, ap, sym, ◌∙◌}
-use Rattle.std.proofs.Common.{subst, arith, append_assoc, length-append}
+use Rattle.std.proofs.Common.{arith, append_assoc, length-append}
 use Rattle.std.specs.Prelude.{flat_map, IsPermutation}
 use Rattle.std.proofs.lemmas.List.{get_or-append-add, map-append, length-replicate}
 use Rattle.std.proofs.lemmas.List.Sorted.{IsPermutation-trans, IsPermutation-append, IsPermutation-append_left}
@@ -94,8 +94,7 @@ middle_swapped a b c d =
     ap (λ x. a ++ x) (append_assoc c b d) ∙ sym (append_assoc a c (b ++ d)) in
     let step : IsPermutation (a ++ ((b ++ c) ++ d)) (a ++ ((c ++ b) ++ d)) =
     IsPermutation-append_right a _ _ (IsPermutation-append_left d _ _ (IsPermutation-append_comm b c)) in
-    subst (λ x. IsPermutation x ((a ++ c) ++ (b ++ d))) (sym left)
-    (subst (λ x. IsPermutation (a ++ ((b ++ c) ++ d)) x) right step)
+    rw left (rw (← right) step)
 
 vtables_shifted : (front s : Bytes) (qs : List ℕ)
     → map (vtable_piece (front ++ s)) (map (λ q. length front + q) qs)
@@ -121,8 +120,7 @@ later_pieces L front s xs qs cs same made =
     ≡ map part (map (part_further k) xs) ++ map vt (map (λ q. k + q) qs) =
     map-append (piece_further k) _ _ ∙ ap (λ z. z ++ map (piece_further k) (map (vtable_piece s) qs)) (sym same)
     ∙ ap (λ z. map part (map (part_further k) xs) ++ z) (sym (vtables_shifted front s qs)) in
-    subst (λ (z : List Piece). IsPermutation (map (piece_further k) (pieces_among 0 cs)) z) old
-    (IsPermutation-map (piece_further k) _ _ made)
+    rw (← old) (IsPermutation-map (piece_further k) _ _ made)
 
 pub made_shown : MadeInFront
 made_shown L most front s fs xs ys qs rs h made same own =
@@ -143,7 +141,5 @@ made_shown L most front s fs xs ys qs rs h made same own =
     record {
       chunks = fs ++ made.chunks;
       are = both.0;
-      pieces = subst (λ (z : List Piece). IsPermutation z (map part (ys ++ xs2) ++ map vt (rs ++ qs2))) (sym both.1)
-          (subst (λ (z : List Piece). IsPermutation
-          (pieces_among 0 fs ++ map (piece_further k) (pieces_among 0 made.chunks)) z) end all);
+      pieces = rw both.1 (rw (← end) all);
     }

@@ -1,12 +1,12 @@
 -- A buffer is made of what its tail is made of, and of the header in front.
-use Rattle.std.proofs.Common.{◌≡◌, ℕ, ◌+◌, ◌-◌, ◌++◌, List, ◌∷◌, length, map, ap, sym, ◌∙◌, subst, arith}
+use Rattle.std.proofs.Common.{◌≡◌, ◌+◌, ◌-◌, ◌++◌, ◌∷◌, length, map, ap, sym, ◌∙◌, arith}
 use Rattle.std.specs.Prelude.{IsPermutation}
 use Rattle.std.proofs.lemmas.List.Sorted.{IsPermutation-trans, IsPermutation-cons, IsPermutation-append_right}
 use Rattle.std.proofs.lemmas.List.Sorted.{IsPermutation-map}
 use Rattle.fb_value.specs.Num.{num}
 use Rattle.fb_value.specs.Places.{table_part}
-use Rattle.fb_build.specs.Pieces.{PartAt, reached, reached_parts, each_once, tables_vtables, vtables_of, Piece}
-use Rattle.fb_build.specs.Pieces.{header_piece, part_piece, vtable_piece, pieces_of}
+use Rattle.fb_build.specs.Pieces.{reached, reached_parts, each_once, tables_vtables, vtables_of}
+use Rattle.fb_build.specs.Pieces.{header_piece, part_piece, vtable_piece}
 use Rattle.fb_build.specs.Covered.{pieces_among}
 use Rattle.fb_build.specs.CoveredTails.{part_further, piece_further, parts_in_tail}
 use Rattle.fb_build.specs.CoveredSteps.{MadeWhole}
@@ -31,13 +31,10 @@ whole_shown L m most front s fs e v qs lies made distinct same_places are header
     ap (λ zs. each_once (tables_vtables b zs)) there ∙ ap each_once kept.vtables
     ∙ once_further k (tables_vtables s xs) in
     let places : IsPermutation (map (λ q. k + q) qs) (vtables_of b rs) =
-    subst (λ (z : List ℕ). IsPermutation (map (λ q. k + q) qs) z) (sym once)
-    (IsPermutation-map (λ q. k + q) _ _ (once_shown qs (tables_vtables s xs) distinct same_places)) in
+    rw once (IsPermutation-map (λ q. k + q) _ _ (once_shown qs (tables_vtables s xs) distinct same_places)) in
     let later : IsPermutation (map (piece_further k) (pieces_among 0 made.chunks))
     (map (part_piece L b) rs ++ map (vtable_piece b) (map (λ q. k + q) qs)) =
-    subst (λ (z : List PartAt). IsPermutation (map (piece_further k) (pieces_among 0 made.chunks))
-    (map (part_piece L b) z ++ map (vtable_piece b) (map (λ q. k + q) qs))) (sym parts)
-    (later_pieces L front s xs qs made.chunks same made.pieces) in
+    rw parts (later_pieces L front s xs qs made.chunks same made.pieces) in
     let all = IsPermutation-trans _ _ _ later
     (IsPermutation-append_right (map (part_piece L b) rs) _ _ (IsPermutation-map (vtable_piece b) _ _ places)) in
     let both = join_shown most front s fs made.chunks are made.are in
@@ -47,7 +44,6 @@ whole_shown L m most front s fs e v qs lies made distinct same_places are header
     record {
       chunks = fs ++ made.chunks;
       joined = both.0.joined;
-      pieces = subst (λ (z : List Piece). IsPermutation z (pieces_of L b rs)) (sym joined)
-          (IsPermutation-cons (header_piece L) _ _ all);
+      pieces = rw joined (IsPermutation-cons (header_piece L) _ _ all);
       runs = runs_under most _ (fs ++ made.chunks) bound both.0.runs;
     }

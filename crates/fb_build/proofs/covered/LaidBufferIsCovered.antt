@@ -1,7 +1,7 @@
 -- A buffer is covered once its header is laid in front of what was made of its value.
 use Rattle.std.proofs.Common.{◌≡◌, ℕ, zero, suc, ◌+◌, ◌-◌, ◌<◌, ◌≤◌, ◌++◌, inl, inr, Bool, true, false, cond, ◌==◌}
 use Rattle.std.proofs.Common.{◌||◌, max, List, [], ◌∷◌, length, replicate, take, drop, map, slice_index, Option, None}
-use Rattle.std.proofs.Common.{Some, refl, ap, sym, ◌∙◌, subst, arith, append_assoc, length-append}
+use Rattle.std.proofs.Common.{Some, refl, ap, sym, ◌∙◌, arith, append_assoc, length-append}
 use Rattle.std.proofs.lemmas.Bool.{false≢true, or_cases, eqb-true, eq-eqb}
 use Rattle.std.proofs.lemmas.List.Sums.{sum_by-cons}
 use Rattle.std.proofs.Math.Seq.{drop-append_seam, take-append_seam}
@@ -171,7 +171,7 @@ module _ (L : LaidSchema) (o d : TailSeen) (b : Bytes) (e : ℕ) (v : Datum) (kn
       let one = one_place s known places (tables_vtables s xs) h.shared h.different h.made.served in
       let all : IsCoveredBy L (front ++ s) v =
       covered_shown L o.most front s e v h.laid.lies h.laid.tight h.laid.inline one root made in
-      subst (λ (z : Bytes). IsCoveredBy L z v) (sym joined) all
+      rw joined all
 
   pub greatest_buffer : greatest_align L b (reached_parts L b v) ≡ o.most
-  greatest_buffer = subst (λ (z : Bytes). greatest_align L z (reached_parts L z v) ≡ o.most) (sym joined) greatest
+  greatest_buffer = rw joined greatest

@@ -1,6 +1,6 @@
 -- Each part to which a path leads is among those that a value's recursion lists.
 use Rattle.std.proofs.Common.{◌≡◌, ℕ, zero, suc, ◌+◌, ◌⊎◌, inl, inr, ◌++◌, List, [], ◌∷◌, length, Option, None, Some}
-use Rattle.std.proofs.Common.{slice_get, refl, ◌∙◌, subst, arith, length-append}
+use Rattle.std.proofs.Common.{slice_get, refl, ◌∙◌, arith, length-append}
 use Rattle.std.specs.List.{Contains}
 use Rattle.std.proofs.lemmas.List.{get_or_append_left, get_or-append-add}
 use Rattle.fb_layout.specs.Laid.{LaidSchema, Slot, StoredKind, table_kind, text_kind, slots_of, size_of}
@@ -10,7 +10,7 @@ use Rattle.fb_value.specs.Num.{Bytes, num}
 use Rattle.fb_value.specs.Places.{Target, table_part, member_part, text_part, vector_part, Sort, ref_place, part_place}
 use Rattle.fb_value.specs.Places.{inline_place, code_place, unknown_place, Place, named, named_slots, named_elements}
 use Rattle.fb_value.specs.Places.{target_of}
-use Rattle.fb_value.specs.Lies.{IsCode, EntryAt, Element, Lies, LiesItems, LiesSlots, LiesAt}
+use Rattle.fb_value.specs.Lies.{IsCode, EntryAt, Lies, LiesItems, LiesSlots, LiesAt}
 use Rattle.fb_value.specs.Reached.{Path, Names, Leads}
 use Rattle.fb_value.specs.Holds.{root_place}
 use Rattle.fb_value.proofs.reached.StepsLeadForward.{same_place}
@@ -73,12 +73,12 @@ module _ (L : LaidSchema) (b : Bytes) (all : List PartAt) where
   slots_child [] [] no_entries lies each k y e = cc
   slots_child (f ∷ fs) (None ∷ xs) (absent_entry es) lies each zero y e = cc
   slots_child (f ∷ fs) (Some x ∷ xs) (absent_entry es) lies each zero y e =
-      subst (λ (z : Place). Settled z) (same_place x y e) (inr (code_names_nothing L b x.sort x.at lies.0))
+      rw (← (same_place x y e)) (inr (code_names_nothing L b x.sort x.at lies.0))
   slots_child (f ∷ fs) (x ∷ xs) (absent_entry es) lies each (suc k) y e = slots_child fs xs es lies.1 each k y e
   slots_child (f ∷ fs) (None ∷ xs) (present_entry d es) lies each zero y e = cc
   slots_child (f ∷ fs) (Some x ∷ xs) (present_entry d es) lies each zero y e =
-      subst (λ (z : Place). Settled z) (same_place x y e)
-      (entry_settled x.sort x.at d lies.0 (front_listed (parts_at x.sort x.at d) (reached_entries L b xs es) each))
+      rw (← (same_place x y e)) (entry_settled x.sort x.at d lies.0
+      (front_listed (parts_at x.sort x.at d) (reached_entries L b xs es) each))
   slots_child (f ∷ fs) (x ∷ xs) (present_entry d es) lies each (suc k) y e =
       slots_child fs xs es lies.1 (rest_listed (reached_named b x (λ X q. reached L b X q d))
       (reached_entries L b xs es) each) k y e
@@ -92,17 +92,16 @@ module _ (L : LaidSchema) (b : Bytes) (all : List PartAt) where
   items_child kind X p (more_parts d ds) is four lies each zero y e =
       let mine = front_listed (reached_element b (target_of kind) p (λ Y q. reached L b Y q d))
       (reached_items L b kind (p + size_of L kind) ds) each in
-      subst (λ (z : Place). Settled z) (same_place (record { sort = ref_place X; at = p }) y e)
-      (inl (
+      rw (← (same_place (record { sort = ref_place X; at = p }) y e)) (inl (
         d,
-        subst (λ (o : Option Target). Element L b kind p o d (λ s q. Lies L b s q d)) is lies.0,
-        subst (λ (o : Option Target). AreListed (reached_element b o p (λ Y q. reached L b Y q d))) is mine,
+        rw is at lies.0,
+        rw is at mine,
       ))
   items_child kind X p (more_parts d ds) is four lies each (suc k) y e =
       let later = rest_listed (reached_element b (target_of kind) p (λ Y q. reached L b Y q d))
       (reached_items L b kind (p + size_of L kind) ds) each in
-      items_child kind X (p + 4) ds is four (subst (λ (n : ℕ). LiesItems L b kind (p + n) ds) four lies.1)
-      (subst (λ (n : ℕ). AreListed (reached_items L b kind (p + n) ds)) four later) k y e
+      items_child kind X (p + 4) ds is four (rw (← four) lies.1)
+      (rw (← four) later) k y e
 
   vector_child : (kind : StoredKind) (p : ℕ) (ds : Parts) → count ds ≡ num b p 4 → LiesItems L b kind (p + 4) ds
       → AreListed (reached_items L b kind (p + 4) ds)
@@ -131,8 +130,7 @@ module _ (L : LaidSchema) (b : Bytes) (all : List PartAt) where
       → slice_get (named L b (ref_place X) p) k ≡ Some (Some y) → Settled y
   unfolding Settled parts_at
   ref_child X p d lies each zero y e =
-      subst (λ (z : Place). Settled z) (same_place (record { sort = part_place X; at = p + num b p 4 }) y e)
-      (inl (d, lies, each))
+      rw (← (same_place (record { sort = part_place X; at = p + num b p 4 }) y e)) (inl (d, lies, each))
   ref_child X p d lies each (suc k) y e = cc
 
   at_child : (s : Sort) (p : ℕ) (d : Datum) → LiesAt L b s p d → AreListed (parts_at s p d) → (k : ℕ) (y : Place)
@@ -156,7 +154,7 @@ module _ (L : LaidSchema) (b : Bytes) (all : List PartAt) where
   child x (inr is) k y e = nothing_child x.sort x.at is k y e
 
   reach : (path : Path) (x y : Place) → Settled x → Leads L b x path y → Settled y
-  reach [] x y settled e = subst (λ (z : Place). Settled z) e settled
+  reach [] x y settled e = rw (← e) settled
   reach (k ∷ path) x y settled leads = reach path leads.1 y (child x settled k leads.1 leads.2) leads.3
 
   first_listed : (x : PartAt) (xs : List PartAt) → AreListed (x ∷ xs) → Contains all x

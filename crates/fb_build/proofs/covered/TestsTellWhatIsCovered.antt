@@ -1,7 +1,7 @@
 -- What a covered buffer asks of its parts, told by tests that can be computed.
 use Rattle.std.specs.Prelude.{ℕ, zero, suc, ◌≡◌, ◌≢◌, ◌+◌, ◌-◌, Bool, not, ◌&&◌, ◌||◌, ◌==◌, List, [], ◌∷◌, nat_lt}
 use Rattle.std.specs.Prelude.{true, false, Some, slice_get, refl}
-use Rattle.std.proofs.Common.{◌⊎◌, inl, inr, ap, sym, ◌∙◌, subst, arith}
+use Rattle.std.proofs.Common.{◌⊎◌, inl, inr, ap, sym, ◌∙◌, arith}
 use Rattle.std.proofs.lemmas.Bool.{false≢true, and_parts, or_cases, eq-eqb, eqb-true}
 use Rattle.fb_layout.specs.Laid.{LaidSchema, Slot, union_kind, one_of, slots_of, parts_of, struct_at}
 use Rattle.fb_value.specs.Num.{Bytes, num}
@@ -76,7 +76,7 @@ pub table_coded : (L : LaidSchema) (b : Bytes) (t p : ℕ) → are_coded b p 0 (
     → CodesItsMembers L b t p
 table_coded L b t p h k f u fk is there =
     let none : 0 + k ≡ k = omega arith in
-    subst (λ (i : ℕ). code_at b p (i - 1) ≢ 0) none (coded_by_test b p 0 (slots_of L t) h k f u fk is (rw none there))
+    rw (← none) (coded_by_test b p 0 (slots_of L t) h k f u fk is (rw none there))
 
 -- a struct's rest, computed
 pub struct_padded : (L : LaidSchema) (b : Bytes) (s p : ℕ)

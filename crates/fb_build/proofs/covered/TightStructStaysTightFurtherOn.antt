@@ -42,7 +42,7 @@ module _ (L : LaidSchema) (al : Aligned) (b c : Bytes) (k : ℕ) (bytes : (i : �
         → EachFieldIn L (IsTightInline L b) kinds os p ds → EachFieldIn L (IsTightInline L c) kinds os (k + p) ds
     fields_moved (kind ∷ kinds) (o ∷ os) p (more_parts d ds) h =
         let at : k + (p + o) ≡ (k + p) + o = omega arith in (
-          subst (λ (q : ℕ). EachInlineIn L (IsTightInline L c) kind q d) at (inline_moved kind (p + o) d h.0),
+          rw (← at) (inline_moved kind (p + o) d h.0),
           fields_moved kinds os p ds h.1,
         )
     fields_moved _ _ p _ h = tt
@@ -56,7 +56,7 @@ module _ (L : LaidSchema) (al : Aligned) (b c : Bytes) (k : ℕ) (bytes : (i : �
   unfolding Known
   behind_moved (ref_place X) p d known lies h =
       let at : k + (p + num b p 4) ≡ (k + p) + num c (k + p) 4 = omega (arith, number_moved b c k bytes p 4) in
-      subst (λ (q : ℕ). EachInline L c (IsTightInline L c) X q d) at (known X (p + num b p 4) lies.1 h)
+      rw (← at) (known X (p + num b p 4) lies.1 h)
   behind_moved (inline_place kind) p d known lies h = inline_moved kind p d h
   behind_moved (part_place X) p d known lies h = known X p lies h
   behind_moved _ p d known lies h = tt
@@ -91,12 +91,11 @@ module _ (L : LaidSchema) (al : Aligned) (b c : Bytes) (k : ℕ) (bytes : (i : �
     part_moved text_part p (a_text bs) lies h = tt
     part_moved (vector_part kind) p (a_vector ds) lies h =
         let at : k + (p + 4) ≡ (k + p) + 4 = omega arith in
-        subst (λ (q : ℕ). EachInlineItem L c (IsTightInline L c) kind q ds) at (items_moved kind (p + 4) ds lies.2 h)
+        rw (← at) (items_moved kind (p + 4) ds lies.2 h)
     part_moved (table_part t) p (a_table type es) lies h =
         let slots = λ (j : ℕ). slot_moved b c k bytes p j
         (vtable_moved b c k bytes p (table_inside al L b t p lies.0)) in
-        subst (λ (xs : List (Option Place)). EachInlineEntry L c (IsTightInline L c) xs es)
-        (sym (all_named b c k bytes L p slots 0 (slots_of L t)))
+        rw (← (all_named b c k bytes L p slots 0 (slots_of L t))) at
         (entries_moved (slots_of L t) (named_slots L b p 0 (slots_of L t)) es lies.2 h)
     part_moved (member_part e t) p (a_member e2 d) lies h = part_moved (table_part t) p d lies.1 h
     part_moved _ p _ lies h = absurd lies
@@ -107,7 +106,7 @@ module _ (L : LaidSchema) (al : Aligned) (b c : Bytes) (k : ℕ) (bytes : (i : �
     items_moved kind p (more_parts d ds) lies h =
         let at : k + (p + size_of L kind) ≡ (k + p) + size_of L kind = omega arith in (
           element_moved kind p (target_of kind) d (λ X q is each. part_moved X q d is each) lies.0 h.0,
-          subst (λ (q : ℕ). EachInlineItem L c (IsTightInline L c) kind q ds) at (items_moved kind
+          rw (← at) (items_moved kind
               (p + size_of L kind) ds lies.1 h.1),
         )
 
@@ -129,6 +128,6 @@ pub inline_front_shown : InlineKeptInFront
 inline_front_shown L m front s sort e d h inline =
     let whole : length (front ++ s) ≡ length front + length s = length-append front s in
     let at : length front + (length s - e) ≡ length (front ++ s) - e = omega (arith, h.within, whole) in
-    subst (λ (p : ℕ). EachInlineAt L (front ++ s) (IsTightInline L (front ++ s)) sort p d) at
-    (at_moved L (from_end s m) s (front ++ s) (length front) (λ i. get_or-append-add front s i 0) sort (length s - e) d
+    rw (← at) (at_moved L (from_end s m) s (front ++ s) (length front) (λ i. get_or-append-add front s i 0) sort
+    (length s - e) d
     h.lies inline)

@@ -8,7 +8,6 @@ use Rattle.fb_layout.specs.Laid.{LaidSchema, Slot, scalar_kind, code_kind}
 use Rattle.fb_layout.specs.Laid.{StoredShape, one_of, slots_of}
 use Rattle.fb_value.specs.Num.{Bytes, num, scalar_of}
 use Rattle.fb_value.specs.Places.{vtable, slot_number, code_at}
-use Rattle.fb_value.specs.EachTable.{EachTableAt}
 use Rattle.fb_value.specs.Tails.{from_end}
 use Rattle.fb_value.proofs.tails.SameBytesHoldTheSameFurtherOn.{each_at_moved}
 use Rattle.fb_build.specs.Stored.{StoredSlot, stored_from, stored_of, stored_number, NoneIsDefault, IsBit, HoldsBit}
@@ -86,8 +85,7 @@ tight_front_shown L m front s sort e d h tight =
     let at : length front + (length s - e) ≡ length (front ++ s) - e = omega (arith, h.within, whole) in
     let moved : (i : ℕ) → slice_index (front ++ s) (length front + i) ≡ slice_index s i =
     λ i. get_or-append-add front s i 0 in
-    subst (λ (p : ℕ). EachTableAt L (front ++ s) (λ t p. IsTightInTail L (front ++ s) t p) sort p d) at
-    (each_at_moved L (from_end s m) (λ a p. true) s (front ++ s) (length front) (omega (arith, whole)) moved
+    rw (← at) (each_at_moved L (from_end s m) (λ a p. true) s (front ++ s) (length front) (omega (arith, whole)) moved
     (λ a p low is. refl)
     (λ t p. IsTightInTail L s t p) (λ t p. IsTightInTail L (front ++ s) t p)
     (λ t p slots known. tight_further_on L s (front ++ s) (length front) moved t p slots known) sort (length s - e)

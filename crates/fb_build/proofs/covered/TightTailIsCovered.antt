@@ -1,16 +1,14 @@
 -- A buffer is covered where its tail has no slack.
 use Rattle.std.proofs.Common.{◌≡◌, ℕ, ◌+◌, ◌-◌, ◌++◌, inl, inr, true, ◌==◌, List, [], ◌∷◌, length, take, drop, map}
-use Rattle.std.proofs.Common.{slice_index, refl, ap, sym, ◌∙◌, subst, arith, length-append}
+use Rattle.std.proofs.Common.{slice_index, refl, ap, sym, ◌∙◌, arith, length-append}
 use Rattle.std.proofs.lemmas.Bool.{false≢true, or_cases, or_left, or_right, eqb-true, eq-eqb}
 use Rattle.std.proofs.lemmas.List.{get_or-append-add}
 use Rattle.std.proofs.Math.Seq.{drop-append-add}
 use Rattle.fb_value.specs.Num.{Bytes, num}
 use Rattle.fb_value.specs.Places.{table_part, part_place}
-use Rattle.fb_value.specs.EachTable.{EachTable}
 use Rattle.fb_value.specs.Tails.{from_end}
 use Rattle.fb_value.proofs.tails.SameBytesHoldTheSameFurtherOn.{each_at_moved}
 use Rattle.fb_build.specs.Stored.{IsTightTable}
-use Rattle.fb_tape.specs.InlineBytes.{IsTightInline, EachInline}
 use Rattle.fb_build.specs.Pieces.{is_among, reached, reached_parts, tables_vtables}
 use Rattle.fb_build.specs.Covered.{vtable_at, EqualVtablesAreOne}
 use Rattle.fb_build.specs.CoveredTails.{parts_in_tail, IsTightInTail}
@@ -61,13 +59,12 @@ covered_shown L m front s e v lies tight inline one root made =
     ap (λ q. tables_vtables b (reached L b X q v)) (sym at) ∙ kept.vtables in
     record {
       made = made;
-      shared = subst (λ (qs : List ℕ). EqualVtablesAreOne b qs) (sym places)
-          (equal_further front s (tables_vtables s (parts_in_tail L s X e v)) one);
-      tables = subst (λ (p : ℕ). EachTable L b (λ t q. IsTightTable L b t q) (part_place X) p v) behind
-          (each_at_moved L (from_end s m) (λ a p. true) s b k (omega (arith, whole)) bytes (λ a p low is. refl)
+      shared = rw places (equal_further front s (tables_vtables s (parts_in_tail L s X e v)) one);
+      tables = rw (← behind) (each_at_moved L (from_end s m) (λ a p. true) s b k (omega (arith, whole)) bytes
+      (λ a p low is. refl)
           (λ t p. IsTightInTail L s t p) (λ t p. IsTightTable L b t p)
           (λ t p slots known. (tight_further_on L s b k bytes t p slots known).tight) (part_place X)
           (length s - e) v lies.lies tight);
-      inline = subst (λ (p : ℕ). EachInline L b (IsTightInline L b) X p v) at (inline_front_shown L m front s
+      inline = rw (← at) (inline_front_shown L m front s
           (part_place X) e v lies inline);
     }

@@ -1,6 +1,6 @@
 -- Whether bytes that nothing takes are 0, computed.
 use Rattle.std.proofs.Common.{◌≡◌, ℕ, zero, suc, ◌+◌, ◌<◌, ◌⊎◌, inl, inr, Bool, true, false, ◌||◌, ◌==◌, slice_index}
-use Rattle.std.proofs.Common.{refl, sym, ◌∙◌, subst, arith}
+use Rattle.std.proofs.Common.{refl, sym, ◌∙◌, arith}
 use Rattle.std.proofs.lemmas.Bool.{false≢true, and_from, and_parts, or_left, or_right, or_cases, eqb-true, eq-eqb}
 use Rattle.std.proofs.lemmas.Bool.{cases_eq, cases_Bool}
 use Rattle.fb_value.specs.Num.{Bytes}
@@ -25,7 +25,7 @@ module _ (taken : ℕ → Bool) (b : Bytes) (p : ℕ) where
       by_cases : (taken n || (slice_index b (p + n) == 0)) ≡ true → (i < n → slice_index b (p + i) ≡ 0)
           → (i ≡ n) ⊎ (i ≡ n → ⊥) → slice_index b (p + i) ≡ 0
       by_cases last more (inl e) =
-          one_zero i (subst (λ (j : ℕ). (taken j || (slice_index b (p + j) == 0)) ≡ true) (sym e) last) free
+          one_zero i (rw e last) free
       by_cases last more (inr ne) = more (omega (arith, below, ne))
 
   one_test : (i : ℕ) → (taken i ≡ false → slice_index b (p + i) ≡ 0) → (taken i || (slice_index b (p + i) == 0)) ≡ true

@@ -32,10 +32,10 @@ entry_fits L [] (Some d ∷ xs) h k f x a b = absurd h
 entry_fits L (g ∷ fs) [] h k f x a b = absurd h
 entry_fits L (g ∷ fs) (None ∷ xs) h zero f x a b =
     let f_is : g ≡ f = cc in let x_is : None ≡ x = cc in
-    subst (λ (y : Option Datum). EntryFits L f y) x_is (rw (← f_is) h.0)
+    rw (← x_is) (rw (← f_is) h.0)
 entry_fits L (g ∷ fs) (Some d ∷ xs) h zero f x a b =
     let f_is : g ≡ f = cc in let x_is : Some d ≡ x = cc in
-    subst (λ (y : Option Datum). EntryFits L f y) x_is (rw (← f_is) (h.0, h.1))
+    rw (← x_is) (rw (← f_is) (h.0, h.1))
 entry_fits L (g ∷ fs) (None ∷ xs) h (suc k) f x a b = entry_fits L fs xs h.1 k f x a b
 entry_fits L (g ∷ fs) (Some d ∷ xs) h (suc k) f x a b = entry_fits L fs xs h.2 k f x a b
 

@@ -1,7 +1,7 @@
 -- The end-count of a field: behind all that stands before it.
 use Rattle.std.proofs.Common.{◌≡◌, ℕ, zero, suc, ◌+◌, ◌<◌, ◌⊎◌, inl, inr, Bool, true, false, ◌&&◌, cond}
 use Rattle.std.proofs.Common.{nat_lt, nat_le, List, [], ◌∷◌, length, take, slice_get, slice_index, slice_set, Option}
-use Rattle.std.proofs.Common.{Some, refl, ap, sym, subst, arith}
+use Rattle.std.proofs.Common.{Some, refl, ap, arith}
 use Rattle.std.proofs.lemmas.List.{get_or-set_same, get_or-set_other}
 use Rattle.std.proofs.lemmas.Bool.{lt-ltb, le-leb, eq-eqb}
 use Rattle.fb_layout.specs.Laid.{LaidSchema, Slot}
@@ -74,7 +74,7 @@ end_put P L a k e fs xs ends f x under fk xk is at now before =
     let yes : nat_le a (inline_align L f.shape) ≡ true = rw at (le-leb _ _ (omega arith)) in
     let test : (is_stored f x && from L a f) ≡ true = rw (is, yes) refl in
     end_passed P L a k e fs xs ends (slice_set ends k e) f x (get_or-set_same ends k e 0 under)
-    (λ j ne. get_or-set_other ends k j e 0 ne) fk xk (subst (λ (t : Bool). P k f x t e) (sym test) now) before
+    (λ j ne. get_or-set_other ends k j e 0 ne) fk xk (rw test now) before
 
 -- the same under another test that says the same of what is stored
 pub end_retested : (P : ℕ → Slot → Option Datum → Bool → ℕ → Type 0)
@@ -83,7 +83,7 @@ pub end_retested : (P : ℕ → Slot → Option Datum → Bool → ℕ → Type 
     → t k f ≡ u k f)
     → EachEnd P t fs xs ends → EachEnd P u fs xs ends
 end_retested P t u fs xs ends same h k f x fk xk =
-    subst (λ (b : Bool). P k f x b (slice_index ends k)) (both (is_stored f x) refl) (h k f x fk xk)
+    rw (← (both (is_stored f x) refl)) (h k f x fk xk)
   where
     both : (s : Bool) → is_stored f x ≡ s → (is_stored f x && t k f) ≡ (is_stored f x && u k f)
     both true is = ap (λ (b : Bool). is_stored f x && b) (same k f x fk xk is)

@@ -14,8 +14,6 @@ use Rattle.fb_value.specs.Datum.{Datum, a_number, a_text, a_vector, a_struct, a_
 use Rattle.fb_value.specs.Num.{Bytes, num, divides}
 use Rattle.fb_value.specs.Places.{Target, ref_place, part_place}
 use Rattle.fb_value.specs.Rules.{fault_by, KeepsBy}
-use Rattle.fb_value.specs.Lies.{LiesBy}
-use Rattle.fb_value.specs.EachTable.{EachTable, EachTableAt, IsOldTable}
 use Rattle.fb_value.specs.Tails.{from_end, LiesInTail, OldInTail}
 use Rattle.fb_build.specs.Tails.{TailSeen, Grows, LaidInTail}
 use Rattle.fb_build.specs.Fields.{SlotFits, member_target, scalar_in, from, is_stored, differs}
@@ -23,8 +21,8 @@ use Rattle.fb_build.specs.Fields.{TargetEnd, StoredEnd, EntryEnd, EntriesEnd, so
 use Rattle.fb_value.proofs.rules.RulesHoldOneByOne.{hold, no_rules}
 use Rattle.fb_build.proofs.numbers.NumberReadsBack.{num_first}
 use Rattle.fb_value.proofs.tails.TailsAreKeptInFront.{front_shown, old_shown}
-use Rattle.fb_build.specs.CoveredTails.{IsTightInTail, TightInTail, InlineInTail}
-use Rattle.fb_tape.specs.InlineBytes.{IsTightInline, EachInline, EachInlineAt}
+use Rattle.fb_build.specs.CoveredTails.{TightInTail, InlineInTail}
+use Rattle.fb_tape.specs.InlineBytes.{IsTightInline, EachInline}
 use Rattle.fb_build.proofs.covered.TightStructStaysTightFurtherOn.{inline_front_shown}
 use Rattle.fb_build.proofs.covered.TightTableStaysTightFurtherOn.{tight_front_shown}
 use Rattle.fb_build.proofs.tail.WhatIsLaidStaysLaid.{laid_grown}
@@ -61,14 +59,11 @@ reference_end L m X e d s rest is long short whole most h =
     record {
       lies = record {
         within = omega arith;
-        lies = rw first (keeps, subst (λ (q : ℕ). LiesBy (from_end s m) L s (part_place X) q d) place now.lies);
+        lies = rw first (keeps, rw place at now.lies);
       };
-      old = subst (λ (q : ℕ). EachTableAt L s (λ t p. IsOldTable L s t p) (ref_place X) q d) (sym first)
-          (subst (λ (q : ℕ). EachTable L s (λ t p. IsOldTable L s t p) (part_place X) q d) place old);
-      tight = subst (λ (q : ℕ). EachTableAt L s (λ t p. IsTightInTail L s t p) (ref_place X) q d) (sym first)
-          (subst (λ (q : ℕ). EachTable L s (λ t p. IsTightInTail L s t p) (part_place X) q d) place tight);
-      inline = subst (λ (q : ℕ). EachInlineAt L s (IsTightInline L s) (ref_place X) q d) (sym first)
-          (subst (λ (q : ℕ). EachInline L s (IsTightInline L s) X q d) place inline);
+      old = rw first (rw place at old);
+      tight = rw first (rw place at tight);
+      inline = rw first (subst (λ (q : ℕ). EachInline L s (IsTightInline L s) X q d) place inline);
     }
 
 -- what isn't stored is a default
@@ -155,7 +150,7 @@ pub now_laid : (L : LaidSchema) (low : ℕ) (m : ℕ) (s : Bytes) (a : ℕ) (f :
 now_laid L low m s a f x e at is lies =
     let yes : nat_le a (inline_align L f.shape) ≡ true = rw at (le-leb _ _ (omega arith)) in
     record {
-      stored = λ _. subst (λ (t : Bool). StoredEnd L low m s t f x e) (sym yes) lies;
+      stored = λ _. rw yes lies;
       absent = λ out. absurd (no_both (is_stored f x) is out);
     }
   where
@@ -218,7 +213,6 @@ pub entries_retested : (L : LaidSchema) (low m : ℕ) (s : Bytes)
     → t k f ≡ u k f)
     → EntriesEnd L low m s t fs xs ends → EntriesEnd L low m s u fs xs ends
 entries_retested L low m s t u fs xs ends same h k f x fk xk = record {
-  stored = λ is. subst (λ (b : Bool). StoredEnd L low m s b f x (slice_index ends k)) (same k f x fk xk is)
-      ((h k f x fk xk).stored is);
+  stored = λ is. rw (← (same k f x fk xk is)) ((h k f x fk xk).stored is);
   absent = (h k f x fk xk).absent;
 }

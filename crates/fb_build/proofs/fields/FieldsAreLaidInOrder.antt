@@ -1,6 +1,6 @@
 -- One field after the other is laid, each where the definition has it.
 use Rattle.std.proofs.Common.{◌≡◌, ℕ, ◌+◌, ◌<◌, ◌≤◌, inl, inr, ◌&&◌, Bool, true, false, List, length, slice_get}
-use Rattle.std.proofs.Common.{slice_index, slice_set, Option, Some, refl, sym, ◌∙◌, subst, arith, rules}
+use Rattle.std.proofs.Common.{slice_index, slice_set, Option, Some, refl, ◌∙◌, arith, rules}
 use Rattle.fb_layout.specs.Laid.{LaidSchema, Slot}
 use Rattle.fb_layout.specs.Sizes.{IsAlignment}
 use Rattle.fb_layout.specs.Widths.{inline_size, inline_align}
@@ -70,8 +70,7 @@ none_laid_before L o n start align fs xs ends first known next g each begin powe
         (λ k f x fk xk is. refl);
     counted = λ k f x fk xk yes. absurd (no_both (is_stored f x && false) yes (both_false (is_stored f x)));
   };
-  leads = λ k f x fk xk. subst (λ (t : Bool). FieldLeads n.bytes t f x (slice_index ends k) (slice_index ends k))
-      (sym (both_false (is_stored f x))) refl;
+  leads = λ k f x fk xk. rw (both_false (is_stored f x)) refl;
   size = omega (arith, begin, size_none L 0 fs xs);
   whole = λ k f x fk xk is out.
       let own = align_least L k fs xs f x fk xk is in
@@ -94,8 +93,7 @@ next_target L o start k link fs xs targets ends f x h fk xk n =
   where
     any_low : (y : Option Datum) → StoredEnd L start o.most o.bytes (before L (inline_align L f.shape) k k f) f y
         (slice_index ends k) → StoredEnd L 0 o.most o.bytes false f y (slice_index ends k)
-    any_low y own = low_any y (subst (λ (t : Bool). StoredEnd L start o.most o.bytes t f y (slice_index ends k))
-        (waits L k f) own)
+    any_low y own = low_any y (rw (← (waits L k f)) own)
       where
         low_any : (y : Option Datum) → StoredEnd L start o.most o.bytes false f y (slice_index ends k)
             → StoredEnd L 0 o.most o.bytes false f y (slice_index ends k)
@@ -134,11 +132,10 @@ leads_on L o n k e fs xs targets ends laid f x g under fk xk named now h =
     waits_still = rw (still_waits L laid fs xs k f x fk xk named) (both_false (is_stored f x))
 
     target : slice_index ends k ≡ slice_index targets k
-    target = subst (λ (t : Bool). FieldLeads o.bytes t f x (slice_index targets k) (slice_index ends k)) waits_still
-        (h k f x fk xk)
+    target = rw waits_still at (h k f x fk xk)
 
     here : FieldLeads n.bytes true f x (slice_index targets k) e
-    here = subst (λ (i : ℕ). FieldLeads n.bytes true f x i e) target now
+    here = rw (← target) now
 
 -- the state, once it is laid
 pub next_laid_before : (L : LaidSchema) (o n : TailSeen) (start k e link : ℕ) (fs : List Slot)
@@ -231,5 +228,4 @@ leads_laid L o start link fs xs targets ends h none k f x fk xk = by_stored (is_
     by_stored true is =
         let passes : (is_stored f x && h.laid k f) ≡ true =
         rw (all_laid L o start link fs xs targets ends h none k f x fk xk is) (both_true (is_stored f x) ∙ is) in
-        subst (λ (t : Bool). FieldLeads o.bytes t f x (slice_index targets k) (slice_index ends k)) passes
-        (h.leads k f x fk xk)
+        rw (← passes) (h.leads k f x fk xk)

@@ -1,6 +1,6 @@
 -- What references name is inside of what is laid.
 use Rattle.std.proofs.Common.{◌≡◌, ℕ, ◌≤◌, true, length, Option, None}
-use Rattle.std.proofs.Common.{Some, refl, subst}
+use Rattle.std.proofs.Common.{Some, refl}
 use Rattle.fb_layout.specs.Laid.{LaidSchema, table_kind, union_kind}
 use Rattle.fb_layout.specs.Laid.{text_kind, StoredShape, one_of, vector_of}
 use Rattle.fb_value.specs.Datum.{Datum}
@@ -30,4 +30,4 @@ pub target_inside : (L : LaidSchema) (m : ℕ) (s : Bytes) (shape : StoredShape)
     → is_reference shape ≡ true → SlotFits L shape d → TargetEnd L m s (target_for shape d) e d → e ≤ length s
 target_inside L m s shape d e is fits h =
     let known = reference_there L shape d is fits in
-    (subst (λ (X : Option Target). TargetEnd L m s X e d) known.named h).lies.within
+    (rw known.named at h).lies.within

@@ -1,7 +1,7 @@
 -- What each slot of a table stores, and its end-count once its field is laid.
 use Rattle.std.proofs.Common.{◌≡◌, ℕ, zero, suc, ◌+◌, ◌<◌, ◌≤◌, ◌⊎◌, inl, inr, Bool, true, false, cond, nat_lt, List}
 use Rattle.std.proofs.Common.{[], ◌∷◌, length, map, get_or, slice_get, slice_index, slice_set, Option, Some}
-use Rattle.std.proofs.Common.{option_map, refl, ap, sym, ◌∙◌, subst, arith}
+use Rattle.std.proofs.Common.{option_map, refl, ap, sym, ◌∙◌, arith}
 use Rattle.std.proofs.lemmas.List.{get_or-set_same, get_or-set_other}
 use Rattle.std.proofs.lemmas.Bool.{lt-ltb, ltb-true, ltb-false}
 use Rattle.fb_schema.specs.declared.types.FieldInfo.{FieldInfo}
@@ -59,7 +59,7 @@ pub whole_step : (L : LaidSchema) (a long longer free new : ℕ) (f : Slot) → 
     → divides a long ≡ true → divides a longer ≡ true
 whole_step L a long longer free new f simple at e now h =
     let own : divides a (inline_size L f.shape) ≡ true =
-    subst (λ (b : ℕ). divides b (inline_size L f.shape) ≡ true) at (simple_multiple L f.shape simple) in
+    rw (← at) (simple_multiple L f.shape simple) in
     sum_divides a long (inline_size L f.shape) longer h own (omega (arith, e, now))
 
 pub same_some : {A : Type 0} (o : Option A) (x y : A) → o ≡ Some x → o ≡ Some y → x ≡ y

@@ -58,5 +58,5 @@ module _ (L : LaidSchema) (low m : ℕ) (s : Bytes) (c : ℕ) (within : c ≤ le
         let back : suc led.0 - 1 ≡ led.0 = omega arith in
         subst (λ (i : ℕ). slice_get fs i ≡ Some g → slice_get xs i ≡ Some y.0
         → is_present s (p L low m s c within) i ≡ true → code_at s (p L low m s c within) (i - 1) ≢ 0) (sym led.2)
-        (λ a b h. subst (λ (i : ℕ). code_at s (p L low m s c within) i ≢ 0) (sym back)
-        (at_pair led.0 led.1 g x.0 y.0 u led.4 is led.3 a x.1 b (fits led.0 led.1 x.0 led.3 x.1) h)) gk y.1 there
+        (λ a b h. rw back (at_pair led.0 led.1 g x.0 y.0 u led.4 is led.3 a x.1 b (fits led.0 led.1 x.0 led.3 x.1) h))
+        gk y.1 there

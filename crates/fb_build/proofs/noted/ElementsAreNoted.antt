@@ -26,7 +26,7 @@ each_fits L kind (w ∷ items) h (suc i) low v is = each_fits L kind items h.1 i
 pub seen_more : (items : List Value) (i : ℕ) (v : Value) → i < length items → v ≡ get_or items i v
     → map view (take (i + 1) items) ≡ map view (take i items) ++ (view v ∷ [])
 seen_more [] i v low is = absurd (omega (arith, low))
-seen_more (w ∷ items) zero v low is = subst (λ (u : Value). view w ∷ [] ≡ view u ∷ []) (sym is) refl
+seen_more (w ∷ items) zero v low is = rw is refl
 seen_more (w ∷ items) (suc i) v low is =
     let one : suc i + 1 ≡ suc (i + 1) = omega arith in
     rw one (ap (λ ds. view w ∷ ds) (seen_more items i v (omega (arith, low)) is))

@@ -1,7 +1,7 @@
 -- What a vector's elements and a table's slots name, and which room it takes.
 use Rattle.std.proofs.Common.{◌≡◌, ◌<◌, ◌++◌, ◌∙◌, ℕ, zero, suc, true, false, List, [], ◌∷◌, Option, None, Some, length}
 use Rattle.std.proofs.Common.{get_or}
-use Rattle.std.proofs.Common.{refl, sym, ap, subst, arith}
+use Rattle.std.proofs.Common.{refl, ap, arith}
 use Rattle.std.proofs.lemmas.Bool.{and_parts}
 use Rattle.std.proofs.lemmas.List.Elements.{filter_map-append}
 use Rattle.std.specs.List.{cons_option}
@@ -44,7 +44,7 @@ element_simple L _ h = absurd h
 pub each_whole : (items : List Value) → parts_whole (parts_view items) ≡ true → (i : ℕ) → i < length items → (v : Value)
     → v ≡ get_or items i v → is_whole (view v) ≡ true
 each_whole [] h i low v is = absurd (omega (arith, low))
-each_whole (w ∷ items) h zero low v is = subst (λ (u : Value). is_whole (view u) ≡ true) (sym is) (and_parts _ _ h).0
+each_whole (w ∷ items) h zero low v is = rw is (and_parts _ _ h).0
 each_whole (w ∷ items) h (suc i) low v is = each_whole items (and_parts _ _ h).1 i (omega (arith, low)) v is
 
 pub named_more : (kind : StoredKind) (ds : List Datum) (d : Datum)

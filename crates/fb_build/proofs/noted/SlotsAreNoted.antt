@@ -1,7 +1,7 @@
 -- The slots of a table are noted one after the other.
 use Rattle.std.proofs.Common.{◌≡◌, ◌+◌, ◌-◌, ◌≤◌, ◌++◌, ◌∙◌, ℕ, zero, suc, Bool, true, false, List, [], ◌∷◌, length}
 use Rattle.std.proofs.Common.{pos}
-use Rattle.std.proofs.Common.{slice_get, take, Option, None, Some, refl, sym, ap, subst, arith}
+use Rattle.std.proofs.Common.{slice_get, take, Option, None, Some, refl, sym, ap, arith}
 use Rattle.std.proofs.lemmas.List.{append_assoc, append-nil, take_all}
 use Rattle.fb_schema.specs.declared.kinds.Base.TheVariants.{U8}
 use Rattle.fb_layout.specs.Laid.{LaidSchema, Slot, StoredShape, one_of, vector_of, scalar_kind, struct_kind, table_kind}
@@ -55,8 +55,7 @@ room_more L (g ∷ fs) [] f x at =
     ≡ entries_room L (g ∷ fs) (entries_in []) + entry_room L g x =
     omega (arith, no_room L fs, no_room L (g ∷ fs)) in
     room_first L g x fs []
-    ∙ subst (λ (h : Slot). entry_room L g x + entries_room L fs (entries_in [])
-    ≡ entries_room L (g ∷ fs) (entries_in []) + entry_room L h x) same rest
+    ∙ rw (← same) rest
 room_more L (g ∷ fs) (y ∷ xs) f x at =
     let rest = room_more L fs xs f x at in
     omega (arith, rest, room_first L g y fs xs, room_first L g y fs (xs ++ (x ∷ [])))
@@ -225,11 +224,10 @@ member_open : (L : LaidSchema) (fs : List Slot) (ys : List (Option Datum)) (y : 
 member_open L fs ys y g f n u v c d opens own code long gk fk coded value stored own_is inline are =
     let before : n - 1 ≡ 0 + length ys = omega (arith, long) in
     let last : suc (0 + length ys) ≡ n = omega (arith, long) in
-    let behind = subst (λ (i : ℕ). slice_get fs i ≡ Some f) long fk in
-    let field = subst (λ (i : ℕ). IsInlineField L i (scalar_kind U8) (a_number (pos c)) code) before inline in
+    let behind = rw long at fk in
+    let field = rw before at inline in
     let more = member_more L 0 fs ys y g f u v c d opens code gk behind coded value stored field are in
-    rw own_is (subst (λ (i : ℕ). AreOpen L 0 fs (stored_in fs ((ys ++ (y ∷ [])) ++ (Some (a_member c d) ∷ [])))
-    (opens ++ (code ∷ reference_field i ∷ []))) last more)
+    rw own_is (rw (← last) more)
 
 module _ (L : LaidSchema) (fs : List Slot) (xs : List (Option Datum)) (f : Slot) (opens own : List OpenField)
     (at : slice_get fs (length xs) ≡ Some f) (are : AreOpen L 0 fs (stored_in fs xs) opens) where
@@ -263,10 +261,9 @@ module _ (L : LaidSchema) (fs : List Slot) (xs : List (Option Datum)) (f : Slot)
       let last = last_of xs led.0 led.2 in
       let stored = code_kept L led.1 union.0 c last.1 led.4 (fits led.0 led.1 last.1 led.3 last.4) in
       let long : length xs ≡ suc (length last.0) = omega (arith, led.2, last.3) in
-      let coded = subst (λ (i : ℕ). slice_get fs i ≡ Some led.1) (sym last.3) led.3 in
-      let so_far = subst (λ (zs : List (Option Datum)). AreOpen L 0 fs (stored_in fs zs) opens) last.2 are in
-      subst (λ (zs : List (Option Datum)). AreOpen L 0 fs (stored_in fs (zs ++ (Some (a_member c d) ∷ [])))
-      (opens ++ own)) (sym last.2) (member_open L fs last.0 last.1 led.1 f (length xs) union.0 union.0 c d opens own h.0
+      let coded = rw (← last.3) at led.3 in
+      let so_far = rw last.2 at are in
+      rw last.2 (member_open L fs last.0 last.1 led.1 f (length xs) union.0 union.0 c d opens own h.0
       long coded at led.4 union.1 stored h.1 h.2 so_far)
 
 -- ---- the first entries of a table

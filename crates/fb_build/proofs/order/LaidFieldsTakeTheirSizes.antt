@@ -1,6 +1,6 @@
 -- What the fields take that pass a test: before a slot, those of greater alignments and those of its own before it.
 use Rattle.std.proofs.Common.{◌≡◌, ℕ, zero, suc, ◌+◌, ◌≤◌, ◌==◌, ◌&&◌, Bool, true, false, if◌then◌else◌, nat_lt}
-use Rattle.std.proofs.Common.{nat_le, List, [], ◌∷◌, take, slice_get, Option, Some, refl, ap, subst, arith}
+use Rattle.std.proofs.Common.{nat_le, List, [], ◌∷◌, take, slice_get, Option, Some, refl, ap, arith}
 use Rattle.std.proofs.lemmas.Bool.{lt-ltb}
 use Rattle.std.proofs.lemmas.Bool.Decides.{nat_tests}
 use Rattle.fb_layout.specs.Laid.{LaidSchema, Slot}
@@ -28,16 +28,16 @@ same_from L t u k (f ∷ fs) [] same = refl
 same_from L t u k (f ∷ fs) (x ∷ xs) same =
     let here : k + 0 ≡ k = omega arith in
     let own = one_same (is_stored f x) (t k f) (u k f) (inline_size L f.shape)
-    (λ is. subst (λ (j : ℕ). t j f ≡ u j f) here (same 0 f x refl refl is)) in
+    (λ is. rw (← here) (same 0 f x refl refl is)) in
     let rest = same_from L t u (suc k) fs xs
     (λ i g y gi yi is. let e : k + suc i ≡ suc k + i = omega arith in
-    subst (λ (j : ℕ). t j g ≡ u j g) e (same (suc i) g y gi yi is)) in
+    rw (← e) (same (suc i) g y gi yi is)) in
     omega (arith, own, rest)
 
 pub size_retested : (L : LaidSchema) (t u : ℕ → Slot → Bool) (fs : List Slot) (xs : List (Option Datum))
     → SameOfStored t u fs xs → size_from L t 0 fs xs ≡ size_from L u 0 fs xs
 size_retested L t u fs xs same = same_from L t u 0 fs xs
-    (λ i f x fi xi is. let e : i ≡ 0 + i = omega arith in subst (λ (j : ℕ). t j f ≡ u j f) e (same i f x fi xi is))
+    (λ i f x fi xi is. let e : i ≡ 0 + i = omega arith in rw (← e) (same i f x fi xi is))
 
 one_all : (s : Bool) (z : ℕ) → (if s && true then z else 0) ≡ (if s then z else 0)
 one_all true z = refl
@@ -121,13 +121,11 @@ size_up_to L a k (suc n) (f ∷ fs) (x ∷ xs) =
     let e : suc k + n ≡ k + suc n = omega arith in
     let rest : size_from L (before L a (k + suc n)) (suc k) fs xs
     ≡ size_above L a fs xs + size_at L a (take n fs) (take n xs) =
-    subst (λ (m : ℕ). size_from L (before L a m) (suc k) fs xs
-    ≡ size_above L a fs xs + size_at L a (take n fs) (take n xs)) e (size_up_to L a (suc k) n fs xs) in
+    rw (← e) (size_up_to L a (suc k) n fs xs) in
     omega (arith, own, rest)
 
 pub size_before : (L : LaidSchema) (a k : ℕ) (fs : List Slot) (xs : List (Option Datum))
     → size_from L (before L a k) 0 fs xs ≡ size_above L a fs xs + size_at L a (take k fs) (take k xs)
 size_before L a k fs xs =
     let e : 0 + k ≡ k = omega arith in
-    subst (λ (m : ℕ). size_from L (before L a m) 0 fs xs
-    ≡ size_above L a fs xs + size_at L a (take k fs) (take k xs)) e (size_up_to L a 0 k fs xs)
+    rw e at (size_up_to L a 0 k fs xs)

@@ -1,6 +1,6 @@
 -- The slot that a link names is stored, and all that is laid stands before it.
 use Rattle.std.proofs.Common.{◌≡◌, ℕ, zero, suc, ◌+◌, ◌≤◌, inl, inr, Bool, true, false, cond, nat_lt, nat_le, List}
-use Rattle.std.proofs.Common.{slice_get, Option, Some, refl, sym, ap, ◌∙◌, subst, take, arith, [], ◌∷◌}
+use Rattle.std.proofs.Common.{slice_get, Option, Some, refl, sym, ap, ◌∙◌, take, arith, [], ◌∷◌}
 use Rattle.std.proofs.Common.{if◌then◌else◌}
 use Rattle.std.proofs.lemmas.Bool.Decides.{nat_tests}
 use Rattle.fb_layout.specs.Laid.{LaidSchema, Slot}
@@ -25,16 +25,15 @@ pub named : (L : LaidSchema) (laid : ℕ → Slot → Bool) (fs : List Slot) (xs
 named L laid fs xs link k f x (inl none) e fk xk = absurd (omega (arith, none.0, e))
 named L laid fs xs link k f x (inr next) e fk xk =
     let at : next.slot ≡ k = omega (arith, next.is, e) in
-    let field = subst (λ (j : ℕ). slice_get fs j ≡ Some next.there.field) at next.there.is in
-    let entry = subst (λ (j : ℕ). slice_get xs j ≡ Some next.there.entry) at next.there.has in
+    let field = rw at at next.there.is in
+    let entry = rw at at next.there.has in
     let f_is : next.there.field ≡ f = same_some (slice_get fs k) next.there.field f field fk in
     let x_is : next.there.entry ≡ x = same_some (slice_get xs k) next.there.entry x entry xk in
     let align : next.align ≡ inline_align L f.shape =
     sym next.there.at ∙ ap (λ (g : Slot). inline_align L g.shape) f_is in
     record {
       stored = rw (f_is, x_is) at next.there.stored;
-      behind = subst (λ (b : ℕ). SameOfStored laid (before L b k) fs xs) align
-          (subst (λ (j : ℕ). SameOfStored laid (before L next.align j) fs xs) at next.behind);
+      behind = rw (← align) (rw (← at) next.behind);
     }
 
 not_itself : (k : ℕ) → nat_lt k k ≡ false
@@ -74,7 +73,7 @@ size_of_next L laid fs xs k f x fk xk n =
     let own = own_end L a k fs xs f x fk xk n.stored refl in
     let one : suc k ≡ k + 1 = omega arith in
     let whole : stored_end L fs xs k f ≡ size_above L a fs xs + size_at L a (take (k + 1) fs) (take (k + 1) xs) =
-    subst (λ (j : ℕ). stored_end L fs xs k f ≡ size_above L a fs xs + size_at L a (take j fs) (take j xs)) one refl in
+    rw (← one) refl in
     omega (arith, end, whole, size_before L a (k + 1) fs xs)
 
 -- it has room among all fields

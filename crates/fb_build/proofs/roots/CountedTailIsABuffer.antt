@@ -1,7 +1,7 @@
 -- A buffer with the count of its bytes laid in front is a size-prefixed buffer.
 use Rattle.std.proofs.Common.{◌≡◌, ℕ, ◌+◌, ◌-◌, ◌<◌, ◌≤◌, ◌++◌, Bool, true, List, Option, None, Some, length, take}
 use Rattle.std.proofs.Common.{drop}
-use Rattle.std.proofs.Common.{refl, ap, sym, ◌∙◌, subst, arith, length-append}
+use Rattle.std.proofs.Common.{refl, ap, ◌∙◌, subst, arith, length-append}
 use Rattle.std.proofs.lemmas.Bool.{le-leb}
 use Rattle.std.proofs.lemmas.Slice.Eq.{bytes_eq-Decides}
 use Rattle.std.proofs.Math.Seq.{drop-append-add, drop-append_seam}
@@ -15,7 +15,6 @@ use Rattle.fb_value.specs.Places.{ref_place, table_part}
 use Rattle.fb_value.specs.Rules.{first_failing}
 use Rattle.fb_value.specs.Lies.{LiesAt}
 use Rattle.fb_value.specs.Holds.{HoldsFramed, prefixed_fault, checked_identifier}
-use Rattle.fb_value.specs.EachTable.{EachTableAt, IsOldTable}
 use Rattle.fb_value.specs.OldSlots.{OnlyOldBehind}
 use Rattle.fb_value.proofs.reached.EachTableIsReached.{only_old_shown}
 use Rattle.fb_value.proofs.tails.TailsAreKeptInFront.{front_shown, old_shown, whole_shown}
@@ -48,8 +47,7 @@ module _ (s b : Bytes) (h : IsCounted s b) where
   identified_on : (id : Bytes) → IsIdentified s id → take 4 (drop 8 b) ≡ id
   identified_on id own =
       let on : drop 8 b ≡ drop 4 s = ap (λ x. drop 8 x) h.bytes
-      ∙ subst (λ (n : ℕ). drop (n + 4) (little_bytes 4 (length s) ++ s) ≡ drop 4 s) (four_long (length s))
-      (drop-append-add (little_bytes 4 (length s)) s 4) in
+      ∙ rw (← (four_long (length s))) (drop-append-add (little_bytes 4 (length s)) s 4) in
       ap (take 4) on ∙ own.1
 
   counted_header : (o : Option Bytes) → ((id : Bytes) → o ≡ Some id → IsIdentified s id) → prefixed_fault b o ≡ None
@@ -87,17 +85,15 @@ module _ (L : LaidSchema) (m : ℕ) (s b : Bytes) (v : Datum) (h : IsCounted s b
       let front = little_bytes 4 (length s) in
       let all : divides m (length (front ++ s)) ≡ true = subst (λ (n : ℕ). divides m n ≡ true)
       (omega (arith, counted_long s b h, ap length h.bytes)) whole in
-      subst (λ (z : Bytes). LiesAt L z X 4 v) (sym h.bytes) (subst (λ (p : ℕ). LiesAt L (front ++ s) X p v) behind
-      (whole_shown L m (front ++ s) X (length s) v all (front_shown L m front s X (length s) v laid.lies)))
+      rw h.bytes (rw behind at (whole_shown L m (front ++ s) X (length s) v all
+      (front_shown L m front s X (length s) v laid.lies)))
 
   pub counted_old : OnlyOldBehind 4 L b
   counted_old =
       let X = ref_place (table_part L.schema.root) in
       let front = little_bytes 4 (length s) in
       let old = old_shown L m front s X (length s) v laid.lies laid.old in
-      only_old_shown L b 4 v counted_lies (subst (λ (z : Bytes). EachTableAt L z (λ t q. IsOldTable L z t q) X 4 v)
-      (sym h.bytes)
-      (subst (λ (p : ℕ). EachTableAt L (front ++ s) (λ t q. IsOldTable L (front ++ s) t q) X p v) behind old))
+      only_old_shown L b 4 v counted_lies (rw h.bytes (rw behind at old))
 
   pub counted_holds : (most : Bounds) (raw : Bool)
       → ((id : Bytes) → L.schema.identifier ≡ Some id → IsIdentified s id) → depth v ≤ most.depth

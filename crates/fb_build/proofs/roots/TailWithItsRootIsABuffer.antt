@@ -1,6 +1,6 @@
 -- A tail whose root's reference was laid last is a buffer.
 use Rattle.std.proofs.Common.{◌≡◌, ℕ, ◌-◌, ◌≤◌, ◌++◌, Bool, true, false, List, Option, None, Some, if◌then◌else◌}
-use Rattle.std.proofs.Common.{length, take, drop, refl, ap, ◌∙◌, subst, arith, length-append}
+use Rattle.std.proofs.Common.{length, take, drop, refl, ap, ◌∙◌, arith, length-append}
 use Rattle.std.proofs.lemmas.Bool.{le-leb}
 use Rattle.std.proofs.lemmas.Slice.Eq.{bytes_eq-Decides}
 use Rattle.std.proofs.Math.Seq.{take-append_seam, drop-append_seam}
@@ -14,7 +14,6 @@ use Rattle.fb_value.specs.Rules.{first_failing}
 use Rattle.fb_value.specs.Lies.{LiesAt}
 use Rattle.fb_value.specs.Holds.{Holds, header_fault, checked_identifier}
 use Rattle.fb_value.specs.Tails.{LiesInTail}
-use Rattle.fb_value.specs.EachTable.{EachTableAt, IsOldTable}
 use Rattle.fb_value.specs.OldSlots.{OnlyOld}
 use Rattle.fb_value.proofs.reached.EachTableIsReached.{only_old_shown}
 use Rattle.fb_value.proofs.tails.TailsAreKeptInFront.{whole_shown}
@@ -32,10 +31,9 @@ identified_behind front s id b e four long begins =
     let inner = length-append id begins.0 in
     let all = ap length whole in
     let behind : drop 4 (front ++ (id ++ begins.0)) ≡ id ++ begins.0 =
-    subst (λ (n : ℕ). drop n (front ++ (id ++ begins.0)) ≡ id ++ begins.0) four
-    (drop-append_seam front (id ++ begins.0)) in
+    rw (← four) (drop-append_seam front (id ++ begins.0)) in
     let first : take 4 (id ++ begins.0) ≡ id =
-    subst (λ (n : ℕ). take n (id ++ begins.0) ≡ id) long (take-append_seam id begins.0) in
+    rw (← long) (take-append_seam id begins.0) in
     (omega (arith, parts, inner, all, four, long), ap (λ x. take 4 (drop 4 x)) whole ∙ ap (take 4) behind ∙ first)
 
 header_holds : (b : Bytes) (o : Option (List ℕ)) → 4 ≤ length b → length b ≤ 2147483647
@@ -62,8 +60,7 @@ pub root_laid : (L : LaidSchema) (a b c : TailSeen) (t e : ℕ) (d : Datum) → 
     → LaidInTail L c.most c.bytes (ref_place X) (length c.bytes) d)
     → LaidInTail L c.most c.bytes (ref_place (table_part L.schema.root)) (length c.bytes) d
 root_laid L a b c t e d root g laid last =
-    subst (λ (n : ℕ). LaidInTail L c.most c.bytes (ref_place (table_part n)) (length c.bytes) d) root
-    (last (table_part t) (laid_grown L a b (part_place (table_part t)) e d g laid))
+    rw root at (last (table_part t) (laid_grown L a b (part_place (table_part t)) e d g laid))
 
 -- a value that lies in front of nothing lies in the whole
 pub whole_lies : (L : LaidSchema) (m : ℕ) (b : Bytes) (v : Datum) → divides m (length b) ≡ true
@@ -71,8 +68,7 @@ pub whole_lies : (L : LaidSchema) (m : ℕ) (b : Bytes) (v : Datum) → divides 
     → LiesAt L b (ref_place (table_part L.schema.root)) 0 v
 whole_lies L m b v whole lies =
     let front : length b - length b ≡ 0 = omega arith in
-    subst (λ (p : ℕ). LiesAt L b (ref_place (table_part L.schema.root)) p v) front
-    (whole_shown L m b (ref_place (table_part L.schema.root)) (length b) v whole lies)
+    rw (← front) (whole_shown L m b (ref_place (table_part L.schema.root)) (length b) v whole lies)
 
 pub whole_holds : (L : LaidSchema) (m : ℕ) (b : Bytes) (v : Datum) (most : Bounds) (raw : Bool)
     → ((id : Bytes) → L.schema.identifier ≡ Some id → IsIdentified b id) → 4 ≤ length b → length b ≤ 2147483647
@@ -91,8 +87,7 @@ pub whole_old : (L : LaidSchema) (m : ℕ) (b : Bytes) (v : Datum) → divides m
 whole_old L m b v whole laid =
     let front : length b - length b ≡ 0 = omega arith in
     only_old_shown L b 0 v (whole_lies L m b v whole laid.lies)
-    (subst (λ (p : ℕ). EachTableAt L b (λ t q. IsOldTable L b t q) (ref_place (table_part L.schema.root)) p v) front
-    laid.old)
+    (rw front at laid.old)
 
 -- an identifier has four bytes at most
 pub identifier_short : (o : Option (List ℕ)) → ((id : List ℕ) → o ≡ Some id → length id ≡ 4)

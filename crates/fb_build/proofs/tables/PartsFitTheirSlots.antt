@@ -38,10 +38,10 @@ entry_fits L [] (Some v ∷ es) h k f x a b = absurd h
 entry_fits L (g ∷ fs) [] h k f x a b = absurd h
 entry_fits L (g ∷ fs) (None ∷ es) h zero f x a b =
     let f_is : g ≡ f = cc in let x_is : None ≡ x = cc in
-    subst (λ (y : Option Datum). EntryFits L f y) x_is (rw (← f_is) h.0)
+    rw (← x_is) (rw (← f_is) h.0)
 entry_fits L (g ∷ fs) (Some v ∷ es) h zero f x a b =
     let f_is : g ≡ f = cc in let x_is : Some (view v) ≡ x = cc in
-    subst (λ (y : Option Datum). EntryFits L f y) x_is (rw (← f_is) (h.0, h.1))
+    rw (← x_is) (rw (← f_is) (h.0, h.1))
 entry_fits L (g ∷ fs) (None ∷ es) h (suc k) f x a b = entry_fits L fs es h.1 k f x a b
 entry_fits L (g ∷ fs) (Some v ∷ es) h (suc k) f x a b = entry_fits L fs es h.2 k f x a b
 
@@ -87,10 +87,7 @@ pub room_step : (L : LaidSchema) (k : ℕ) (slots : List FieldInfo) (es : List (
     + entries_room L (slots_seen L (drop (k + 1) slots)) (entries_view (drop (k + 1) es))
 room_step L k slots es r v low1 low2 is1 is2 =
     let one : suc k ≡ k + 1 = omega arith in
-    subst (λ (j : ℕ). entries_room L (slots_seen L (drop k slots)) (entries_view (drop k es))
-    ≡ entry_room L (slot_of L.schema (field_seen r)) (option_map view v)
-    + entries_room L (slots_seen L (drop j slots)) (entries_view (drop j es))) one
-    (room_next L k slots es r v low1 low2 is1 is2)
+    rw (← one) (room_next L k slots es r v low1 low2 is1 is2)
 
 -- ---- the elements of a vector
 
@@ -105,7 +102,7 @@ pub whole_at : (items : List Value) (k : ℕ) (d : Datum) → parts_whole (parts
     → slice_get (map view items) k ≡ Some d → is_whole d ≡ true
 whole_at [] k d h e = cc
 whole_at (v ∷ items) zero d h e = let same : view v ≡ d = cc in
-    subst (λ (y : Datum). is_whole y ≡ true) same (and_parts _ _ h).0
+    rw (← same) (and_parts _ _ h).0
 whole_at (v ∷ items) (suc k) d h e = whole_at items k d (and_parts _ _ h).1 e
 
 pub item_room : (L : LaidSchema) (kind : StoredKind) (items : List Value) (k : ℕ) (v : Value) → k < length items
@@ -114,9 +111,7 @@ pub item_room : (L : LaidSchema) (kind : StoredKind) (items : List Value) (k : �
     ≡ room L (one_of kind) (view v) + parts_room L kind (parts_view (drop (k + 1) items))
 item_room L kind items k v low is =
     let one : suc k ≡ k + 1 = omega arith in
-    subst (λ (j : ℕ). parts_room L kind (parts_view (drop k items))
-    ≡ room L (one_of kind) (view v) + parts_room L kind (parts_view (drop j items))) one
-    (ap (parts_room L kind) (parts_next items k v low is))
+    rw (← one) (ap (parts_room L kind) (parts_next items k v low is))
 
 pub slot_fits : (L : LaidSchema) (kind : StoredKind) (d : Datum) → IsElement L kind → Fits L (one_of kind) d
     → SlotFits L (one_of kind) d

@@ -94,11 +94,10 @@ module _ (L : LaidSchema) (low m : ℕ) (s : Bytes) (c : ℕ) (within : c ≤ le
       record {
         present = present;
         inside = omega (arith, at, state.0, state.1.lies.within);
-        lies = subst (λ (q : ℕ). LiesAtBy (from_end s m) L s (sort_for f.shape d) q d) at state.1.lies.lies;
-        old = subst (λ (q : ℕ). EachTableAt L s (λ t r. IsOldTable L s t r) (sort_for f.shape d) q d) at state.1.old;
-        tight = subst (λ (q : ℕ). EachTableAt L s (λ t r. IsTightInTail L s t r) (sort_for f.shape d) q
-            d) at state.1.tight;
-        inline = subst (λ (q : ℕ). EachInlineAt L s (IsTightInline L s) (sort_for f.shape d) q d) at state.1.inline;
+        lies = rw (← at) state.1.lies.lies;
+        old = rw (← at) state.1.old;
+        tight = rw (← at) state.1.tight;
+        inline = rw (← at) state.1.inline;
       }
 
   -- ---- a slot of its own
@@ -266,10 +265,10 @@ module _ (L : LaidSchema) (low m : ℕ) (s : Bytes) (c : ℕ) (within : c ≤ le
   entries_lie j (f ∷ fs) [] long known = absurd (omega (arith, long))
   entries_lie j (f ∷ fs) (x ∷ xs) long known =
       let first : j + 0 ≡ j = omega arith in
-      let here : SlotLies j f fs x = subst (λ (i : ℕ). SlotLies i f fs x) first (known 0 f x refl refl) in
+      let here : SlotLies j f fs x = rw (← first) (known 0 f x refl refl) in
       let on : (k : ℕ) → j + suc k ≡ suc j + k = λ k. omega arith in
       let rest = entries_lie (suc j) fs xs (omega (arith, long))
-      (λ k g y a b. subst (λ (i : ℕ). SlotLies i g (drop (suc k) fs) y) (on k) (known (suc k) g y a b)) in
+      (λ k g y a b. rw (← (on k)) (known (suc k) g y a b)) in
       with_entry x here.lies here.kept rest
     where
       with_entry : (x : Option Datum) → EntryLies (from_end s m) L s f (place_of j f fs) x → is_missing s p j f ≡ false
@@ -311,7 +310,7 @@ module _ (L : LaidSchema) (low m : ℕ) (s : Bytes) (c : ℕ) (within : c ≤ le
         let h : SlotKnown j f (coded (next_code (drop (suc j) xs))) (slice_index ends j) =
         subst (λ (z : StoredShape). SlotKnown j f (stored_here z (next_code (drop (suc j) xs)) x)
         (slice_index ends j)) is (known_here j f x fk xk) in
-        subst (λ (n : Option ℕ). SlotKnown j f (coded n) (slice_index ends j)) (next_is xs (suc j) y yk) h
+        rw (← (next_is xs (suc j) y yk)) h
 
     code_slot : (j : ℕ) (f g : Slot) (x y : Option Datum) (u : ℕ) → f.shape ≡ one_of (code_kind u)
         → g.shape ≡ one_of (union_kind u) → slice_get fs j ≡ Some f → slice_get fs (suc j) ≡ Some g
@@ -347,8 +346,7 @@ module _ (L : LaidSchema) (low m : ℕ) (s : Bytes) (c : ℕ) (within : c ≤ le
         own shape is o same =
             let o2 : IsOwn f.shape = rw is o in
             let there : SlotKnown k f (stored_here shape (next_code (drop (suc k) xs)) x) (slice_index ends k) =
-            subst (λ (z : StoredShape). SlotKnown k f (stored_here z (next_code (drop (suc k) xs)) x)
-            (slice_index ends k)) is (known_here k f x fk xk) in
+            rw (← is) (known_here k f x fk xk) in
             let h : SlotKnown k f x (slice_index ends k) = rw same at there in
             record {
               lies = entry_lies k f (drop (suc k) fs) x (slice_index ends k) o2 (fits k f x fk xk) h;
@@ -375,4 +373,4 @@ module _ (L : LaidSchema) (low m : ℕ) (s : Bytes) (c : ℕ) (within : c ≤ le
 
     pub all_lie : EntriesLie 0 fs xs
     all_lie = entries_lie 0 fs xs long (λ k f x a b. (let none : 0 + k ≡ k = omega arith in
-        subst (λ (i : ℕ). SlotLies i f (drop (suc k) fs) x) (sym none) (slot_lies k f x a b)))
+        rw none (slot_lies k f x a b)))

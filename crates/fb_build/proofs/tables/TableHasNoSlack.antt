@@ -25,7 +25,7 @@ use Rattle.fb_build.specs.Fields.{EntriesEnd, AreKnown, HasDefault}
 use Rattle.fb_build.specs.Pieces.{part_size, part_align}
 use Rattle.fb_build.specs.Filled.{IsLaidSlot, AreFilled}
 use Rattle.fb_tape.specs.InlineBytes.{IsTightInline, EachInlineAt}
-use Rattle.fb_build.specs.Stored.{IsBit, HoldsBit, CodesItsMembers, stored_of, is_in_field, absent_number}
+use Rattle.fb_build.specs.Stored.{HoldsBit, CodesItsMembers, stored_of, is_in_field, absent_number}
 use Rattle.fb_build.specs.Stored.{stored_number, EndsWithAField, PadsTableWithZeros}
 use Rattle.fb_build.specs.TableBytes.{offset_from}
 use Rattle.fb_build.specs.Tails.{TailSeen, Grows}
@@ -127,14 +127,13 @@ module _ (L : LaidSchema) (t low m c size u count : ℕ) (s : Bytes) (xs : List 
           let some = last k (omega (arith, is)) in
           let at : q + (num s q 2 - 2) ≡ q + (4 + 2 * k) = omega (arith, read.first, is) in
           let number = read.each k (omega (arith, is)) in
-          inr (subst (λ (i : ℕ). 0 < num s i 2) (sym at)
-          (omega (arith, number, number_at c (slice_index ends k) some, under k)))
+          inr (rw at (omega (arith, number, number_at c (slice_index ends k) some, under k)))
 
   -- what is known of a slot that is told
   there_at : (k : ℕ) (f : Slot) (x : Option Datum) → slice_get (slots_of L t) k ≡ Some f → slice_get xs k ≡ Some x
       → is_present s (length s - c) k ≡ is_stored f x
   there_at k f x fk xk = let none : 0 + k ≡ k = omega arith in
-      subst (λ (i : ℕ). is_present s (length s - c) i ≡ is_stored f x) none (tells k f x fk xk)
+      rw (← none) (tells k f x fk xk)
 
   some_end : (k : ℕ) (f : Slot) (x : Option Datum) → slice_get (slots_of L t) k ≡ Some f → slice_get xs k ≡ Some x
       → is_stored f x ≡ true → 0 < slice_index ends k
@@ -192,14 +191,13 @@ module _ (L : LaidSchema) (t low m c size u count : ℕ) (s : Bytes) (xs : List 
           let number = read.slots k ∙ number_at c (slice_index ends k) (some_end k f (Some d) fk xk is) in
           let at : length s - slice_index ends k ≡ (length s - c) + slot_number s (length s - c) k =
           omega (arith, number, under k, within) in
-          subst (λ (j : ℕ). LiesAtBy (from_end s m) L s (sort_for f.shape d) j d) at laid.1.lies.lies
+          rw (← at) laid.1.lies.lies
 
       by_number : (shape : StoredShape) → f.shape ≡ shape
           → ((n : ℤ) → absent_number f shape ≡ Some n
           → stored_number s ((length s - c) + slot_number s (length s - c) k) shape ≢ n)
           → IsNoDefault s (length s - c) f (slot_number s (length s - c) k)
-      by_number shape is h = subst (λ (sh : StoredShape). (n : ℤ) → absent_number f sh ≡ Some n
-          → stored_number s ((length s - c) + slot_number s (length s - c) k) sh ≢ n) (sym is) h
+      by_number shape is h = rw is h
 
       without : (shape : StoredShape) → f.shape ≡ shape → ((base : Base) → shape ≡ one_of (scalar_kind base) → ⊥)
           → (n : ℤ) → f.if_absent ≡ Some n → ⊥
@@ -209,14 +207,12 @@ module _ (L : LaidSchema) (t low m c size u count : ℕ) (s : Bytes) (xs : List 
           → IsNoDefault s (length s - c) f (slot_number s (length s - c) k)
       by_shape (one_of (scalar_kind base)) shape =
           by_number _ shape (λ n absent. scalar_kept L s f base d _ n (known.defaults k f n fk absent).free is
-          (subst (λ (sh : StoredShape). LiesAtBy (from_end s m) L s (sort_for sh d)
-          ((length s - c) + slot_number s (length s - c) k) d) shape lies).1 absent)
+          (rw shape at lies).1 absent)
       by_shape (one_of (code_kind w)) shape = by_number _ shape (λ n absent same. (
           let none : Some (pos 0) ≡ Some n = rw fits.0 at absent in
           let n_is : pos 0 ≡ n = cc in
-          code_kept L s w d _ (subst (λ (sh : StoredShape). SlotFits L sh d) shape fits.1)
-          (subst (λ (sh : StoredShape). LiesAtBy (from_end s m) L s (sort_for sh d)
-          ((length s - c) + slot_number s (length s - c) k) d) shape lies).1 (same ∙ sym n_is)))
+          code_kept L s w d _ (rw (← shape) fits.1)
+          (rw shape at lies).1 (same ∙ sym n_is)))
       by_shape (one_of (struct_kind w)) shape =
           by_number _ shape (λ n absent same. without _ shape (λ base e. cc) n absent)
       by_shape (one_of (table_kind w)) shape =
@@ -233,7 +229,7 @@ module _ (L : LaidSchema) (t low m c size u count : ℕ) (s : Bytes) (xs : List 
           → EachInlineAt L s (IsTightInline L s) (sort_for shape d) (length s - slice_index ends k) d
           → length s - slice_index ends k ≡ (length s - c) + slot_number s (length s - c) k
           → HoldsBit s ((length s - c) + slot_number s (length s - c) k) shape
-      by_shape (one_of (scalar_kind base)) d h at = subst (λ (q : ℕ). IsBit base (num s q 1)) at h
+      by_shape (one_of (scalar_kind base)) d h at = rw (← at) h
       by_shape (one_of (code_kind w)) d h at = tt
       by_shape (one_of (struct_kind w)) d h at = tt
       by_shape (one_of (table_kind w)) d h at = tt
@@ -310,18 +306,16 @@ module _ (L : LaidSchema) (t low m c size u count : ℕ) (s : Bytes) (xs : List 
       coded = coded;
       bits = all_bits s (length s - c) 0 (slots_of L t)
           (λ k f fk there. (let none : 0 + k ≡ k = omega arith in
-          subst (λ (i : ℕ). HoldsBit s ((length s - c) + slot_number s (length s - c) i) f.shape) (sym none)
-          (told_bit k f fk (subst (λ (i : ℕ). is_present s (length s - c) i ≡ true) none there))));
+          rw none (told_bit k f fk (rw (← none) there))));
       own = rw read.second (all_apart L s (length s - c) size 0 (slots_of L t)
           (λ k f fk. (let none : 0 + k ≡ k = omega arith in
           subst (StandsInside L s (length s - c) size f) (sym none) (stands_inside k f fk)))
           (λ j k f g low fj gk. (let none : (i : ℕ) → 0 + i ≡ i = λ i. omega arith in
-          subst (λ (i : ℕ). TheyStandApart L s (length s - c) f g i (0 + k)) (sym (none j))
-          (subst (TheyStandApart L s (length s - c) f g j) (sym (none k)) (they_stand_apart j k f g low fj gk)))));
+          rw (none j) (subst (TheyStandApart L s (length s - c) f g j) (sym (none k))
+          (they_stand_apart j k f g low fj gk)))));
       defaults = none_default s (length s - c) 0 (slots_of L t)
           (λ k f fk there. (let none : 0 + k ≡ k = omega arith in
-          subst (λ (i : ℕ). IsNoDefault s (length s - c) f (slot_number s (length s - c) i)) (sym none)
-          (told_number k f fk (subst (λ (i : ℕ). is_present s (length s - c) i ≡ true) none there))));
+          rw none (told_number k f fk (rw (← none) there))));
     };
     inside = read.inside;
   }

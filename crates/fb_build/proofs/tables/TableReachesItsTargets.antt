@@ -139,9 +139,7 @@ module _ (L : LaidSchema) (low m : ℕ) (s : Bytes) (c : ℕ) (within : c ≤ le
       let on : (k : ℕ) → j + suc k ≡ suc j + k = λ k. omega arith in
       let rest = all_reached (suc j) fs xs (drop 1 targets) (omega (arith, long))
       (λ k g y a b. rw (first_dropped targets k)
-      (subst (λ (i : ℕ). entry_reached L s (place_of L low m s c within i g (drop (suc k) fs)) y
-      ≡ parts_at L s (named_stored g (stored_here g.shape (next_code (drop (suc k) xs)) y))
-      (slice_index targets (suc k))) (on k) (each (suc k) g y a b))) in
+      (rw (← (on k)) (each (suc k) g y a b))) in
       with_entry x here rest
     where
       with_entry : (x : Option Datum) → entry_reached L s (place_of L low m s c within j f fs) x
@@ -183,11 +181,9 @@ module _ (L : LaidSchema) (low m : ℕ) (s : Bytes) (c : ℕ) (within : c ≤ le
             let stored : stored_here f.shape (next_code (drop (suc k) xs)) (Some d) ≡ Some d =
             ap (λ z. stored_here z (next_code (drop (suc k) xs)) (Some d)) is ∙ same in
             let h : SlotKnown L low m s c within k f (Some d) (slice_index ends k) =
-            subst (λ (y : Option Datum). SlotKnown L low m s c within k f y (slice_index ends k)) stored
-            (known k f _ fk (stored_get fs xs k f (Some d) fk xk)) in
+            rw (← stored) (known k f _ fk (stored_get fs xs k f (Some d) fk xk)) in
             let lead : FieldLeads s true f (Some d) (slice_index targets k) (slice_index ends k) =
-            subst (λ (y : Option Datum). FieldLeads s true f y (slice_index targets k) (slice_index ends k)) stored
-            (leads_here k f (Some d) fk xk) in
+            rw stored at (leads_here k f (Some d) fk xk) in
             own_reached k f (drop (suc k) fs) d (slice_index ends k) (slice_index targets k) o2
             (fits k f (Some d) fk xk) h lead ∙ ap (λ y. parts_at L s (named_stored f y) (slice_index targets k))
             (sym stored)
@@ -202,8 +198,7 @@ module _ (L : LaidSchema) (low m : ℕ) (s : Bytes) (c : ℕ) (within : c ≤ le
             let stored : stored_here f.shape (next_code (drop (suc k) xs)) (Some d) ≡ Some d =
             ap (λ z. stored_here z (next_code (drop (suc k) xs)) (Some d)) is in
             let lead : FieldLeads s true f (Some d) (slice_index targets k) (slice_index ends k) =
-            subst (λ (y : Option Datum). FieldLeads s true f y (slice_index targets k) (slice_index ends k)) stored
-            (leads_here k f (Some d) fk xk) in
+            rw stored at (leads_here k f (Some d) fk xk) in
             subst (λ (i : ℕ). slice_get fs i ≡ Some f → slice_get xs i ≡ Some (Some d)
             → FieldLeads s true f (Some d) (slice_index targets i) (slice_index ends i)
             → Reaches i f (Some d)) (sym led.2)

@@ -1,12 +1,12 @@
 -- The bytes of numbers and structs, once they are laid.
 use Rattle.std.proofs.Common.{◌≡◌, ℕ, suc, ◌+◌, ◌-◌, ◌*◌, ◌≤◌, ◌++◌, true, false, List, [], ◌∷◌, length, refl, ap}
-use Rattle.std.proofs.Common.{sym, ◌∙◌, subst}
+use Rattle.std.proofs.Common.{sym, ◌∙◌}
 use Rattle.std.proofs.Common.{arith, append_assoc, length-append}
 use Rattle.std.proofs.lemmas.Bool.{le-leb, and_from}
 use Rattle.fb_layout.specs.Laid.{LaidSchema, StoredKind, StoredShape, scalar_kind, struct_kind, table_kind}
 use Rattle.fb_layout.specs.Laid.{code_kind, text_kind, one_of, size_of, align_of}
 use Rattle.fb_layout.specs.Widths.{inline_align, inline_size}
-use Rattle.fb_value.specs.Datum.{Datum, more_parts}
+use Rattle.fb_value.specs.Datum.{Datum}
 use Rattle.fb_value.specs.Num.{Bytes, divides}
 use Rattle.fb_value.specs.Places.{inline_place}
 use Rattle.fb_value.specs.Rules.{fault_by, KeepsBy}
@@ -110,4 +110,4 @@ elements_end L kind (d ∷ ds) bytes p el inline is whole wide =
     let one = one_more L a b kind d (parts_in ds) el grows long lies rest in
     let same : is.own ++ (is.behind ++ p.bytes) ≡ bytes ++ p.bytes =
     sym (append_assoc is.own is.behind p.bytes) ∙ ap (λ x. x ++ p.bytes) (sym is.bytes_are) in
-    subst (λ (s : Bytes). ItemsEnd L p.most s kind (more_parts d (parts_in ds))) same one
+    rw (← same) one

@@ -1,7 +1,7 @@
 -- The fields that a tape notes of a table, one laid after the other.
 use Rattle.std.proofs.Common.{◌≡◌, ℕ, suc, ◌+◌, ◌-◌, ◌<◌, ◌≤◌, ◌++◌, Bool, true, false, ◌&&◌, List, [], ◌∷◌, length}
 use Rattle.std.proofs.Common.{take, drop}
-use Rattle.std.proofs.Common.{slice_get, slice_index, slice_set, Option, None, Some, refl, ap, sym, ◌∙◌, subst}
+use Rattle.std.proofs.Common.{slice_get, slice_index, slice_set, Option, None, Some, refl, ap, sym, ◌∙◌}
 use Rattle.std.proofs.Common.{arith, length-append}
 use Rattle.std.proofs.lemmas.Option.{slice_get_within}
 use Rattle.std.proofs.Common.{inl, inr, zero, length-drop}
@@ -22,7 +22,7 @@ use Rattle.fb_tape.specs.NotedFields.{AreNoted, IsNoted}
 use Rattle.fb_tape.specs.OpenList.{own_size}
 use Rattle.fb_tape.specs.declared.ops.NotedField.{NotedField}
 use Rattle.fb_tape.specs.declared.ops.NotedField.TheVariants.{Reference, Inline}
-use Rattle.fb_build.specs.FieldOrder.{before, LinksNext, SameOfStored}
+use Rattle.fb_build.specs.FieldOrder.{before, LinksNext}
 use Rattle.fb_build.specs.Fields.{AreKnown, TargetEnd, is_stored, is_reference, inline_kind}
 use Rattle.fb_build.specs.Fields.{target_for, sort_for, fields_size}
 use Rattle.fb_build.specs.Lengths.{zeros_to}
@@ -165,8 +165,7 @@ module _ (L : LaidSchema) (fs : List Slot) (xs : List (Option Datum)) (targets :
       → slice_get xs k ≡ Some (Some d) → IsNamed L upto.laid fs xs k f (Some d)
       → slice_index slot_ends k ≡ slice_index targets k
   still_target k f d slot_ends link upto fk xk n =
-      subst (λ (t : Bool). FieldLeads o.bytes t f (Some d) (slice_index targets k) (slice_index slot_ends k)) waits
-      (upto.leads k f (Some d) fk xk)
+      rw waits at (upto.leads k f (Some d) fk xk)
     where
       both_false : (b : Bool) → (b && false) ≡ false
       both_false true = refl
@@ -244,7 +243,7 @@ relinked L fs xs t u (k ∷ ks) links h =
     record {
       align = h.align;
       there = there;
-      behind = subst (λ (a : ℕ). SameOfStored t (before L a k) fs xs) there.at n.behind;
+      behind = rw (← there.at) n.behind;
       rest = h.rest;
     }
 

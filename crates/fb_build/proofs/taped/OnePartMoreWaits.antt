@@ -1,6 +1,6 @@
 -- A part that is laid waits in the place of those that it refers to.
 use Rattle.std.proofs.Common.{◌≡◌, ℕ, zero, suc, ◌-◌, ◌≤◌, ◌++◌, true, List, [], ◌∷◌, length, map}
-use Rattle.std.proofs.Common.{slice_get, slice_index, Some, refl, ap, sym, ◌∙◌, subst, arith, append_assoc, append-nil}
+use Rattle.std.proofs.Common.{slice_get, slice_index, Some, refl, ap, sym, ◌∙◌, arith, append_assoc, append-nil}
 use Rattle.std.proofs.Common.{length-append}
 use Rattle.std.proofs.lemmas.List.Sorted.{IsPermutation-append_comm, IsPermutation-append_left}
 use Rattle.fb_layout.specs.Laid.{LaidSchema}
@@ -56,7 +56,7 @@ made_first L o places ys xs zs made =
     let joined : ys ++ (xs ++ zs) ≡ (ys ++ xs) ++ zs = sym (append_assoc ys xs zs) in
     made_permuted L o places ((ys ++ xs) ++ zs) ((xs ++ ys) ++ zs)
     (IsPermutation-append_left zs (ys ++ xs) (xs ++ ys) (IsPermutation-append_comm ys xs))
-    (subst (λ (ps : List PartAt). IsMade L o places ps) joined made)
+    (rw (← joined) made)
 
 -- what is asked of what is laid
 pub record IsLaidNow (L : LaidSchema) (vtables : List Bytes) (taken : List NamedPart) (part : NamedPart)
@@ -89,12 +89,10 @@ module _ (L : LaidSchema) (vtables : List Bytes) (others taken : List NamedPart)
       ∙ parts_split L b.bytes others taken ends_o ends_t long
 
   laid : IsMade L b after (now.own ++ (first ++ rest))
-  laid = subst (λ (ps : List PartAt). IsMade L b after (now.own ++ ps)) moved
-      (now.adds (ends_parts L a.bytes (all_of (others ++ taken)) (ends_o ++ ends_t)) h.made)
+  laid = rw (← moved) (now.adds (ends_parts L a.bytes (all_of (others ++ taken)) (ends_o ++ ends_t)) h.made)
 
   turned : IsMade L b after (first ++ (now.own ++ rest))
-  turned = subst (λ (ps : List PartAt). IsMade L b after ps) (append_assoc first now.own rest)
-      (made_first L b after now.own first rest laid)
+  turned = rw (← (append_assoc first now.own rest)) (made_first L b after now.own first rest laid)
 
   joined : first ++ (now.own ++ rest) ≡ ends_parts L b.bytes (all_of (others ++ (part ∷ []))) (ends_o ++ (e ∷ []))
   joined = ap (λ ps. first ++ ps) (sym now.whole ∙ sym (append-nil (parts_in_tail L b.bytes part.target e part.value)))
@@ -107,7 +105,7 @@ module _ (L : LaidSchema) (vtables : List Bytes) (others taken : List NamedPart)
         ends_t
         e long (λ k x is. laid_grown L a b (part_place x.target) (slice_index (ends_o ++ ends_t) k) x.value now.grows
         (h.lie k x is)) now.lies;
-    made = subst (λ (ps : List PartAt). IsMade L b after ps) joined turned;
+    made = rw (← joined) turned;
     shared = now.shared;
     four = now.four;
     bound = now.bound;

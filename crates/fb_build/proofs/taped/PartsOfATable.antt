@@ -1,7 +1,7 @@
 -- The parts that wait for a table, and its slots.
 use Rattle.std.proofs.Common.{◌≡◌, ℕ, zero, suc, ◌⊎◌, inl, inr, ◌++◌, Bool, true, false, if◌then◌else◌}
 use Rattle.std.proofs.Common.{List, [], ◌∷◌, length, drop, slice_get, slice_index, Option, None, Some, refl, ap}
-use Rattle.std.proofs.Common.{sym, ◌∙◌, subst, arith}
+use Rattle.std.proofs.Common.{sym, ◌∙◌, arith}
 use Rattle.fb_layout.specs.Laid.{LaidSchema, Slot, StoredShape, scalar_kind, struct_kind, table_kind, union_kind}
 use Rattle.fb_layout.specs.Laid.{code_kind, text_kind, one_of, vector_of}
 use Rattle.fb_value.specs.Datum.{Datum, a_number, a_text, a_vector, a_struct, a_table, a_member, an_unknown}
@@ -145,8 +145,7 @@ same_parts L f (Some d) fits = elim (shape_parts L f.shape d fits.1) [
 pub slot_parts : (L : LaidSchema) (f : Slot) (x : Option Datum) (code : Option ℕ)
     → StoredFits L f (stored_here f.shape code x) → SlotParts L f x (stored_here f.shape code x)
 slot_parts L f x code fits = elim (code_or_same f.shape code x) [
-  | inl same ↦ subst (λ (z : Option Datum). SlotParts L f x z) (sym same)
-      (same_parts L f x (subst (λ (z : Option Datum). StoredFits L f z) same fits))
+  | inl same ↦ rw same (same_parts L f x (rw (← same) fits))
   | inr code_is ↦ code_parts L f code_is.0 x (stored_here f.shape code x) code_is.1
 ]
 

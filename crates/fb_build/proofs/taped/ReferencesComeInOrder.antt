@@ -1,7 +1,7 @@
 -- The references of a table come in the order of its slots while its fields are laid.
 use Rattle.std.proofs.Common.{◌≡◌, ℕ, suc, ◌+◌, ◌++◌, Bool, true, false, if◌then◌else◌}
 use Rattle.std.proofs.Common.{List, [], ◌∷◌, length, drop, slice_get, slice_index, Option, None, Some, refl, ap}
-use Rattle.std.proofs.Common.{sym, ◌∙◌, subst, arith}
+use Rattle.std.proofs.Common.{sym, ◌∙◌, arith}
 use Rattle.std.proofs.Common.{append-nil}
 use Rattle.std.proofs.lemmas.Bool.{and_parts, eqb-true}
 use Rattle.fb_layout.specs.Laid.{LaidSchema, Slot}
@@ -95,13 +95,13 @@ module _ (L : LaidSchema) (fs : List Slot) (zs : List (Option Datum)) (targets :
   none_there a k (g ∷ gs) [] other fields entries = refl
   none_there a k (g ∷ gs) (y ∷ ys) other fields entries =
       let here : k + 0 ≡ k = omega arith in
-      let f0 : slice_get fs k ≡ Some g = sym (subst (λ (i : ℕ). Some g ≡ slice_get fs i) here (fields 0)) in
-      let z0 : slice_get zs k ≡ Some y = sym (subst (λ (i : ℕ). Some y ≡ slice_get zs i) here (entries 0)) in
+      let f0 : slice_get fs k ≡ Some g = sym (rw (← here) (fields 0)) in
+      let z0 : slice_get zs k ≡ Some y = sym (rw (← here) (entries 0)) in
       let rest = none_there a (suc k) gs ys other
       (λ i. let e : k + suc i ≡ suc k + i = omega arith in
-      subst (λ (m : ℕ). slice_get gs i ≡ slice_get fs m) e (fields (suc i)))
+      rw (← e) (fields (suc i)))
       (λ i. let e : k + suc i ≡ suc k + i = omega arith in
-      subst (λ (m : ℕ). slice_get ys i ≡ slice_get zs m) e (entries (suc i))) in
+      rw (← e) (entries (suc i))) in
       by_test (is_at L a g y) refl f0 z0 rest
     where
       by_test : (t : Bool) → is_at L a g y ≡ t → slice_get fs k ≡ Some g → slice_get zs k ≡ Some y
@@ -128,22 +128,22 @@ module _ (L : LaidSchema) (fs : List Slot) (zs : List (Option Datum)) (targets :
   all_there k (g ∷ gs) [] es many fields entries at long = absurd (omega (arith, long))
   all_there k (g ∷ gs) (y ∷ ys) es many fields entries at long =
       let here : k + 0 ≡ k = omega arith in
-      let f0 : slice_get fs k ≡ Some g = sym (subst (λ (i : ℕ). Some g ≡ slice_get fs i) here (fields 0)) in
-      let z0 : slice_get zs k ≡ Some y = sym (subst (λ (i : ℕ). Some y ≡ slice_get zs i) here (entries 0)) in
+      let f0 : slice_get fs k ≡ Some g = sym (rw (← here) (fields 0)) in
+      let z0 : slice_get zs k ≡ Some y = sym (rw (← here) (entries 0)) in
       let rest = λ (ds : List ℕ) (ok : length ds ≡ refer_count gs ys)
       (next : (i : ℕ) → slice_index (spread gs ys ds) i ≡ slice_index targets (suc k + i)).
       all_there (suc k) gs ys ds ok
       (λ i. let e : k + suc i ≡ suc k + i = omega arith in
-      subst (λ (m : ℕ). slice_get gs i ≡ slice_get fs m) e (fields (suc i)))
+      rw (← e) (fields (suc i)))
       (λ i. let e : k + suc i ≡ suc k + i = omega arith in
-      subst (λ (m : ℕ). slice_get ys i ≡ slice_get zs m) e (entries (suc i))) next (omega (arith, long)) in
+      rw (← e) (entries (suc i))) next (omega (arith, long)) in
       let fits = fit k g y f0 z0 in
       by_refers (refers g y) refl fits f0 z0 many (λ i. at i) rest
     where
       moved : (spreads : List ℕ) (i : ℕ) → slice_index spreads (suc i) ≡ slice_index targets (k + suc i)
           → slice_index spreads (suc i) ≡ slice_index targets (suc k + i)
       moved spreads i h = let e : k + suc i ≡ suc k + i = omega arith in
-          subst (λ (m : ℕ). slice_index spreads (suc i) ≡ slice_index targets m) e h
+          rw (← e) h
 
       one : (es : List ℕ) (n : ℕ) → length es ≡ suc n → (e : ℕ) × (ds : List ℕ) × (es ≡ e ∷ ds) × (length ds ≡ n)
       one [] n many = absurd (omega (arith, many))
@@ -167,7 +167,7 @@ module _ (L : LaidSchema) (fs : List Slot) (zs : List (Option Datum)) (targets :
           i)))) in
           let here : k + 0 ≡ k = omega arith in
           let own : slice_index targets k ≡ first.0 =
-          sym (subst (λ (i : ℕ). first.0 ≡ slice_index targets i) here (rw first.2 at (at 0))) in
+          sym (rw (← here) (rw first.2 at (at 0))) in
           rw four (rw (f0, z0, is, own, next) (sym first.2))
       by_refers false is fits f0 z0 many at rest =
           let next = rest es many (λ i. moved (0 ∷ spread gs ys es) i (at (suc i))) in

@@ -1,7 +1,7 @@
 -- The order of laying visits each stored slot behind those that are laid before it.
 use Rattle.std.proofs.Common.{◌≡◌, ℕ, suc, ◌+◌, ◌-◌, ◌^◌, ◌<◌, ◌⊎◌, ◌++◌, inl, inr, Bool, true, false, cond}
 use Rattle.std.proofs.Common.{◌==◌, nat_lt, nat_le, List, [], ◌∷◌, slice_get, Option, None, Some, refl, sym, ◌∙◌}
-use Rattle.std.proofs.Common.{subst, arith, if◌then◌else◌}
+use Rattle.std.proofs.Common.{arith, if◌then◌else◌}
 use Rattle.std.proofs.lemmas.Bool.{lt-ltb, le-leb, and_parts, eqb-true}
 use Rattle.std.proofs.lemmas.Bool.Decides.{nat_tests}
 use Rattle.std.proofs.lemmas.Nat.{pow_pos}
@@ -113,7 +113,7 @@ module _ (L : LaidSchema) (a : ℕ) (fs : List Slot) (xs : List (Option Datum)) 
       one = omega arith
 
       next : AreNext L fs xs (before L a (j + 1)) (slots_at L a (suc j) gs ys ++ rest)
-      next = subst (λ (i : ℕ). AreNext L fs xs (before L a i) (slots_at L a (suc j) gs ys ++ rest)) one behind
+      next = rw (← one) behind
 
       by_test : (t : Bool) → is_at L a g y ≡ t
           → AreNext L fs xs (before L a j)
@@ -144,23 +144,23 @@ module _ (L : LaidSchema) (a : ℕ) (fs : List Slot) (xs : List (Option Datum)) 
     | inr less ↦ less
     | inl over ↦ (
         let at : j + (k - j) ≡ k = omega (arith, over) in
-        let none : None ≡ Some f = subst (λ (i : ℕ). None ≡ slice_get fs i) at (fields (k - j)) ∙ fk in cc)
+        let none : None ≡ Some f = rw (← at) (fields (k - j)) ∙ fk in cc)
   ])
   from_slot j (g ∷ gs) [] fields entries = none_left j (λ k f x fk xk. elim (lower j k) [
     | inr less ↦ less
     | inl over ↦ (
         let at : j + (k - j) ≡ k = omega (arith, over) in
-        let none : None ≡ Some x = subst (λ (i : ℕ). None ≡ slice_get xs i) at (entries (k - j)) ∙ xk in cc)
+        let none : None ≡ Some x = rw (← at) (entries (k - j)) ∙ xk in cc)
   ])
   from_slot j (g ∷ gs) (y ∷ ys) fields entries =
       let here : j + 0 ≡ j = omega arith in
-      one_slot j g gs y ys (sym (subst (λ (i : ℕ). Some g ≡ slice_get fs i) here (fields 0)))
-      (sym (subst (λ (i : ℕ). Some y ≡ slice_get xs i) here (entries 0)))
+      one_slot j g gs y ys (sym (rw (← here) (fields 0)))
+      (sym (rw (← here) (entries 0)))
       (from_slot (suc j) gs ys
       (λ i. let e : j + suc i ≡ suc j + i = omega arith in
-      subst (λ (m : ℕ). slice_get gs i ≡ slice_get fs m) e (fields (suc i)))
+      rw (← e) (fields (suc i)))
       (λ i. let e : j + suc i ≡ suc j + i = omega arith in
-      subst (λ (m : ℕ). slice_get ys i ≡ slice_get xs m) e (entries (suc i))))
+      rw (← e) (entries (suc i))))
 
 -- ---- one alignment after the other
 

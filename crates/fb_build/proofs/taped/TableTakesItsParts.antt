@@ -1,7 +1,7 @@
 -- A table that is laid takes the parts that its references lead to.
 use Rattle.std.proofs.Common.{◌≡◌, ℕ, ◌+◌, ◌-◌, ◌*◌, ◌≤◌, ◌<◌, ◌++◌, true, false, max, List, []}
 use Rattle.std.proofs.Common.{◌∷◌, length, take, drop, replicate, slice_get, slice_index, Option, Some, refl, ap, ◌∙◌}
-use Rattle.std.proofs.Common.{subst, arith, length-drop}
+use Rattle.std.proofs.Common.{arith, length-drop}
 use Rattle.std.proofs.lemmas.List.{length-replicate}
 use Rattle.std.proofs.lemmas.List.Sums.{sum_by-cons}
 use Rattle.fb_layout.specs.Laid.{LaidSchema, Slot, slots_of}
@@ -24,7 +24,7 @@ use Rattle.fb_build.specs.Lengths.{fields_end, table_end}
 use Rattle.fb_build.specs.NotesLaid.{notes_size}
 use Rattle.fb_build.proofs.taped.TapeFitsItsRoom.{sizes_noted}
 use Rattle.fb_build.specs.Made.{FieldsFront}
-use Rattle.fb_build.specs.NotesLaid.{AreToBeLaid, AreLaidNow, AreReferences, noted_references, notes_references}
+use Rattle.fb_build.specs.NotesLaid.{AreToBeLaid, AreLaidNow, noted_references, notes_references}
 use Rattle.fb_build.specs.NumberedVtables.{IsTableOpen, IsTableClosed}
 use Rattle.fb_build.specs.Parts.{TableKnown}
 use Rattle.fb_build.specs.Tails.{TailSeen, Grows, LaidInTail}
@@ -170,9 +170,8 @@ module _ (L : LaidSchema) (vtables : List Bytes) (fields : ℕ) (align : Alignme
   to_be_laid = record {
     known = known.known;
     noted = m.lays.noted;
-    references = subst (λ (ds : List ℕ). AreReferences notes (laying_order L fs xs) targets ds)
-        (spread_references L fs xs es fit known.known.long es_long)
-        (in_order L fs xs targets (laying_order L fs xs) notes bytes m.lays.noted);
+    references = rw (spread_references L fs xs es fit known.known.long es_long) at
+    (in_order L fs xs targets (laying_order L fs xs) notes bytes m.lays.noted);
     align_is = m.lays.align_is;
     each = spread_long fs xs es known.known.long;
     state = spread_state L a.most a.bytes fs m.lays.entries es fit there;

@@ -1,6 +1,6 @@
 -- The operations of a tape, one laid after the other.
 use Rattle.std.proofs.Common.{◌≡◌, ℕ, suc, ◌+◌, ◌≤◌, ◌<◌, ◌++◌, List, [], ◌∷◌, length, take, drop, Option}
-use Rattle.std.proofs.Common.{refl, ap, sym, ◌∙◌, subst, arith, length-append}
+use Rattle.std.proofs.Common.{refl, ap, sym, ◌∙◌, arith, length-append}
 use Rattle.std.proofs.lemmas.List.Sums.{sum_by-cons}
 use Rattle.std.proofs.Common.{slice_index_or}
 use Rattle.std.proofs.Math.Seq.{drop-append_seam, take-append_seam, drop-cons}
@@ -32,7 +32,7 @@ pub op_behind : (ops : List Op) (i : ℕ) → i < length ops
     → drop i ops ≡ slice_index_or ops i no_op ∷ drop (i + 1) ops
 op_behind ops i low =
     let one : suc i ≡ i + 1 = omega arith in
-    subst (λ (j : ℕ). drop i ops ≡ slice_index_or ops i no_op ∷ drop j ops) one (drop-cons ops i no_op low)
+    rw (← one) (drop-cons ops i no_op low)
 
 -- ---- what an operation has of the fields and bytes
 

@@ -2,7 +2,7 @@
 use Rattle.std.proofs.Common.{◌≡◌, ℕ, zero, suc, ◌+◌, ◌-◌, ◌*◌, ◌<◌, ◌≤◌, ◌++◌, Bool, true, false, ◌&&◌}
 use Rattle.std.proofs.Common.{if◌then◌else◌, List, [], ◌∷◌}
 use Rattle.std.proofs.Common.{length, map, flat_map, slice_get, slice_index, Option, Some, refl, ap, sym, ◌∙◌}
-use Rattle.std.proofs.Common.{subst, arith}
+use Rattle.std.proofs.Common.{arith}
 use Rattle.byteorder.specs.Endian.{little_bytes}
 use Rattle.fb_layout.specs.Laid.{LaidSchema, Slot}
 use Rattle.fb_value.specs.Datum.{Datum}
@@ -64,11 +64,11 @@ module _ (L : LaidSchema) (fs : List Slot) (xs : List (Option Datum)) (start pla
       let one = one_offset k g y e (sym f0) (sym x0) (sym e0) in
       let rest = all_offsets (suc k) gs ys es
       (λ i. let n : k + suc i ≡ suc k + i = omega arith in
-      subst (λ (j : ℕ). slice_get gs i ≡ slice_get fs j) n (fields (suc i)))
+      rw (← n) (fields (suc i)))
       (λ i. let n : k + suc i ≡ suc k + i = omega arith in
-      subst (λ (j : ℕ). slice_get ys i ≡ slice_get xs j) n (entries (suc i)))
+      rw (← n) (entries (suc i)))
       (λ i. let n : k + suc i ≡ suc k + i = omega arith in
-      subst (λ (j : ℕ). slice_index es i ≡ slice_index ends j) n (at (suc i)))
+      rw (← n) (at (suc i)))
       (omega (arith, long)) (omega (arith, each)) in
       rw (one, rest) refl
 
@@ -179,7 +179,7 @@ vtable_told_by L fs xs start place m s ends place_is state counted long each low
     (λ i. let e : 0 + i ≡ i = omega arith in rw e refl) long each in
     let h = trimmed_is place ends low in
     let h2 : IsTrimmed place ends (trimmed (offsets_from L fs xs 0 fs xs)) =
-    subst (λ (os : List ℕ). IsTrimmed place ends (trimmed os)) (sym offsets) h in
+    rw offsets h in
     record {
       is = ap (λ z. little_bytes 2 (4 + 2 * slots_used L fs xs) ++ (little_bytes 2 (table_size L fs xs) ++ z)) h2.bytes;
       within = h2.within;

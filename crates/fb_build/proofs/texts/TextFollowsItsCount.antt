@@ -1,6 +1,6 @@
 -- A text lies where its bytes stand.
 use Rattle.std.proofs.Common.{◌≡◌, ℕ, ◌+◌, ◌-◌, ◌^◌, ◌<◌, ◌≤◌, ◌++◌, true, ◌∷◌, length, take, drop, slice_index, ap}
-use Rattle.std.proofs.Common.{sym, ◌∙◌, subst, arith, length-append}
+use Rattle.std.proofs.Common.{sym, ◌∙◌, arith, length-append}
 use Rattle.std.proofs.lemmas.Bool.{le-leb, lt-ltb, eq-eqb, and_from}
 use Rattle.std.proofs.lemmas.List.{get_or-append-add}
 use Rattle.std.proofs.Math.Seq.{drop-append_seam, take-append_seam}
@@ -64,7 +64,7 @@ pub text_end : (L : LaidSchema) (m : ℕ) (s t d : Bytes) → s ≡ little_bytes
 text_end L m s t d e short utf8 four most =
     let first : length s - length s ≡ 0 = omega arith in
     let whole : length s - 0 ≡ length s = omega arith in
-    let is : IsTextAt s 0 t = subst (λ (x : Bytes). IsTextAt x 0 t) (sym e) (text_tail t d short) in
+    let is : IsTextAt s 0 t = rw e (text_tail t d short) in
     let aligned : from_end s m 4 0 ≡ true = and_from _ _ (rw whole four) most in
     record {
       lies = record { within = omega arith; lies = rw first (text_lies L (from_end s m) s 0 t is utf8 aligned) };

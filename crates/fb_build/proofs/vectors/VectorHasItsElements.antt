@@ -10,7 +10,7 @@ use Rattle.fb_layout.specs.Laid.{LaidSchema, StoredKind, scalar_kind, struct_kin
 use Rattle.fb_layout.specs.Laid.{text_kind, size_of, align_of, one_of}
 use Rattle.fb_value.specs.Datum.{Datum, a_vector, Parts, no_parts, more_parts, count}
 use Rattle.fb_value.specs.Num.{Bytes, num, divides}
-use Rattle.fb_value.specs.Places.{part_place, ref_place, table_part, text_part, vector_part, target_of}
+use Rattle.fb_value.specs.Places.{part_place, ref_place, text_part, vector_part, target_of}
 use Rattle.fb_value.specs.Rules.{Aligned, fault_by, KeepsBy}
 use Rattle.fb_value.specs.Lies.{ElementBy, LiesBy, LiesItemsBy}
 use Rattle.fb_value.specs.View.{view, parts_in, parts_view}
@@ -21,7 +21,7 @@ use Rattle.fb_layout.specs.Sizes.{IsAlignment}
 use Rattle.fb_build.specs.Tails.{TailSeen, Grows, LaidInTail}
 use Rattle.fb_build.specs.Fields.{IsElement, sort_for}
 use Rattle.fb_build.specs.Items.{ItemsEnd}
-use Rattle.fb_tape.specs.InlineBytes.{IsTightInline, EachInlineIn, EachInlineElement, EachInline, EachInlineItem}
+use Rattle.fb_tape.specs.InlineBytes.{IsTightInline, EachInlineElement, EachInline, EachInlineItem}
 use Rattle.fb_tape.specs.InlineBytes.{EachInlineAt}
 use Rattle.fb_build.specs.CoveredTails.{IsTightInTail}
 use Rattle.fb_build.proofs.covered.TightStructStaysTightFurtherOn.{items_moved as inline_moved}
@@ -112,14 +112,10 @@ items_grown L a b k kind ds g long h =
     let parts = length-append g.front a.bytes in
     let whole = ap length g.grown in
     let at : length g.front + 0 ≡ 0 + k = omega (arith, parts, whole, long) in
-    let lie = subst (λ (p : ℕ). LiesItemsBy (from_end (g.front ++ a.bytes) b.most) L (g.front ++ a.bytes) kind p
-    ds) at (items_moved L a.most b.most g.front a.bytes kind ds g.multiple h.lie) in
-    let old = subst (λ (p : ℕ). EachItem L (g.front ++ a.bytes) (λ t q. IsOldTable L (g.front ++ a.bytes) t q) kind p
-    ds) at (old_items_moved L a.most g.front a.bytes kind ds h) in
-    let inline = subst (λ (p : ℕ). EachInlineItem L (g.front ++ a.bytes) (IsTightInline L (g.front ++ a.bytes)) kind p
-    ds) at (inline_items_moved L a.most g.front a.bytes kind ds h) in
-    let tight = subst (λ (p : ℕ). EachItem L (g.front ++ a.bytes) (λ t q. IsTightInTail L (g.front ++ a.bytes) t q) kind
-    p ds) at (tight_items_moved L a.most g.front a.bytes kind ds h) in
+    let lie = rw at at (items_moved L a.most b.most g.front a.bytes kind ds g.multiple h.lie) in
+    let old = rw at at (old_items_moved L a.most g.front a.bytes kind ds h) in
+    let inline = rw at at (inline_items_moved L a.most g.front a.bytes kind ds h) in
+    let tight = rw at at (tight_items_moved L a.most g.front a.bytes kind ds h) in
     (rw g.grown lie, rw g.grown old, rw g.grown tight, rw g.grown inline)
 
 element_by : (L : LaidSchema) (m : ℕ) (s : Bytes) (kind : StoredKind) (d : Datum) → IsElement L kind
@@ -140,7 +136,7 @@ element_old L m s (scalar_kind b) d el h = tt
 element_old L m s text_kind d el h = let first : length s - length s ≡ 0 = omega arith in
     subst (λ (q : ℕ). EachTableAt L s (λ t p. IsOldTable L s t p) (ref_place text_part) q d) first h.old
 element_old L m s (table_kind t) d el h = let first : length s - length s ≡ 0 = omega arith in
-    subst (λ (q : ℕ). EachTableAt L s (λ t p. IsOldTable L s t p) (ref_place (table_part t)) q d) first h.old
+    rw first at h.old
 element_old L m s (struct_kind t) d el h = tt
 element_old L m s _ d el h = absurd el
 
@@ -151,7 +147,7 @@ element_tight L m s (scalar_kind b) d el h = tt
 element_tight L m s text_kind d el h = let first : length s - length s ≡ 0 = omega arith in
     subst (λ (q : ℕ). EachTableAt L s (λ t p. IsTightInTail L s t p) (ref_place text_part) q d) first h.tight
 element_tight L m s (table_kind t) d el h = let first : length s - length s ≡ 0 = omega arith in
-    subst (λ (q : ℕ). EachTableAt L s (λ t p. IsTightInTail L s t p) (ref_place (table_part t)) q d) first h.tight
+    rw (← first) h.tight
 element_tight L m s (struct_kind t) d el h = tt
 element_tight L m s _ d el h = absurd el
 
@@ -161,14 +157,14 @@ element_inline : (L : LaidSchema) (m : ℕ) (s : Bytes) (kind : StoredKind) (d :
     (λ X q. EachInline L s (IsTightInline L s) X q d)
 element_inline L m s (scalar_kind b) d el h =
     let first : length s - length s ≡ 0 = omega arith in
-    subst (λ (q : ℕ). EachInlineIn L (IsTightInline L s) (scalar_kind b) q d) first h.inline
+    rw (← first) h.inline
 element_inline L m s text_kind d el h = let first : length s - length s ≡ 0 = omega arith in
     subst (λ (q : ℕ). EachInlineAt L s (IsTightInline L s) (ref_place text_part) q d) first h.inline
 element_inline L m s (table_kind t) d el h = let first : length s - length s ≡ 0 = omega arith in
-    subst (λ (q : ℕ). EachInlineAt L s (IsTightInline L s) (ref_place (table_part t)) q d) first h.inline
+    rw (← first) h.inline
 element_inline L m s (struct_kind t) d el h =
     let first : length s - length s ≡ 0 = omega arith in
-    subst (λ (q : ℕ). EachInlineIn L (IsTightInline L s) (struct_kind t) q d) first h.inline
+    rw (← first) h.inline
 element_inline L m s _ d el h = absurd el
 
 pub one_more : (L : LaidSchema) (a b : TailSeen) (kind : StoredKind) (d : Datum) (ds : Parts) → IsElement L kind
@@ -271,8 +267,7 @@ pub parts_back : (ds : List Datum) (n k : ℕ) (d : Datum) → k < n → slice_g
 parts_back ds n k d low is =
     let a : n - (k + 1) ≡ n - 1 - k = omega arith in
     let b : suc (n - 1 - k) ≡ n - k = omega (arith, low) in
-    rw a (subst (λ (j : ℕ). parts_in (drop (n - 1 - k) ds) ≡ more_parts d (parts_in (drop j ds))) b
-    (data_next ds (n - 1 - k) d is))
+    rw a (rw (← b) (data_next ds (n - 1 - k) d is))
 
 pub parts_none : (ds : List Datum) (n : ℕ) → length ds ≤ n → parts_in (drop n ds) ≡ no_parts
 parts_none [] zero h = refl

@@ -1,6 +1,6 @@
 -- The fields that a table's vtable tells of are those whose entries are stored.
 use Rattle.std.proofs.Common.{◌≡◌, ◌≢◌, ℕ, zero, suc, ◌+◌, ◌-◌, ◌<◌, ◌≤◌, Bool, true, false, if◌then◌else◌, max, List}
-use Rattle.std.proofs.Common.{[], ◌∷◌, length, map, sum_by, slice_get, slice_index, Option, None, Some, refl, ap, sym}
+use Rattle.std.proofs.Common.{[], ◌∷◌, length, map, sum_by, slice_get, slice_index, Option, None, Some, refl, ap}
 use Rattle.std.proofs.Common.{◌∙◌, subst, arith}
 use Rattle.std.proofs.lemmas.Bool.{lt-ltb, or_left, or_right}
 use Rattle.std.proofs.lemmas.List.Sums.{sum_by-cons}
@@ -25,12 +25,12 @@ TellsStored b p j fs xs = (k : ℕ) (f : Slot) (x : Option Datum) → slice_get 
 tells_first : (b : Bytes) (p j : ℕ) (f : Slot) (fs : List Slot) (x : Option Datum) (xs : List (Option Datum))
     → TellsStored b p j (f ∷ fs) (x ∷ xs) → is_present b p j ≡ is_stored f x
 tells_first b p j f fs x xs h = let at : j + 0 ≡ j = omega arith in
-    subst (λ (i : ℕ). is_present b p i ≡ is_stored f x) at (h 0 f x refl refl)
+    rw (← at) (h 0 f x refl refl)
 
 tells_rest : (b : Bytes) (p j : ℕ) (f : Slot) (fs : List Slot) (x : Option Datum) (xs : List (Option Datum))
     → TellsStored b p j (f ∷ fs) (x ∷ xs) → TellsStored b p (suc j) fs xs
 tells_rest b p j f fs x xs h k g y gk yk = let at : j + suc k ≡ suc j + k = omega arith in
-    subst (λ (i : ℕ). is_present b p i ≡ is_stored g y) at (h (suc k) g y gk yk)
+    rw (← at) (h (suc k) g y gk yk)
 
 on_first : (P : ℕ → Type 0) (j : ℕ) → P (j + 0) → P j
 on_first P j h = let at : j + 0 ≡ j = omega arith in subst P at h
@@ -97,12 +97,12 @@ in_stored L b p j (g ∷ fs) zero f i fk there within =
     let at : j + 0 ≡ j = omega arith in
     let same : g ≡ f = cc in
     let own : is_within (slot_number b p j) (inline_size L f.shape) i ≡ true =
-    subst (λ (n : ℕ). is_within (slot_number b p n) (inline_size L f.shape) i ≡ true) at within in
-    rw (same, subst (λ (n : ℕ). is_present b p n ≡ true) at there) (or_left _ _ own)
+    rw (← at) within in
+    rw (same, rw at at there) (or_left _ _ own)
 in_stored L b p j (g ∷ fs) (suc k) f i fk there within =
     let at : j + suc k ≡ suc j + k = omega arith in
-    let rest = in_stored L b p (suc j) fs k f i fk (subst (λ (n : ℕ). is_present b p n ≡ true) at there)
-    (subst (λ (n : ℕ). is_within (slot_number b p n) (inline_size L f.shape) i ≡ true) at within) in
+    let rest = in_stored L b p (suc j) fs k f i fk (rw (← at) there)
+    (rw (← at) within) in
     one_more (record { slot = g; at = slot_number b p j }) (stored_from b p (suc j) fs) rest (is_present b p j)
   where
     one_more : (r : StoredSlot) (rs : List StoredSlot) → is_in_field L rs i ≡ true → (t : Bool)
@@ -123,11 +123,10 @@ none_default b p j [] h = tt
 none_default b p j (f ∷ fs) h =
     let at : j + 0 ≡ j = omega arith in
     let rest = none_default b p (suc j) fs (λ k g gk there. (let on : j + suc k ≡ suc j + k = omega arith in
-    subst (λ (i : ℕ). IsNoDefault b p g (slot_number b p i)) on
-    (h (suc k) g gk (subst (λ (i : ℕ). is_present b p i ≡ true) (sym on) there)))) in
+    rw (← on) (h (suc k) g gk (rw on there)))) in
     one_more (stored_from b p (suc j) fs) rest (is_present b p j)
-    (λ there. subst (λ (i : ℕ). IsNoDefault b p f (slot_number b p i)) at (h 0 f refl
-    (subst (λ (i : ℕ). is_present b p i ≡ true) (sym at) there)))
+    (λ there. rw (← at) (h 0 f refl
+    (rw at there)))
   where
     one_more : (rs : List StoredSlot) → NoneIsDefault b p rs → (t : Bool)
         → (t ≡ true → IsNoDefault b p f (slot_number b p j))
@@ -221,7 +220,7 @@ pub tells_stored : (L : LaidSchema) (low m c : ℕ) (s b : Bytes) (p : ℕ) (fs 
     → ((k : ℕ) → slot_number b p k ≡ offset_from c (slice_index ends k)) → TellsStored b p 0 fs xs
 tells_stored L low m c s b p fs xs ends state under numbers k f x fk xk =
     let none : 0 + k ≡ k = omega arith in
-    subst (λ (i : ℕ). is_present b p i ≡ is_stored f x) (sym none) (by_stored (is_stored f x) refl)
+    rw none (by_stored (is_stored f x) refl)
   where
     high : (y : Option Datum) → StoredEnd L low m s true f y (slice_index ends k) → 0 < slice_index ends k
     high None h = absurd h

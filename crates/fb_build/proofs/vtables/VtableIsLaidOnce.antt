@@ -1,6 +1,6 @@
 -- A vtable that was laid, or was laid before.
 use Rattle.std.proofs.Common.{◌≡◌, ℕ, zero, suc, ◌+◌, ◌-◌, ◌%◌, ◌<◌, ◌≤◌, ◌++◌, true, false, nat_lt, List, [], ◌∷◌}
-use Rattle.std.proofs.Common.{length, slice_get, slice_index, Some, refl, ap, sym, ◌∙◌, subst, arith}
+use Rattle.std.proofs.Common.{length, slice_get, slice_index, Some, refl, ap, sym, ◌∙◌, arith}
 use Rattle.std.proofs.Common.{length-append}
 use Rattle.std.proofs.lemmas.Bool.{eq-eqb, lt-ltb}
 use Rattle.std.proofs.lemmas.Bool.Decides.{nat_tests}
@@ -22,7 +22,7 @@ new_way s old vt place e is short =
     let parts = length-append vt (n ++ old) in
     let first : length vt + 0 ≡ length s - place = omega (arith, whole, parts, is) in
     let number : num s (length s - place) 4 ≡ length vt =
-    subst (λ (p : ℕ). num s p 4 ≡ length vt) first (ap (λ b. num b (length vt + 0) 4) e ∙ num_behind vt (n ++ old) 0 4
+    rw (← first) (ap (λ b. num b (length vt + 0) 4) e ∙ num_behind vt (n ++ old) 0 4
     ∙ num_first 4 (length vt) old (omega (arith, short))) in
     let behind : nat_lt (length s - place) (length s - length s) ≡ false =
     low_test (length s - place) (length s - length s) (omega arith) in

@@ -16,7 +16,7 @@ use Rattle.fb_value.specs.Counts.{cells}
 use Rattle.fb_value.specs.Datum.{Datum, a_vector, a_struct, a_table, a_member, Parts}
 use Rattle.fb_value.specs.Datum.{no_parts, more_parts, SlotEntries, no_entries, absent_entry, present_entry}
 use Rattle.fb_json.specs.Meant.{meant, names_known, type_place}
-use Rattle.fb_json.specs.Means.{CodeMeans, CodeAt, unless_null, member_called, IsKnown, AbsentAt, PresentAs}
+use Rattle.fb_json.specs.Means.{CodeMeans, CodeAt, unless_null, member_called, AbsentAt, PresentAs}
 use Rattle.fb_json.specs.Means.{PresentMeans, MeansAs}
 use Rattle.fb_json.specs.Means.{MemberMeans, PartsMean, EachMeans, SlotsMean}
 use Rattle.fb_json.specs.Laws.{AllThatIsMeant}
@@ -126,7 +126,7 @@ module _ (A B : LaidSchema) (old : IsWellMade A) (new : IsWellMade B) (conforms 
         ap (λ (x : Bool). is_code x f.shape) (agree.in_use used ∙ sym used) ∙ sym (moved_code g.deprecated) ∙ code in
         let here = code_in_use A.schema ms f f.deprecated f.shape a c old_code was in
         let number : here.0.0 ≡ codes.union.0 = code_id here.0 codes.union (sym here.1 ∙ codes.shape) in
-        let known = (subst (λ (z : Shape). IsShape A.schema z) here.1 agree.known).0 in
+        let known = (rw here.1 at agree.known).0 in
         one_told here.0.0 known (get_member f.name ms) c d here.2
         (rw number codes.means)
 
@@ -179,17 +179,14 @@ module _ (A B : LaidSchema) (old : IsWellMade A) (new : IsWellMade B) (conforms 
       old_present : PresentMeans (slot_of A.schema f) f.shape (member_called f.name ms) v
           (λ u. MeansAs A false u f.shape v) (λ u n. MemberMeans A false u n c v)
           → PresentAs f.shape (MeansAs A false t f.shape v) (λ n. MemberMeans A false t n c v)
-      old_present h = subst (λ (o : Option Data). PresentMeans (slot_of A.schema f) f.shape o v
-          (λ u. MeansAs A false u f.shape v) (λ u n. MemberMeans A false u n c v)) there h
+      old_present h = rw there at h
 
       new_present : PresentMeans (slot_of B.schema g) g.shape (member_called g.name ms) e
           (λ u. MeansAs B false u g.shape e) (λ u n. MemberMeans B false u n d e)
           → PresentAs (to_shape to f.shape) (MeansAs B false t (to_shape to f.shape) e)
           (λ n. MemberMeans B false t n d e)
       new_present h =
-          subst (λ (z : Shape). PresentAs z (MeansAs B false t z e) (λ n. MemberMeans B false t n d e)) agree.shape
-          (subst (λ (o : Option Data). PresentMeans (slot_of B.schema g) g.shape o e
-          (λ u. MeansAs B false u g.shape e) (λ u n. MemberMeans B false u n d e)) (called_same ∙ there) h)
+          rw (← agree.shape) (rw (called_same ∙ there) at h)
 
   -- by the shape: an own value, or a union's member
   both_present : (s : Shape) (t : Data) (c d : ℕ) (v e : Datum)
@@ -229,14 +226,14 @@ module _ (A B : LaidSchema) (old : IsWellMade A) (new : IsWellMade B) (conforms 
     stay _ e t (One (Fixed s)) known h i = absurd h
     stay (a_table type es) (a_table new_type is) t (One (Table n)) known h i =
         let same = same_members t h.0 i.0 h.1 i.1 in
-        let all = subst (λ (k : ℕ). IsKnown A false k h.0) h.2 h.3 in
-        let was = subst (λ (k : ℕ). SlotsMean A false h.0 0 (slots_in (body_at A.schema k)) es) h.2 h.4 in
+        let all = rw h.2 at h.3 in
+        let was = rw h.2 at h.4 in
         let fields : names_known (body_at B.schema (to n.0)) h.0 ≡ true =
         rw (← same) (rw (← i.2) i.3) in
         let x = slots_in (body_at A.schema n.0) in
         let y = slots_in (body_at B.schema (to n.0)) in
         let there = subst (λ (ms : Members). SlotsMean B false ms 0 y is) same
-        (subst (λ (k : ℕ). SlotsMean B false i.0 0 (slots_in (body_at B.schema k)) is) i.2 i.4) in
+        (rw (← i.2) i.4) in
         let slots = slots_stay es is h.0 x y None 0 0
         (slots_agree A B old new conforms keeps n.0 known.0 known.1 h.0 all fields) tt
         (new_codes A B old new conforms keeps n.0 known.0 known.1 h.0 all fields) was there in
@@ -245,9 +242,8 @@ module _ (A B : LaidSchema) (old : IsWellMade A) (new : IsWellMade B) (conforms 
     stay _ e t (One (Table n)) known h i = absurd h
     stay (a_vector ds) (a_vector es) t (Many kind) known h i =
         let same : i.0 ≡ h.0 = sym (ap elements_of i.1) ∙ ap elements_of h.1 in
-        subst (λ (ts : Items). EachStays A B ts kind ds) (sym (ap elements_of h.1))
-        (each_stay ds es h.0 kind known.0 h.2
-        (subst (λ (ts : Items). EachMeans B false ts (to_kind to kind) es) same i.2))
+        rw (← (ap elements_of h.1)) at (each_stay ds es h.0 kind known.0 h.2
+        (rw (← same) i.2))
     stay (a_vector ds) _ t (Many kind) known h i = absurd i
     stay _ e t (Many kind) known h i = absurd h
     stay v e t _ known h i = tt
@@ -261,10 +257,9 @@ module _ (A B : LaidSchema) (old : IsWellMade A) (new : IsWellMade B) (conforms 
         sym i.1.1 ∙ ap (member_by_code B (to u.0)) same
         ∙ (members_moved A B old new conforms u.0 c table known h.1.1).1 in
         let number : i.1.0 ≡ to table = cc in
-        subst (λ (o : Option ℕ). IfSome o (λ n. NamesStay A B t (One (Table (id n))) v)) (sym code)
-        (stay v e t (One (Table (id table)))
+        rw code (stay v e t (One (Table (id table)))
         (member_table A.schema u.0 (body_at A.schema u.0) (old_body A B old new conforms keeps u.0 known) c table h.1.1)
-        h.1.2 (subst (λ (n : ℕ). MeansAs B false t (One (Table (id n))) e) number i.1.2))
+        h.1.2 (rw (← number) i.1.2))
     member_stay (a_member k v) _ t u c d known same h i = absurd i
     member_stay _ e t u c d known same h i = absurd h
 
@@ -284,9 +279,8 @@ module _ (A B : LaidSchema) (old : IsWellMade A) (new : IsWellMade B) (conforms 
         let both : Some i.0 ≡ Some h.0 = sym i.1 ∙ agree.0.member ∙ h.1 in
         let same : i.0 ≡ h.0 = cc in
         let is = subst (λ (t : Data). MeansAs B false t (to_shape to f.shape) e) same
-        (subst (λ (z : Shape). MeansAs B false i.0 z e) agree.0.shape i.2) in (
-          subst (λ (o : Option Data). IfSome o (λ t. NamesStay A B t f.shape d)) (sym h.1)
-              (stay d e h.0 f.shape (part_shape A.schema s f.shape agree.0.part) h.2 is),
+        (rw (← agree.0.shape) i.2) in (
+          rw h.1 (stay d e h.0 f.shape (part_shape A.schema s f.shape agree.0.part) h.2 is),
           parts_stay ds es ms s fs gs agree.1 h.3 i.3,
         )
     parts_stay (more_parts d ds) no_parts ms s (f ∷ fs) (g ∷ gs) agree h i = absurd i
@@ -316,7 +310,7 @@ module _ (A B : LaidSchema) (old : IsWellMade A) (new : IsWellMade B) (conforms 
       if_some (member_called f.name ms) (λ t. NamesStay A B t f.shape v)
           (λ t there. both_present f.shape t h.0 i.0 v e (λ m n. stay v e t f.shape agree.0.known m n)
           (λ u is_union m n. member_stay v e t u h.0 i.0
-          (subst (λ (z : Shape). IsShape A.schema z) is_union agree.0.known).0
+          (rw is_union at agree.0.known).0
           (one_code ms f g agree.0 before a b h.0 i.0 u told led.0 h.1 i.1 i.2 is_union) m n)
           (old_present ms f g agree.0 t there h.0 i.0 v e h.3) (new_present ms f g agree.0 t there h.0 i.0 v e i.3)),
       slots_stay es is ms fs gs (Some g) h.0 i.0 agree.1 (told_next ms f g agree.0 a b h.0 i.0 h.1 i.1) led.1 h.4 i.4,

@@ -1,6 +1,6 @@
 -- A whole value that fits the old root is carried to one that fits the new root and is whole.
 use Rattle.std.proofs.Common.{◌≡◌, ℕ, suc, ◌<◌, length, get_or, ◌&&◌, ◌||◌, not, Bool, true, false, IsTrue, List, []}
-use Rattle.std.proofs.Common.{◌∷◌, map, Option, None, Some, slice_get, ℤ, refl, sym, ap, subst, ◌∙◌}
+use Rattle.std.proofs.Common.{◌∷◌, map, Option, None, Some, slice_get, ℤ, refl, sym, ap, ◌∙◌}
 use Rattle.std.proofs.lemmas.Bool.{and_parts}
 use Rattle.std.proofs.lemmas.Option.{slice_get-get_or}
 use Rattle.fb_schema.specs.declared.kinds.Kind.TheVariants.{Scalar, Enum, Struct as Fixed}
@@ -157,8 +157,7 @@ module _ (A B : LaidSchema) (old : IsWellMade A) (new : IsWellMade B) (fit : Agr
       (fits.0, parts_fit ks ds inline known.1 fits.1)
   parts_fit (struct_kind s ∷ ks) (more_parts (a_struct es) ds) inline known fits =
       let stays = fit.structs s known.0 in (
-        subst (λ (ls : List StoredKind). PartsFit B ls es) (sym stays.kinds)
-            (parts_fit (parts_of A s) es (inline_parts s known.0) stays.known fits.0),
+        rw (← stays.kinds) at (parts_fit (parts_of A s) es (inline_parts s known.0) stays.known fits.0),
         parts_fit ks ds inline known.1 fits.1,
       )
   parts_fit [] (more_parts d ds) inline known fits = absurd fits
@@ -195,8 +194,7 @@ module _ (A B : LaidSchema) (old : IsWellMade A) (new : IsWellMade B) (fit : Agr
     fits_on (one_of (scalar_kind base)) (a_number n) known whole fits = fits
     fits_on (one_of (struct_kind s)) (a_struct ds) known whole fits =
         let stays = fit.structs s known in
-        subst (λ (ks : List StoredKind). PartsFit B ks ds) (sym stays.kinds)
-        (parts_fit (parts_of A s) ds (inline_parts s known) stays.known fits)
+        rw (← stays.kinds) at (parts_fit (parts_of A s) ds (inline_parts s known) stays.known fits)
     fits_on (one_of text_kind) (a_text bytes) known whole fits = fits
     fits_on (one_of (table_kind t)) (a_table type ss) known whole fits =
         let slots : EntriesFit B (slots_of B (to_new A B t)) (carry_slots A B (slots_of B (to_new A B t)) ss) =
@@ -225,8 +223,7 @@ module _ (A B : LaidSchema) (old : IsWellMade A) (new : IsWellMade B) (fit : Agr
         (absent_fits (types_in A) f g grown.0 fits.0, slots_fit fs gs ss grown.1 made.1 whole fits.1)
     slots_fit (f ∷ fs) (g ∷ gs) (present_entry d ss) grown made whole fits =
         present_fits g gs g.deprecated (carry A B d) (carry_slots A B gs ss) refl made.0 grown.0.gone
-        (subst (λ (s : StoredShape). Fits B s (carry A B d)) (sym grown.0.shape)
-        (fits_on f.shape d grown.0.known whole.0 fits.1))
+        (rw grown.0.shape (fits_on f.shape d grown.0.known whole.0 fits.1))
         (slots_fit fs gs ss grown.1 made.1 whole.1 fits.2)
     slots_fit (f ∷ fs) [] ss grown made whole fits = absurd grown
     slots_fit [] gs _ grown made whole fits = absurd fits
@@ -260,6 +257,6 @@ carried_fits A B v old new conforms fits whole =
     (type_fits A A.schema.root v (slice_get A.schema.types A.schema.root) old.declared.root.1 fits)
     in (
       fits_type B B.schema.root (carry A B v) (slice_get B.schema.types B.schema.root) new.declared.root.1 refl
-          new.declared.root.0 (subst (λ (t : ℕ). Fits B (one_of (table_kind t)) (carry A B v)) (sym fit.root) root),
+          new.declared.root.0 (rw (← fit.root) at root),
       stays_whole A B v whole,
     )

@@ -62,9 +62,7 @@ module _ (A B : LaidSchema) (agrees : Agrees A B) where
         let stays = agrees.structs s known in
         subst (λ (os : List ℕ). LiesParts A b (parts_of A s) (struct_at A s).offsets p ds
         ↔ LiesParts B b (parts_of B (to_new A B s)) os p ds) (sym stays.offsets)
-        (subst (λ (ks : List StoredKind). LiesParts A b (parts_of A s) (struct_at A s).offsets p ds
-        ↔ LiesParts B b ks (struct_at A s).offsets p ds) (sym stays.kinds)
-        (parts_both b (parts_of A s) (struct_at A s).offsets p ds stays.known))
+        (rw stays.kinds (parts_both b (parts_of A s) (struct_at A s).offsets p ds stays.known))
     inline_both b _ p _ known = (λ lies. absurd lies, λ lies. absurd lies)
 
     parts_both : (b : Bytes) (ks : List StoredKind) (os : List ℕ) (p : ℕ) (ds : Parts) → KnownKinds (types_in A) ks

@@ -1,6 +1,6 @@
 -- A JSON tree means the value carried under a new schema that keeps names.
 use Rattle.std.proofs.Common.{◌≡◌, ℕ, zero, suc, ◌<◌, Bool, true, false, IsTrue, List, [], ◌∷◌, map}
-use Rattle.std.proofs.Common.{get_or, slice_get, Option, None, Some, option_map, IfSome, refl, sym, ap, subst, ◌∙◌}
+use Rattle.std.proofs.Common.{get_or, slice_get, Option, None, Some, option_map, IfSome, refl, sym, ap, ◌∙◌}
 use Rattle.std.proofs.Common.{arith}
 use Rattle.std.proofs.lemmas.Option.{slice_get_within, get_or_from_slice_get}
 use Rattle.serde_json.specs.Data.{Data, Items, no_items, item, Members}
@@ -19,7 +19,7 @@ use Rattle.fb_layout.specs.WellMade.{IsWellMade}
 use Rattle.fb_value.specs.Datum.{Datum, a_number, a_text, a_vector, a_struct, a_table, a_member, an_unknown, Parts}
 use Rattle.fb_value.specs.Datum.{no_parts, more_parts, SlotEntries, no_entries, absent_entry, present_entry}
 use Rattle.fb_json.specs.Meant.{names_known}
-use Rattle.fb_json.specs.Means.{member_called, IsKnown, MeansAs, MemberMeans, PartsMean, EachMeans, SlotsMean}
+use Rattle.fb_json.specs.Means.{member_called, MeansAs, MemberMeans, PartsMean, EachMeans, SlotsMean}
 use Rattle.fb_conform.specs.declared.breaches.Breach.TheVariants.{SlotGone, NewRequired, FieldTypeChanged}
 use Rattle.fb_conform.specs.declared.breaches.Breach.TheVariants.{StructChanged}
 use Rattle.fb_conform.specs.ByName.{SameFields}
@@ -318,7 +318,7 @@ module _ (A B : LaidSchema) (old : IsWellMade A) (new : IsWellMade B) (conforms 
   -- what is said of a member, where there is one
   of_member : (f : DeclaredField) (d : Datum) (o : Option Data) (t : Data) → o ≡ Some t
       → IfSome o (λ u. NamesStay A B u f.shape d) → NamesStay A B t f.shape d
-  of_member f d o t there stays = subst (λ (p : Option Data). IfSome p (λ u. NamesStay A B u f.shape d)) there stays
+  of_member f d o t there stays = rw there at stays
 
   mutual
     pub mean : (d : Datum) (t : Data) (s : Shape) → IsShape A.schema s → MeansAs A false t s d → NamesStay A B t s d
@@ -327,7 +327,7 @@ module _ (A B : LaidSchema) (old : IsWellMade A) (new : IsWellMade B) (conforms 
     mean (a_number n) t (One (Enum e)) known h stays = enum_means A B old new conforms e.0 known.0 t n h
     mean (a_text bytes) t (One Text) known h stays = h
     mean (a_struct ds) t (One (Fixed s)) known h stays =
-        let there = subst (λ (u : Data). NamesStay A B u (One (Fixed s)) (a_struct ds)) h.1 stays in (
+        let there = rw h.1 at stays in (
           h.0,
           h.1,
           there.0,
@@ -335,9 +335,9 @@ module _ (A B : LaidSchema) (old : IsWellMade A) (new : IsWellMade B) (conforms 
               (parts_agree s.0 known.0 known.1 h.0 h.2 there.0) h.3 there.1,
         )
     mean (a_table type es) t (One (Table i)) known h stays =
-        let there = subst (λ (u : Data). NamesStay A B u (One (Table i)) (a_table type es)) h.1 stays in
-        let all = subst (λ (n : ℕ). IsKnown A false n h.0) h.2 h.3 in
-        let was = subst (λ (n : ℕ). SlotsMean A false h.0 0 (slots_in (body_at A.schema n)) es) h.2 h.4 in
+        let there = rw h.1 at stays in
+        let all = rw h.2 at h.3 in
+        let was = rw h.2 at h.4 in
         let x = slots_in (body_at A.schema i.0) in
         let y = slots_in (body_at B.schema (to i.0)) in
         let is = slots_mean es h.0 x y None 0 0 (slots_agree i.0 known.0 known.1 h.0 all there.0)
@@ -353,7 +353,7 @@ module _ (A B : LaidSchema) (old : IsWellMade A) (new : IsWellMade B) (conforms 
     mean (a_vector ds) t (Many kind) known h stays = (
       h.0,
       h.1,
-      each_means ds h.0 kind known.0 h.2 (subst (λ (u : Data). NamesStay A B u (Many kind) (a_vector ds)) h.1 stays),
+      each_means ds h.0 kind known.0 h.2 (rw h.1 at stays),
     )
     mean (a_vector ds) t (One kind) known h stays = absurd (no_vector t kind ds h)
     mean (a_member c d) t s known h stays = absurd (no_member t s c d h)
@@ -365,7 +365,7 @@ module _ (A B : LaidSchema) (old : IsWellMade A) (new : IsWellMade B) (conforms 
     member_means (a_member k d) t u c known h stays =
         let table : ℕ = h.1.0 in
         let code : member_by_code A u.0 k ≡ Some table = ap (member_by_code A u.0) h.0 ∙ h.1.1 in
-        let there = subst (λ (o : Option ℕ). IfSome o (λ n. NamesStay A B t (One (Table (id n))) d)) code stays in (
+        let there = rw code at stays in (
           h.0,
           (
             to table,
@@ -390,10 +390,10 @@ module _ (A B : LaidSchema) (old : IsWellMade A) (new : IsWellMade B) (conforms 
     parts_mean (more_parts d ds) ms s (f ∷ fs) (g ∷ gs) agree h stays =
         let one = mean d h.0 f.shape (part_shape A.schema s f.shape agree.0.part) h.2
         (of_member f d (get_member f.name ms) h.0 h.1 stays.0) in
-        let shaped = subst (λ (z : Shape). MeansAs B false h.0 z (carry A B d)) (sym agree.0.shape) one in (
+        let shaped = rw (← agree.0.shape) at one in (
           h.0,
           agree.0.member ∙ h.1,
-          subst (λ (e : Datum). MeansAs B false h.0 g.shape e) (inline_same s h.0 f.shape d agree.0.part h.2) shaped,
+          rw (inline_same s h.0 f.shape d agree.0.part h.2) at shaped,
           parts_mean ds ms s fs gs agree.1 h.3 stays.1,
         )
     parts_mean no_parts ms s [] (g ∷ gs) agree h stays = absurd agree
@@ -419,8 +419,8 @@ module _ (A B : LaidSchema) (old : IsWellMade A) (new : IsWellMade B) (conforms 
         (ends_next ms f g fs agree.0 whole) next led.1 m stays.1) v
         (λ t there m. mean v t f.shape agree.0.known m (of_member f v (member_called f.name ms) t there stays.0))
         (λ t u c there is m. member_means v t u c
-        (subst (λ (z : Shape). IsShape A.schema z) is agree.0.known).0 m
-        (subst (λ (z : Shape). NamesStay A B t z v) is (of_member f v (member_called f.name ms) t there stays.0))) h
+        (rw is at agree.0.known).0 m
+        (rw (← is) (of_member f v (member_called f.name ms) t there stays.0))) h
     slots_mean (absent_entry es) ms (f ∷ fs) [] before a b agree whole ends told led h stays = absurd agree
     slots_mean (present_entry v es) ms (f ∷ fs) [] before a b agree whole ends told led h stays = absurd agree
     slots_mean _ ms _ gs before a b agree whole ends told led h stays = absurd h
@@ -430,7 +430,7 @@ names_carry A B most t v old new conforms keeps stays means =
     let root = id A.schema.root in
     let here = mean A B old new conforms keeps v t (One (Table root)) old.declared.root means.0 stays in
     let same = (agrees A B old new conforms).root in (
-      subst (λ (n : ℕ). MeansAs B false t (One (Table (id n))) (carry A B v)) (sym same) here,
+      rw (← same) at here,
       (let deep = depth_carried A B v in omega (arith, deep, means.1)),
       (let many = cells_carried A B v in omega (arith, many, means.2)),
     )

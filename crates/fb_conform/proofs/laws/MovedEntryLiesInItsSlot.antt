@@ -1,7 +1,7 @@
 -- The entry of a slot that both layouts use lies, moved, in that slot there.
 use Rattle.std.proofs.Common.{◌≡◌, ℕ, ◌+◌, ◌-◌, ◌<◌, ◌⊎◌, inl, inr, ◌==◌, Bool, true, false, cond, List, ◌∷◌, Option}
 use Rattle.std.proofs.Common.{None}
-use Rattle.std.proofs.Common.{Some, slice_get, ℤ, refl, sym, ap, subst, ◌∙◌}
+use Rattle.std.proofs.Common.{Some, slice_get, ℤ, refl, ap, ◌∙◌}
 use Rattle.fb_schema.specs.declared.kinds.Base.{Base}
 use Rattle.fb_value.specs.Datum.{Datum, a_number, a_struct, a_member, an_unknown}
 use Rattle.fb_value.specs.Num.{Bytes, num}
@@ -110,7 +110,7 @@ module _ (A V W : LaidSchema) (v w : ℕ → ℕ) (m : Movement) (needs : Type 0
     none_present d entry = (entry.0, same ∙ entry.1, number_known d entry.0 entry.2)
 
     not_whole : (d : Datum) → d ≡ an_unknown c → IsWhole d → ⊥
-    not_whole d e whole = subst (λ (z : Datum). IsWhole z) e whole
+    not_whole d e whole = rw e at whole
 
     member_lost : (t p : ℕ) (d : Datum) → u < types_in A → member_by_code V (v u) c ≡ Some t
         → member_by_code W (w u) c ≡ None → Lies V b (part_place (member_part c t)) p d → Known d ≡ an_unknown c
@@ -130,10 +130,7 @@ module _ (A V W : LaidSchema) (v w : ℕ → ℕ) (m : Movement) (needs : Type 0
         → PresentEntry W b h (UnionAt zero_code c q here r) (Known d) (λ s q. Lies W b s q (Known d))
     unfolding OnlyAt
     union_present zero_code false o r d known is_here is_there zero_is whole only knows entry =
-        subst (λ (x : Option Place). PresentEntry W b h x (Known d) (λ s q. Lies W b s q (Known d)))
-        (sym (empty_union zero_code c q r))
-        (none_present d (subst (λ (x : Option Place). PresentEntry V b g x d (λ s q. Lies V b s q d))
-        (empty_union zero_code c q o) entry))
+        rw (empty_union zero_code c q r) (none_present d (rw (empty_union zero_code c q o) at entry))
     union_present true true None None d known is_here is_there zero_is whole only knows entry = none_present d entry
     union_present false true None None d known is_here is_there zero_is whole only knows entry = other_known d entry
     union_present true true None (Some z) d known is_here is_there zero_is whole only knows entry =
@@ -179,7 +176,7 @@ module _ (A V W : LaidSchema) (v w : ℕ → ℕ) (m : Movement) (needs : Type 0
     none_absent s (Some i) is number entry =
         let shape = number i is in
         by shape.0 (is_present b p k)
-        (subst (λ (z : StoredShape). AbsentEntry V b g (named_slot V b p k gs (moved_shape v z))) shape.1 entry)
+        (rw shape.1 at entry)
       where
         by : (base : Base) (here : Bool)
             → AbsentEntry V b g (cond here

@@ -12,7 +12,7 @@ use Rattle.fb_value.specs.Places.{next_required, slot_number, code_at}
 use Rattle.fb_value.specs.Rules.{Keeps, fault_by}
 use Rattle.fb_value.specs.Lies.{LiesInline, AbsentEntry, PresentEntry, Element, Lies, LiesItems, LiesSlots, LiesAt}
 use Rattle.fb_value.specs.Reads.{default_entry}
-use Rattle.fb_value.specs.OldSlots.{OnlyOldBehind, table_of, is_in_use}
+use Rattle.fb_value.specs.OldSlots.{OnlyOldBehind, is_in_use}
 use Rattle.fb_conform.specs.Carry.{new_slots}
 use Rattle.fb_conform.specs.Movement.{Movement, move, move_items, move_slots, unless_gone}
 use Rattle.fb_conform.proofs.laws.OldTypesByTheirNewNumbers.{moved_kind, moved_shape, moved_target, moved_sort}
@@ -110,15 +110,13 @@ module _ (A V W : LaidSchema) (v w : ℕ → ℕ) (m : Movement) (needs : Type 0
     refl,
     λ j y names. only_next A V W v w m needs ways b (record { sort = part_place (vector_part text_kind); at = p })
         j y only keeps
-        (subst (λ (Y : Target). slice_get (named_elements (moved_target v Y) (p + 4) (num b p 4)) j ≡ Some (Some y))
-        (same_target X text_part e) names),
+        (rw (same_target X text_part e) at names),
   )
   vector_only (table_kind t) p only keeps X e = (
     refl,
     λ j y names. only_next A V W v w m needs ways b
         (record { sort = part_place (vector_part (table_kind (v t))); at = p }) j y only keeps
-        (subst (λ (Y : Target). slice_get (named_elements (moved_target v Y) (p + 4) (num b p 4)) j ≡ Some (Some y))
-        (same_target X (table_part t) e) names),
+        (rw (same_target X (table_part t) e) at names),
   )
   vector_only _ p only keeps X e = cc
 
@@ -130,8 +128,7 @@ module _ (A V W : LaidSchema) (v w : ℕ → ℕ) (m : Movement) (needs : Type 0
       let sorts : part_place (table_part t) ≡ part_place X = ap (λ (z : Place). z.sort) leads in
       let same : table_part t ≡ X = cc in
       let there : p ≡ q = ap (λ (z : Place). z.at) leads in
-      subst (λ (z : ℕ). slot_number b z j ≡ 0) there
-      (only [] (member_part c t) p u j refl (subst (λ (Y : Target). table_of Y ≡ Some u) (sym same) is) free)
+      rw (← there) (only [] (member_part c t) p u j refl (rw (← same) at is) free)
   as_member c t p only (k ∷ path) X q u j leads is free = only (k ∷ path) X q u j leads is free
 
   -- slots that aren't in use are empty
@@ -171,7 +168,7 @@ module _ (A V W : LaidSchema) (v w : ℕ → ℕ) (m : Movement) (needs : Type 0
         let there = absent_used A V W v w m needs ways b p k g h gs hs next same passes.shape passes.known none from in
         let in_front : LiesSlots W b (h ∷ hs) (named_slot W b p k hs h.shape ∷ ys) (m.absent h ss) =
         rw (ways.absent h ss (same ∙ none))
-        (subst (λ (z : StoredShape). AbsentEntry W b h (named_slot W b p k hs z)) (sym passes.there) there, rest) in
+        (rw passes.there there, rest) in
         subst (λ (z : Bool). LiesSlots W b (h ∷ hs) (cond z None (named_slot W b p k hs h.shape) ∷ ys) (m.absent h ss))
         (sym used) in_front
 
@@ -271,12 +268,7 @@ module _ (A V W : LaidSchema) (v w : ℕ → ℕ) (m : Movement) (needs : Type 0
         sort = ref_place (table_part (v root));
         at = front;
       }) =
-      subst (λ (z : ℕ). OnlyFrom A V W v w m needs ways b (record {
-        sort = ref_place (table_part z);
-        at = front;
-      })) here
-      (λ path X q t k leads is free. only path X q t k leads is free) in
-      subst (λ (z : ℕ). LiesAt W b (ref_place (table_part z)) front (move m d)) (sym there)
-      (behind_moved A V W v w m needs ways b (ref_place (table_part root)) front d (move m d) known from
+      rw (← here) (λ path X q t k leads is free. only path X q t k leads is free) in
+      rw (← there) at (behind_moved A V W v w m needs ways b (ref_place (table_part root)) front d (move m d) known from
       (λ s q known2 below at. lies_moved s q d known2 below whole at)
       (rw (← here) lies))

@@ -42,7 +42,7 @@ pub present_no_code : (L : LaidSchema) (f : DeclaredField) (s : Shape) (o : Opti
     → PresentMeans (slot_of L.schema f) s o d own member → f.shape ≡ s → is_code false s ≡ true → ⊥
 present_no_code L f (One (Code u)) None d own member h is e =
     let given : default_of (f.deprecated || f.optional) f.default (stored_shape L.schema (One (Code u))) ≡ Some h.0 =
-    subst (λ (z : Shape). default_of (f.deprecated || f.optional) f.default (stored_shape L.schema z) ≡ Some h.0) is h.1
+    rw is at h.1
     in
     let none : is_code false (One (Code u)) ≡ false =
     code_default L.schema h.0 f.default false (f.deprecated || f.optional) (One (Code u)) given in
@@ -71,7 +71,7 @@ module _ (A B : LaidSchema) (old : IsWellMade A) (new : IsWellMade B) (conforms 
     pub of_union : (u : TypeId) → g.deprecated ≡ false → g.shape ≡ One (Union u) → code ≡ c
 
   union_known : (s : Shape) (u : TypeId) → IsShape A.schema s → s ≡ One (Code u) → u.0 < types_in A
-  union_known s u known is = (subst (λ (z : Shape). IsShape A.schema z) is known).0
+  union_known s u known is = (rw is at known).0
 
   new_code : (c : ℕ) → CodeAt A.schema ms f f.deprecated f.shape a c
       → (is_code f.deprecated f.shape ≡ true → CodeStays A B f.shape (get_member f.name ms)) → NewCode c
@@ -166,16 +166,10 @@ module _ (A B : LaidSchema) (old : IsWellMade A) (new : IsWellMade B) (conforms 
               → PresentMeans (slot_of B.schema g) g.shape (member_called g.name ms) (carry A B d)
               (λ t. MeansAs B false t g.shape (carry A B d)) (λ t u. MemberMeans B false t u n.code (carry A B d))
           present used =
-              subst (λ (o : Option Data). PresentMeans (slot_of B.schema g) g.shape o (carry A B d)
-              (λ t. MeansAs B false t g.shape (carry A B d)) (λ t u. MemberMeans B false t u n.code (carry A B d)))
-              (sym called_same)
-              (subst (λ (z : Shape). PresentMeans (slot_of B.schema g) z (member_called f.name ms) (carry A B d)
-              (λ t. MeansAs B false t z (carry A B d)) (λ t u. MemberMeans B false t u n.code (carry A B d)))
-              (sym agree.shape)
+              rw called_same (rw (← agree.shape) at
               (present_step A B ms f g d h.0 n.code f.shape (member_called f.name ms) (agree.if_absent used) own
-              (λ t u there is m. subst (λ (c : ℕ). MemberMeans B false t (to_new A B u.0) c (carry A B d))
-              (sym (n.of_union (id (to_new A B u.0)) used (agree.shape ∙ ap (to_shape (to_new A B)) is)))
-              (member t u h.0 there is m))
+              (λ t u there is m. rw (n.of_union (id (to_new A B u.0)) used
+              (agree.shape ∙ ap (to_shape (to_new A B)) is)) (member t u h.0 there is m))
               h.3))
 
           by : (x : Bool) → g.deprecated ≡ x

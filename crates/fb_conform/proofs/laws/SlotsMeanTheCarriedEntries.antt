@@ -1,6 +1,6 @@
 -- What an object's members say of a slot, of a field that stays and of a new one.
 use Rattle.std.proofs.Common.{◌≡◌, ℕ, ◌||◌, Bool, true, false, List, [], ◌∷◌, map}
-use Rattle.std.proofs.Common.{Option, None, Some, option_map, ℤ, refl, sym, ap, subst, ◌∙◌}
+use Rattle.std.proofs.Common.{Option, None, Some, option_map, ℤ, refl, sym, ap, ◌∙◌}
 use Rattle.serde_json.specs.Data.{Data, Members}
 use Rattle.serde_json.specs.Find.{get_member}
 use Rattle.fb_schema.specs.declared.kinds.TypeId.{TypeId}
@@ -58,8 +58,7 @@ pub told_union : (S : DeclaredSchema) (before : Option DeclaredField) (a b : ℕ
     → s ≡ One (Union u) → b ≡ a
 told_union S before a b gone s u told led used is =
     told_before S before a b u.0 told
-    (subst (λ (x : Bool). AfterCode (option_map (slot_of S) before) (stored_shape S (One (Union u))) x) used
-    (subst (λ (z : Shape). AfterCode (option_map (slot_of S) before) (stored_shape S z) gone) is led))
+    (rw used at (rw is at led))
 
 -- ---- absent entries
 

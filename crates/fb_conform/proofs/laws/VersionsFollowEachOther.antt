@@ -1,6 +1,6 @@
 -- Chains of schemas.
 use Rattle.std.proofs.Common.{◌≡◌, ℕ, ◌<◌, Bool, true, false, IsTrue, get_or, Contains, List, [], ◌∷◌, Option, None}
-use Rattle.std.proofs.Common.{Some, slice_get, ℤ, refl, sym, ap, subst, ◌∙◌}
+use Rattle.std.proofs.Common.{Some, slice_get, ℤ, refl, sym, ap, ◌∙◌}
 use Rattle.std.specs.Option.{unwrap_or}
 use Rattle.std.proofs.lemmas.List.Elements.{All-contains}
 use Rattle.fb_value.specs.Datum.{Datum, a_number, a_text, a_vector, a_struct, a_table, a_member, an_unknown, Parts}
@@ -87,7 +87,7 @@ module _ (A B C : LaidSchema) (old : IsWellMade A) (mid : IsWellMade B) (first :
       let i = second (TypeGone (record { 0 = h.0 })) (twin_within A.schema B.schema t h.0 h.1) in
       let same : i.0 ≡ w = one_twin A.schema C.schema t i.0 w (sym (twin_on A.schema B.schema C.schema t h.0 h.1) ∙ i.1)
       twins in
-      record { type = h.0; before = h.1; after = subst (λ (z : ℕ). Twins B.schema C.schema h.0 z) same i.1 }
+      record { type = h.0; before = h.1; after = rw same at i.1 }
 
   -- the slot between
   record SlotBetween (t k : ℕ) (f h : DeclaredField) : Type 0 where

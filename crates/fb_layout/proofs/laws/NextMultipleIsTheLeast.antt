@@ -1,6 +1,6 @@
 -- The least multiple, computed.
 use Rattle.std.proofs.Common.{◌≡◌, ◌<◌, ◌≤◌, ◌+◌, ◌*◌, ◌-◌, ◌/◌, ◌%◌, ℕ, zero, suc, Bool, true, false, nat_le, refl}
-use Rattle.std.proofs.Common.{sym, ap, ◌∙◌, subst, arith}
+use Rattle.std.proofs.Common.{sym, ap, ◌∙◌, arith}
 use Rattle.std.specs.Int.{next_multiple_of}
 use Rattle.std.proofs.lemmas.Bool.Decides.{nat_tests}
 use Rattle.std.proofs.Math.Nat.{mod-lt, mod_self, mod-eq_of_lt, div-add-mod, mul-le-mul_right}
@@ -44,10 +44,10 @@ next-least a n positive = by (n % a) refl
         let none : (a - n % a) % a ≡ 0 =
         ap (λ x. (a - x) % a) e ∙ ap (λ x. x % a) (let whole : a - 0 ≡ a = omega arith in whole) ∙ mod_self a in
         let is : a * (n / a) + 0 ≡ n = ap (λ x. a * (n / a) + x) (sym e) ∙ div-add-mod n a in
-        subst (λ (x : ℕ). IsLeastMultiple a n (n + x)) (sym none) (itself a (n / a) n is)
+        rw none (itself a (n / a) n is)
     by (suc r) e =
-        let below : suc r < a = subst (λ (x : ℕ). x < a) e (mod-lt n positive) in
+        let below : suc r < a = rw (← e) (mod-lt n positive) in
         let less : a - suc r < a = omega (below, arith) in
         let rest : (a - n % a) % a ≡ a - suc r = ap (λ x. (a - x) % a) e ∙ mod-eq_of_lt less in
         let is : a * (n / a) + suc r ≡ n = ap (λ x. a * (n / a) + x) (sym e) ∙ div-add-mod n a in
-        subst (λ (x : ℕ). IsLeastMultiple a n (n + x)) (sym rest) (behind a (n / a) r n is below)
+        rw rest (behind a (n / a) r n is below)

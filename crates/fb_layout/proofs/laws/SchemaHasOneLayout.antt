@@ -3,7 +3,7 @@ use Rattle.std.proofs.Common.{◌≡◌, ◌<◌, ◌≤◌, ◌+◌, ℕ, zero,
 use Rattle.std.proofs.Common.{Option, Some, slice_get, slice_index_or, refl, sym, ap, ◌∙◌, subst, arith}
 use Rattle.std.specs.Option.{unwrap_or}
 use Rattle.std.proofs.lemmas.List.{ext_get_or}
-use Rattle.fb_schema.specs.Schema.{DeclaredField, DeclaredBody, DeclaredSchema, body_at, parts_in, force_align_in}
+use Rattle.fb_schema.specs.Schema.{DeclaredField, DeclaredSchema, body_at}
 use Rattle.fb_schema.specs.Schema.{is_struct}
 use Rattle.fb_schema.specs.WellDeclared.{IsPart, IsDeclared}
 use Rattle.fb_layout.specs.Sizes.{IsLeastMultiple}
@@ -20,10 +20,8 @@ use Rattle.fb_layout.proofs.sizes.StructsAreDeclared.{struct_told, body_told}
 -- the least multiple is one number
 one-multiple : (a n m k : ℕ) → IsLeastMultiple a n m → IsLeastMultiple a n k → m ≡ k
 one-multiple a n m k x y =
-    let below : m ≤ k = subst (λ (z : ℕ). m ≤ z) (sym y.multiple.1)
-    (x.least y.multiple.0 (subst (λ (z : ℕ). n ≤ z) y.multiple.1 y.above)) in
-    let above : k ≤ m = subst (λ (z : ℕ). k ≤ z) (sym x.multiple.1)
-    (y.least x.multiple.0 (subst (λ (z : ℕ). n ≤ z) x.multiple.1 x.above)) in
+    let below : m ≤ k = rw y.multiple.1 (x.least y.multiple.0 (rw (← y.multiple.1) y.above)) in
+    let above : k ≤ m = rw x.multiple.1 (y.least x.multiple.0 (rw (← x.multiple.1) x.above)) in
     omega (arith, below, above)
 
 abbrev AreSame : List StructLayout → List StructLayout → ℕ → Type 0
@@ -43,11 +41,11 @@ one-order S a b s same p (f ∷ fs) parts (o ∷ os) (q ∷ qs) end last x y =
     let kind = kind_in (stored_shape S f.shape) in
     let own = part-size S a b s same f.shape (parts 0 f refl) in
     let first : o ≡ q = one-multiple (align_of (with_structs S b) kind) p o q
-    (subst (λ (n : ℕ). IsLeastMultiple n p o) own.1 x.0) y.0 in
+    (rw (← own.1) x.0) y.0 in
     let next : o + size_of (with_structs S a) kind ≡ q + size_of (with_structs S b) kind =
     ap (λ n. n + size_of (with_structs S a) kind) first ∙ ap (λ n. q + n) own.0 in
     let rest = one-order S a b s same (q + size_of (with_structs S b) kind) fs (λ k g e. parts (suc k) g e) os qs end
-    last (subst (λ (n : ℕ). StandInOrder (with_structs S a) n (kinds_of S fs) os end) next x.1) y.1 in
+    last (rw (← next) x.1) y.1 in
     (ap (λ n. n ∷ os) first ∙ ap (λ r. q ∷ r) rest.0, rest.1)
 
 -- two structs of the same fields
@@ -61,8 +59,7 @@ one-struct S a b s same fs parts force r q x y =
     ∙ sym y.aligned in
     let size : r.size ≡ q.size =
     one-multiple q.align y.end r.size q.size
-    (subst (λ (n : ℕ). IsLeastMultiple q.align n r.size) order.1
-    (subst (λ (n : ℕ). IsLeastMultiple n x.end r.size) align x.sized)) y.sized in
+    (rw (← order.1) (rw (← align) x.sized)) y.sized in
     ap (λ n. record { size = n; align = r.align; offsets = r.offsets }) size
     ∙ ap (λ n. record { size = q.size; align = n; offsets = r.offsets }) align
     ∙ ap (λ os. record { size = q.size; align = q.align; offsets = os }) order.0
@@ -76,10 +73,8 @@ same-struct S a b declared x y s same h =
     let body = body_told S declared s at in
     one-struct S a b s same at.fs (λ k f e. (body.parts k f e).0) at.force (slice_index_or a s no_struct)
     (slice_index_or b s no_struct)
-    (subst (λ (c : DeclaredBody). IsStructLaid (with_structs S a) (kinds_of S (parts_in c)) (force_align_in c)
-    (slice_index_or a s no_struct)) at.at (x.structs s h))
-    (subst (λ (c : DeclaredBody). IsStructLaid (with_structs S b) (kinds_of S (parts_in c)) (force_align_in c)
-    (slice_index_or b s no_struct)) at.at (y.structs s h))
+    (rw at.at at (x.structs s h))
+    (rw at.at at (y.structs s h))
 
 true-told : (b : Bool) → b ≡ true → IsTrue b
 true-told true e = refl
@@ -116,12 +111,11 @@ pub no_layout : (S : DeclaredSchema) (f : LayoutFault) → Refuses S f → (L : 
     → ¬ (IsWellMade L)
 no_layout S f refused L e made =
     let sized : IsSized (with_structs S refused.layout.structs) =
-    subst (λ (T : DeclaredSchema). IsSized (with_structs T refused.layout.structs)) refused.schema refused.sized in
-    let own : IsSized (with_structs S L.structs) = subst (λ (T : DeclaredSchema). IsSized (with_structs T L.structs)) e
-    made.sized in
+    rw (← refused.schema) refused.sized in
+    let own : IsSized (with_structs S L.structs) = rw (← e) made.sized in
     let declared : IsDeclared S = subst IsDeclared e made.declared in
     let structs = one_sizing S refused.layout.structs L.structs declared sized own in
     let schema : refused.layout.schema ≡ L.schema = refused.schema ∙ sym e in
     let same : refused.layout ≡ L = ap (λ T. with_structs T refused.layout.structs) schema
     ∙ ap (with_structs L.schema) structs in
-    no-fault L made f (subst (λ (M : LaidSchema). Fails M f) same refused.fails)
+    no-fault L made f (rw (← same) refused.fails)

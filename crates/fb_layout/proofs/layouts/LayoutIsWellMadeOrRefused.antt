@@ -1,6 +1,6 @@
 -- What is computed for a schema is its layout, or the first rule that a type fails.
 use Rattle.std.proofs.Common.{◌≡◌, ◌<◌, ◌≤◌, ◌+◌, ℕ, zero, suc, inl, inr, Bool, true, false, List, [], ◌∷◌, length, map}
-use Rattle.std.proofs.Common.{None, Result, Ok, Err, slice_get, slice_index_or, nat_lt, nat_le, refl, sym, ap, ◌∙◌}
+use Rattle.std.proofs.Common.{None, Ok, Err, slice_get, slice_index_or, nat_lt, nat_le, refl, sym, ap, ◌∙◌}
 use Rattle.std.proofs.Common.{subst, arith}
 use Rattle.std.specs.Option.{unwrap_or}
 use Rattle.std.proofs.lemmas.Bool.Decides.{nat_tests}
@@ -30,15 +30,13 @@ known-is S declared = known-exact S [] S.types tt (sizable S declared)
 
 outcome : (S : DeclaredSchema) → IsDeclared S
     → OfTypes (exact S) 0 (length S.types) (tables_from S (known_of S) 0 S.types)
-outcome S declared = subst (λ (k : Known). OfTypes (exact S) 0 (length S.types) (tables_from S k 0 S.types))
-    (sym (known-is S declared)) (all_types S (exact S).structs (exact_sized S declared))
+outcome S declared = rw (known-is S declared) (all_types S (exact S).structs (exact_sized S declared))
 
 pub refused_for : (S : DeclaredSchema) → IsDeclared S → (f : LayoutFault) → tables_from S (known_of S) 0 S.types ≡ Err f
     → Refuses S f
 refused_for S declared f e =
     let told : OfTypes (exact S) 0 (length S.types) (Err f) =
-    subst (λ (r : Result (List TableSizes) LayoutFault). OfTypes (exact S) 0 (length S.types) r) e
-    (outcome S declared) in
+    rw e at (outcome S declared) in
     record {
       layout = exact S;
       schema = refl;
@@ -91,7 +89,7 @@ struct-small-at S none s = by (nat_le (struct_at (exact S) s).size 65535) refl (
     by false e false t =
         let past = without s (length S.types) t in
         let entry = no-entry (exact S).structs s (omega (arith, long, past)) in
-        subst (λ (r : StructLayout). r.size ≤ 65535) (sym entry) (omega arith)
+        rw entry (omega arith)
 
 table-narrow-at : (S : DeclaredSchema)
     → ((f : LayoutFault) → Fails (exact S) f → 0 ≤ type_number f → type_number f < 0 + length S.types → ⊥) → (t : ℕ)
@@ -157,8 +155,7 @@ pub made_for : (S : DeclaredSchema) → IsDeclared S → (tables : List TableSiz
     → tables_from S (known_of S) 0 S.types ≡ Ok tables → IsMade S tables
 made_for S declared tables e =
     let told : OfTypes (exact S) 0 (length S.types) (Ok tables) =
-    subst (λ (r : Result (List TableSizes) LayoutFault). OfTypes (exact S) 0 (length S.types) r) e
-    (outcome S declared) in
+    rw e at (outcome S declared) in
     let small = struct-small-at S told.2 in
     let same : exact S ≡ layout_known S (known_of S) =
     ap (with_structs S) (sym (ap (map (λ s. unwrap_or s no_struct)) (known-is S declared)
@@ -168,6 +165,5 @@ made_for S declared tables e =
     in
     record {
       made = subst IsWellMade same made;
-      tables = subst (λ (L : LaidSchema). (t : ℕ) → slice_index_or tables t no_table ≡ table_at L t) same
-          (table-sizes-at S tables told.0 told.1);
+      tables = rw (← same) (table-sizes-at S tables told.0 told.1);
     }

@@ -44,13 +44,13 @@ OfTypes L t n (Err f) = Fails L f × (t ≤ type_number f)
 no-fault : (L : LaidSchema) (t : ℕ) → (struct_at L t).size ≤ 65535 → widest L t ≤ 65535 → length (slots_of L t) ≤ 32765
     → (f : LayoutFault) → Fails L f → type_number f ≡ t → ⊥
 no-fault L t small narrow few (StructTooBig s) fails is =
-    let big : 65535 < (struct_at L t).size = subst (λ (n : ℕ). 65535 < (struct_at L n).size) is fails in
+    let big : 65535 < (struct_at L t).size = rw (← is) fails in
     omega (arith, big, small)
 no-fault L t small narrow few (TableTooWide u) (inl wide) is =
-    let over : 65535 < widest L t = subst (λ (n : ℕ). 65535 < widest L n) is wide in
+    let over : 65535 < widest L t = rw (← is) wide in
     omega (arith, over, narrow)
 no-fault L t small narrow few (TableTooWide u) (inr many) is =
-    let over : 32765 < length (slots_of L t) = subst (λ (n : ℕ). 32765 < length (slots_of L n)) is many in
+    let over : 32765 < length (slots_of L t) = rw (← is) many in
     omega (arith, over, few)
 no-fault L t small narrow few Memory fails is = fails
 
@@ -82,7 +82,7 @@ plain-type L sized t body e none other =
     let slots = no-slots L t body e none in
     let few = few-slots L t slots in
     let entry : struct_at L t ≡ no_struct = sized.others t (ap is_struct e ∙ other) in
-    let small : (struct_at L t).size ≤ 65535 = subst (λ (r : StructLayout). r.size ≤ 65535) (sym entry) (omega arith) in
+    let small : (struct_at L t).size ≤ 65535 = rw entry (omega arith) in
     (no-table-at L t slots, no-fault L t small few.0 few.1)
 
 -- a struct, and whether it is small
@@ -130,7 +130,7 @@ table-type S structs sized t fs e few fewness narrow narrowness = by few fewness
     by true f true w =
         let entry : struct_at L t ≡ no_struct = sized.others t (ap is_struct e) in
         let small : (struct_at L t).size ≤ 65535 =
-        subst (λ (r : StructLayout). r.size ≤ 65535) (sym entry) (omega arith) in
+        rw entry (omega arith) in
         let less : widest L t < 65536 =
         subst (λ (s : TableSizes). s.widest < 65536) taken (small-told (table_taken L fs).widest w) in
         let slots = few-told (length fs) f in
@@ -147,14 +147,11 @@ one-type : (S : DeclaredSchema) (structs : List StructLayout) → IsSized (with_
     → OfType (with_structs S structs) t (type_sizes S (map if_small structs) t body)
 one-type S structs sized t (table_body fs) e =
     let L = with_structs S structs in
-    subst (λ (o : Option TableSizes). OfType L t (ok_or o (TableTooWide (record { 0 = t }))))
-    (sym (table_small S structs fs))
-    (table-type S structs sized t fs e (nat_le (length fs) 32765) refl (nat_lt (table_taken L fs).widest 65536) refl)
+    rw (table_small S structs fs) (table-type S structs sized t fs e (nat_le (length fs) 32765) refl
+    (nat_lt (table_taken L fs).widest 65536) refl)
 one-type S structs sized t (struct_body fs force) e =
     let L = with_structs S structs in
-    subst (λ (o : Option StructLayout). OfType L t
-    (option_map_or (λ s. Ok no_table) o (Err (StructTooBig (record { 0 = t }))))) (sym (struct_small structs t))
-    (struct-type S structs t fs force e (nat_lt (struct_at L t).size 65536) refl)
+    rw (struct_small structs t) (struct-type S structs t fs force e (nat_lt (struct_at L t).size 65536) refl)
 one-type S structs sized t (enum_body base flags values) e =
     plain-type (with_structs S structs) sized t (enum_body base flags values) e refl refl
 one-type S structs sized t (union_body members) e = plain-type (with_structs S structs) sized t (union_body members) e
@@ -195,8 +192,7 @@ types-from : (S : DeclaredSchema) (structs : List StructLayout) → IsSized (wit
     → ((k : ℕ) (type : DeclaredType) → slice_get types k ≡ Some type → body_at S (t + k) ≡ type.body)
     → OfTypes (with_structs S structs) t (length types) (tables_from S (map if_small structs) t types)
 types-from S structs sized t [] bodies =
-    subst (λ (r : Result (List TableSizes) LayoutFault). OfTypes (with_structs S structs) t 0 r)
-    (sym (tables_from-nil S (map if_small structs) t))
+    rw (tables_from-nil S (map if_small structs) t)
     (refl, λ k less. absurd (omega (arith, less)), λ f fails above less. omega (arith, above, less))
 types-from S structs sized t (type ∷ types) bodies =
     let L = with_structs S structs in
@@ -204,8 +200,7 @@ types-from S structs sized t (type ∷ types) bodies =
     ∙ bodies 0 type refl) in
     let behind = types-from S structs sized (t + 1) types
     (λ k x e. ap (body_at S) (let sum : (t + 1) + k ≡ t + suc k = omega arith in sum) ∙ bodies (suc k) x e) in
-    subst (λ (r : Result (List TableSizes) LayoutFault). OfTypes L t (suc (length types)) r)
-    (sym (tables_from-cons S (map if_small structs) t type types))
+    rw (tables_from-cons S (map if_small structs) t type types)
     (joined L t (length types) (type_sizes S (map if_small structs) t type.body)
     (tables_from S (map if_small structs) (t + 1) types) own behind)
 

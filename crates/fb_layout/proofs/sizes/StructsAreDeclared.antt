@@ -1,9 +1,9 @@
 -- The struct of a number, and what is declared of it.
-use Rattle.std.proofs.Common.{◌≡◌, ℕ, IsTrue, List, Option, None, Some, slice_get, refl, ap, ◌∙◌, subst}
+use Rattle.std.proofs.Common.{◌≡◌, ℕ, IsTrue, List, Option, None, Some, slice_get, refl, ap, ◌∙◌}
 use Rattle.std.proofs.lemmas.Bool.{false≢true}
 use Rattle.fb_schema.specs.Schema.{DeclaredField, DeclaredBody, table_body, struct_body, enum_body, union_body}
 use Rattle.fb_schema.specs.Schema.{DeclaredType, DeclaredSchema, body_in, body_at, is_struct}
-use Rattle.fb_schema.specs.WellDeclared.{IsStructBody, IsBody, IsDeclared}
+use Rattle.fb_schema.specs.WellDeclared.{IsStructBody, IsDeclared}
 
 -- the type of a struct's number
 pub record IsStructAt (S : DeclaredSchema) (s : ℕ) : Type 0 where
@@ -31,4 +31,4 @@ pub struct_told : (S : DeclaredSchema) (s : ℕ) → IsTrue (is_struct (body_at 
 struct_told S s h = struct_found S s (slice_get S.types s) refl h
 
 pub body_told : (S : DeclaredSchema) → IsDeclared S → (s : ℕ) (at : IsStructAt S s) → IsStructBody S s at.fs at.force
-body_told S declared s at = subst (λ (b : DeclaredBody). IsBody S s b) at.body (declared.bodies s at.type at.found)
+body_told S declared s at = rw at.body at (declared.bodies s at.type at.found)

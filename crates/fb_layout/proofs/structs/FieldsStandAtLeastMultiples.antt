@@ -1,7 +1,7 @@
 -- Each field of a declared struct stands at the least multiple of its alignment behind the one before it, and the
 -- struct ends at the least multiple of its own: the exact sizes are sizes of the schema.
 use Rattle.std.proofs.Common.{◌≡◌, ◌<◌, ◌≤◌, ◌+◌, ℕ, zero, suc, max, false, IsTrue, List, [], ◌∷◌, length, map, Option}
-use Rattle.std.proofs.Common.{None, Some, slice_get, slice_index, slice_index_or, refl, sym, ap, ◌∙◌, subst, arith}
+use Rattle.std.proofs.Common.{None, Some, slice_get, slice_index, slice_index_or, refl, sym, ap, ◌∙◌, arith}
 use Rattle.std.specs.Int.{next_multiple_of}
 use Rattle.std.specs.Option.{ForSome, unwrap_or}
 use Rattle.std.proofs.lemmas.Bool.{false≢true}
@@ -28,7 +28,7 @@ use Rattle.fb_layout.proofs.structs.StructNeedsOnlyLowerOnes.{exact-length, belo
 -- ---- each struct and its fields are sizable
 
 force-positive : (force : Option ℕ) → ForSome force IsForceAlign → ForSome force (λ a. 0 < a)
-force-positive force h a e = let power = h a e in subst (λ (n : ℕ). 0 < n) (sym power.2) (pow_pos power.0)
+force-positive force h a e = let power = h a e in rw power.2 (pow_pos power.0)
 
 body-sizable : (S : DeclaredSchema) (t : ℕ) (body : DeclaredBody) → IsBody S t body → IsSizable body
 body-sizable S t (struct_body fs force) is = (is.some, force-positive force is.aligned)
@@ -121,7 +121,7 @@ forced S declared s h a e =
     let are = declared.aligned.1 in
     let natural = natural-is S declared aligns s at (λ j below struct. aligned S declared aligns are j struct) in
     let enough = are.forced s h a (ap force_align_in at.at ∙ e) in
-    subst (λ (n : ℕ). n ≤ a) (sym natural) enough
+    rw natural enough
 
 struct-laid : (S : DeclaredSchema) → IsDeclared S → (s : ℕ) → IsTrue (is_struct (body_at S s))
     → IsStructLaid (exact S) (parts_of (exact S) s) (force_align_in (body_at S s)) (struct_at (exact S) s)
@@ -136,11 +136,9 @@ struct-laid S declared s h =
       forced = forced S declared s h;
       aligned = refl;
       sized = next-least (unwrap_or at.force (natural_align L kinds)) (end_from L 0 kinds)
-          (subst (λ (r : StructLayout). 0 < r.align) (at_entry S declared s at) (entry-positive S declared s at));
+          (rw (at_entry S declared s at) at (entry-positive S declared s at));
     } in
-    subst (λ (b : DeclaredBody). IsStructLaid L (kinds_of S (parts_in b)) (force_align_in b) (struct_at L s))
-    (sym at.at)
-    (subst (λ (r : StructLayout). IsStructLaid L kinds at.force r) (sym (at_entry S declared s at)) laid)
+    rw at.at (rw (at_entry S declared s at) laid)
   where
     positive-at : (structs : List StructLayout) → ArePositive structs → (i : ℕ)
         → 0 < (slice_index_or structs i no_struct).align

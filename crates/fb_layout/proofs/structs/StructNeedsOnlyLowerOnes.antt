@@ -1,6 +1,6 @@
 -- Where each type's entry stands among the exact sizes, and that a struct needs only those below it.
 use Rattle.std.proofs.Common.{◌≡◌, ◌<◌, ◌≤◌, ◌+◌, ◌++◌, ℕ, zero, suc, max, List, [], ◌∷◌, length, take, Option, Some}
-use Rattle.std.proofs.Common.{slice_get, slice_index_or, refl, sym, ap, ◌∙◌, subst, arith}
+use Rattle.std.proofs.Common.{slice_get, slice_index_or, refl, sym, ap, ◌∙◌, arith}
 use Rattle.std.specs.Int.{next_multiple_of}
 use Rattle.std.specs.Option.{unwrap_or}
 use Rattle.std.proofs.lemmas.List.{get_or_append_left, get_or_push, length_push, length-take-le}
@@ -74,7 +74,7 @@ below-same : (S : DeclaredSchema) (t j : ℕ) → t ≤ length S.types → j < t
 below-same S t j within less =
     let long : length (below S t) ≡ t = let sum = exact-length S [] (take t S.types) in let taken =
     length-take-le t S.types within in omega (arith, sum, taken) in
-    sym (exact-below S [] S.types t j no_struct (subst (λ (n : ℕ). j < n) (sym long) less))
+    sym (exact-below S [] S.types t j no_struct (rw long less))
 
 -- ---- two lists of sizes that are the same below a number
 

@@ -67,7 +67,7 @@ put-swap k l d e (member m f ms) less =
         ap (put k d) (put-before l m e f ms b) ∙ put-before k l d e (member m f ms) less
         ∙ sym (first (nat_list_cmp_total.trans k l m less b) ∙ ap (member k d) (put-before l m e f ms b))
     go o Equal a b ih =
-        let is = subst (λ n. Comes k Less n) (exact_bytes l m b) less in
+        let is = rw (exact_bytes l m b) at less in
         ap (put k d) (put-at l m e f ms b) ∙ put-before k m d e ms is
         ∙ sym (first is ∙ ap (member k d) (put-at l m e f ms b))
     go Less Greater a b ih =

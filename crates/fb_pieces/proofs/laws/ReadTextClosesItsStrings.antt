@@ -90,11 +90,11 @@ closes_plain x xs q b h = go (is_operator x) (is_space x) (x == 34) (x == 92) q 
 
 closes_quote : (x : ℕ) (xs : List ℕ) → (x == 34) ≡ true → Closes between xs → Closes in_string (x ∷ xs)
 unfolding lex mode_after
-closes_quote x xs q h = subst (λ y. Closes in_string (y ∷ xs)) (sym (eqb-true x 34 q)) h
+closes_quote x xs q h = rw (eqb-true x 34 q) h
 
 closes_backslash : (x : ℕ) (xs : List ℕ) → (x == 92) ≡ true → Closes in_escape xs → Closes in_string (x ∷ xs)
 unfolding lex mode_after
-closes_backslash x xs q h = subst (λ y. Closes in_string (y ∷ xs)) (sym (eqb-true x 92 q)) h
+closes_backslash x xs q h = rw (eqb-true x 92 q) h
 
 closes_escape : (x : ℕ) (xs : List ℕ) → Closes in_string xs → Closes in_escape (x ∷ xs)
 unfolding lex mode_after

@@ -138,7 +138,7 @@ run_of levels text ds r =
     let closed = run-closed (suc levels) text (array ds) r.read in
     let lexed = lex-cut text (93 ∷ []) between (may_cut (mode_after between text) (93 ∷ []) closed refl) in
     let a = items_of_array v.was ds (punctuate fresh (lex between (text ++ 93 ∷ []))) v.data_of v.spells.spelled in
-    let deep : tree.depth (json.array a.0) ≤ suc levels = subst (λ j. tree.depth j ≤ suc levels) a.1 v.spells.shallow in
+    let deep : tree.depth (json.array a.0) ≤ suc levels = rw a.1 at v.spells.shallow in
     let end = inner-append a.0 json.no_items ∙ ap items_tokens (append-no_items a.0) in
     record {
       was = a.0;
@@ -254,7 +254,7 @@ element_is_read_without_brackets_shown levels e d read =
       was = only.0;
       spells = record {
         spelled = run.spelled ∙ ap inner only.1 ∙ append-nil (json_tokens only.0);
-        shallow = let deep = subst (λ js. tree.items_depth js ≤ levels) only.1 run.shallow in omega arith;
+        shallow = let deep = rw only.1 at run.shallow in omega arith;
       };
       data_of = only.2;
     })

@@ -124,7 +124,7 @@ run_of levels text ds r =
     let closed = member-run-closed (suc levels) text (object ds) r.read in
     let lexed = lex-cut text (125 ∷ []) between (may_cut (mode_after between text) (125 ∷ []) closed refl) in
     let a = members_of_object v.was ds (punctuate fresh (lex between (text ++ 125 ∷ []))) v.data_of v.spells.spelled in
-    let deep : tree.depth (json.object a.0) ≤ suc levels = subst (λ j. tree.depth j ≤ suc levels) a.1 v.spells.shallow
+    let deep : tree.depth (json.object a.0) ≤ suc levels = rw a.1 at v.spells.shallow
     in
     let end = inner-append a.0 json.no_members ∙ ap members_tokens (append-no_members a.0) in
     record {

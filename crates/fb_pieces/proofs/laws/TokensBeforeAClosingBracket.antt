@@ -55,8 +55,7 @@ module _ (close : Token) (closes : Closes close) where
   before_close [] after_key good = absurd (false≢true (at_close after_key good))
   before_close (token t ∷ ls) p good =
       token_good p t (begins_colon ls) (λ n. punctuate n ls) (λ n. punctuate n (ls ++ token close ∷ []))
-      (subst (λ b. AreGood (place_token p t b (λ n. punctuate n (ls ++ token close ∷ []))))
-      (begins_colon-append ls (token close ∷ []) refl) good) (λ n g. before_close ls n g)
+      (rw (← (begins_colon-append ls (token close ∷ []) refl)) good) (λ n g. before_close ls n g)
   before_close (comma ∷ ls) fresh good = absurd (false≢true good.0)
   before_close (comma ∷ ls) after_value good = before_close ls after_comma good
   before_close (comma ∷ ls) after_comma good = absurd (false≢true good.0)

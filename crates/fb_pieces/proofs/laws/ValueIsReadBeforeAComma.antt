@@ -1,5 +1,5 @@
 -- Where a value stands before a comma of an array, its tokens are those of its text alone.
-use Rattle.std.proofs.Common.{◌≡◌, ℕ, suc, Bool, true, false, cond, List, [], ◌∷◌, ◌++◌, refl, sym, ap, ◌∙◌, subst}
+use Rattle.std.proofs.Common.{◌≡◌, ℕ, suc, Bool, true, false, cond, List, [], ◌∷◌, ◌++◌, refl, sym, ap, ◌∙◌}
 use Rattle.std.proofs.Common.{append_assoc}
 use Rattle.std.specs.Prelude.{⊤}
 use Rattle.std.proofs.lemmas.Bool.{true≢false, false≢true}
@@ -51,8 +51,7 @@ made : (B : Bool) (T : Token) (N p : Place) (t : Token) (b : Bool) (k : Place �
     → begins t ≡ begins T → allowed p T ≡ B → is_good u ≡ true → place_token p t b k ≡ u ∷ ts → Placed p t b k u ts
 made B T N p t b k u ts pl nx op be al g e =
     let i = if_inv B T k N u ts g (sym (pl k) ∙ e) in
-    subst (λ v. Placed p t b k v ts) i.1
-    (record {
+    rw (← i.1) (record {
       same = λ l. pl l ∙ ap (λ x. if_allowed x T l N) i.0 ∙ ap (λ q. T ∷ l q) (sym nx);
       after = ap k nx
           ∙ i.2;
@@ -105,8 +104,7 @@ module _ (ms : List Lexeme) (stops : Stops ms) where
       let i = token_inv p t (begins_colon (ls ++ ms)) (λ q. punctuate q (ls ++ ms)) u ts g e in
       record {
         rest = ls;
-        level = subst (λ x. LevelAt n (is_opening u) x (λ m. Level m ls)) i.begins_too
-            (subst (λ x. LevelAt n x (begins t) (λ m. Level m ls)) i.opens_too level);
+        level = rw (← i.begins_too) (rw (← i.opens_too) level);
         alone =
             ap (λ b. place_token p t b (λ q. punctuate q ls)) (sym (begins_colon-append ls ms stops.no_colon))
             ∙ i.same (λ q. punctuate q ls);

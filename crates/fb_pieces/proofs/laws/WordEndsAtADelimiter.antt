@@ -114,7 +114,7 @@ module _ (rest : List ℕ) (ended : ends_word rest ≡ true) where
   digits_at false x xs n m ih = record { count = refl; after = refl }
   digits_at true x xs n m ih =
       let e : suc n ≡ 1 + n = omega arith in
-      subst (λ j. Digits (x ∷ xs) j (1 + m)) e (record { count = omega (arith, ih.count); after = ih.after })
+      rw (← e) (record { count = omega (arith, ih.count); after = ih.after })
 
   digit_run : (t : List ℕ) → Digits t (prefix_len is_ascii_digit t) (prefix_len is_ascii_digit (t ++ rest))
   digit_run [] = record { count = no_digit rest ended; after = refl }
@@ -129,7 +129,7 @@ module _ (rest : List ℕ) (ended : ends_word rest ≡ true) where
 
   after : (u v : List ℕ) (f : List ℕ → Option (List ℕ)) → v ≡ u ++ rest → Extends (f u) (f (u ++ rest))
       → Extends (f u) (f v)
-  after u v f s h = subst (λ z. Extends (f u) (f z)) (sym s) h
+  after u v f s h = rw s h
 
   optional : (t : List ℕ) (b c : Bool) → c ≡ b → (b ≡ true → drop 1 (t ++ rest) ≡ drop 1 t ++ rest)
       → cond c (drop 1 (t ++ rest)) (t ++ rest) ≡ cond b (drop 1 t) t ++ rest
@@ -170,7 +170,7 @@ module _ (rest : List ℕ) (ended : ends_word rest ≡ true) where
   then : (f : List ℕ → Option (List ℕ)) → ((u : List ℕ) → Extends (f u) (f (u ++ rest))) → (o p : Option (List ℕ))
       → Extends o p → Extends (option_and_then f o) (option_and_then f p)
   then f g None p h = ap (option_and_then f) h
-  then f g (Some r) p h = subst (λ q. Extends (f r) (option_and_then f q)) (sym h) (g r)
+  then f g (Some r) p h = rw h (g r)
 
   whole_number : (t : List ℕ) → Extends (after_number t) (after_number (t ++ rest))
   unfolding after_number
@@ -227,7 +227,7 @@ front_of (b ∷ x) y h = go (cases_Bool (is_delimiter b)) (front_of x y)
     go (inl e) ih = record { front = []; back = b ∷ x; joined = refl; ends = e; ends_more = e }
     go (inr e) ih =
         let f = ih
-        (subst (λ m. MayCut (mode_after m x) y) (inner (b == 34) (b == 92) (is_operator b) (is_space b) e) h) in
+        (rw (← (inner (b == 34) (b == 92) (is_operator b) (is_space b) e)) h) in
         record {
           front = b ∷ f.front;
           back = f.back;

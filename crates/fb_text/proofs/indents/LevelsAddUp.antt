@@ -1,6 +1,6 @@
 -- Levels of blanks, one behind another.
 use Rattle.std.proofs.Common.{◌≡◌, Bor, ℕ, zero, suc, ◌+◌, ◌-◌, ◌*◌, ◌≤◌, List, [], ◌++◌, length, take, refl, sym, ap}
-use Rattle.std.proofs.Common.{Option, None, Some, subst, ◌∙◌, append_assoc, append-nil, length-append, arith, rules}
+use Rattle.std.proofs.Common.{Option, None, Some, ◌∙◌, append_assoc, append-nil, length-append, arith, rules}
 use Rattle.std.specs.Prelude.{codes}
 use Rattle.std.specs.Option.{unwrap_or}
 use Rattle.std.proofs.Math.Seq.{take-append_seam}
@@ -31,9 +31,7 @@ pub blanks_front : (n : ℕ) → n ≤ 32 → take (2 * n) (levels_blanks 32) �
 blanks_front n few =
     let whole : levels_blanks n ++ levels_blanks (32 - n) ≡ levels_blanks 32 =
     levels_joined n (32 - n) 32 (omega arith) in
-    subst (λ (l : List ℕ). take (2 * n) l ≡ levels_blanks n) whole
-    (subst (λ (k : ℕ). take k (levels_blanks n ++ levels_blanks (32 - n)) ≡ levels_blanks n) (levels_long n)
-    (take-append_seam (levels_blanks n) (levels_blanks (32 - n))))
+    rw (← whole) (rw (← (levels_long n)) (take-append_seam (levels_blanks n) (levels_blanks (32 - n))))
 
 -- levels behind a line's blanks
 pub deeper_behind : (n : ℕ) (before : List ℕ) → deeper n (Some before) ≡ Some (before ++ levels_blanks n)

@@ -1,6 +1,6 @@
 -- The names of a schema are UTF-8, since each is a `String`.
 use Rattle.std.proofs.Common.{◌≡◌, ℕ, zero, suc, ℤ, List, [], ◌∷◌, Bool, true, false, Option, None, Some, Global}
-use Rattle.std.proofs.Common.{String, map, string_bytes, IsUtf8, slice_get, find, option_map, refl, subst}
+use Rattle.std.proofs.Common.{String, map, string_bytes, IsUtf8, slice_get, find, option_map, refl}
 use Rattle.std.specs.Option.{unwrap_or}
 use Rattle.std.specs.Ordering.{int_eq}
 use Rattle.std.proofs.lemmas.Str.{IsUtf8-string_bytes, IsUtf8-nil}
@@ -10,7 +10,7 @@ use Rattle.fb_schema.specs.declared.types.Body.{Body}
 use Rattle.fb_schema.specs.declared.types.Body.TheVariants as the_body
 use Rattle.fb_schema.specs.declared.types.TypeInfo.{TypeInfo}
 use Rattle.fb_schema.specs.Schema.{Name, DeclaredField, DeclaredBody, table_body, struct_body, enum_body, union_body}
-use Rattle.fb_schema.specs.Schema.{DeclaredType, DeclaredSchema, body_in, body_at, slots_in, parts_in, members_in}
+use Rattle.fb_schema.specs.Schema.{DeclaredSchema, body_in, body_at, slots_in, parts_in, members_in}
 use Rattle.fb_schema.specs.Schema.{values_in}
 use Rattle.fb_schema.specs.Found.{name_numbered}
 use Rattle.fb_schema.specs.Seen.{field_seen, body_seen, type_seen}
@@ -55,7 +55,7 @@ types_utf8 (x ∷ ts) (suc t) = types_utf8 ts t
 -- each type of a schema that is made of data types
 pub schema_utf8 : (S : DeclaredSchema) (ts : List TypeInfo) → map type_seen ts ≡ S.types → (t : ℕ)
     → BodyUtf8 (body_at S t)
-schema_utf8 S ts e t = subst (λ (types : List DeclaredType). BodyUtf8 (body_in (slice_get types t))) e (types_utf8 ts t)
+schema_utf8 S ts e t = rw (← e) (types_utf8 ts t)
 
 -- ---- what is found by number
 

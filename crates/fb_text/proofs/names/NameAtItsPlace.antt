@@ -1,6 +1,6 @@
 -- The value at a place has the name of its number, since no other value has that number.
 use Rattle.std.proofs.Common.{◌≡◌, ◌≢◌, ℕ, List, String, Global, ℤ, map, AllPairs, slice_get, Option, None, Some}
-use Rattle.std.proofs.Common.{string_bytes, refl, ap, sym, subst, ◌∙◌, arith}
+use Rattle.std.proofs.Common.{string_bytes, refl, ap, sym, ◌∙◌, arith}
 use Rattle.std.specs.Option.{option_map}
 use Rattle.std.specs.Ordering.{int_eq}
 use Rattle.std.proofs.lemmas.Bool.Decides.{Decides-int_eq}
@@ -33,7 +33,7 @@ module _ (values : List (String Global × ℤ)) (at : ℕ) (value : String Globa
       let here : slice_get numbers at ≡ Some value.1 =
       slice_get-map (λ (v : String Global × ℤ). v.1) values at
       ∙ ap (option_map (λ (v : String Global × ℤ). v.1)) (sym there) in
-      let apart = subst (λ (ns : List ℤ). AllPairs (λ a b. a ≢ b) ns) (sym keys) differ in
+      let apart = rw (← keys) at differ in
       let place = sym (found_at int_eq Decides-int_eq numbers at value.1 apart here) in
       let declared : Some (seen value) ≡ slice_get (values_in body) at =
       ap (option_map seen) there ∙ (sym (slice_get-map seen values at)

@@ -1,13 +1,12 @@
 -- In a well-made layout each field of a struct has its bytes for itself, and one at least.
 use Rattle.std.proofs.Common.{◌≡◌, ℕ, zero, suc, ◌+◌, ◌<◌, ◌≤◌, ◌⊎◌, inl, inr, List, [], ◌∷◌, length, map, slice_get}
-use Rattle.std.proofs.Common.{slice_index, Some, IsTrue, refl, ap, subst, ◌∙◌, arith}
+use Rattle.std.proofs.Common.{slice_index, Some, IsTrue, refl, ap, ◌∙◌, arith}
 use Rattle.std.specs.Option.{option_map}
 use Rattle.std.proofs.lemmas.Option.{slice_get-map}
 use Rattle.fb_schema.specs.declared.kinds.TypeId.{TypeId}
 use Rattle.fb_schema.specs.declared.kinds.Shape.{Shape}
 use Rattle.fb_schema.specs.Schema.{DeclaredField, DeclaredBody, struct_body, body_at}
 use Rattle.fb_schema.specs.Schema.{parts_in, is_struct}
-use Rattle.fb_schema.specs.WellDeclared.{IsPart}
 use Rattle.fb_layout.specs.Laid.{LaidSchema, StoredKind, kind_in, stored_shape, parts_of, struct_at, size_of}
 use Rattle.fb_layout.specs.WellMade.{StandInOrder, IsWellMade}
 use Rattle.fb_layout.proofs.sizes.StructsAreDeclared.{struct_told, body_told}
@@ -113,8 +112,8 @@ module _ (L : LaidSchema) (made : IsWellMade L) (t : TypeId) where
     is_filled =
         let at = struct_told L.schema t.0 (struct_with (body_at L.schema t.0) k has.field has.there) in
         let own = body_told L.schema made.declared t.0 at in
-        let there = subst (λ (b : DeclaredBody). slice_get (parts_in b) k ≡ Some has.field) at.at has.there in
-        let part = subst (λ (shape : Shape). IsPart L.schema t.0 shape) has.shape (own.parts k has.field there).0 in
+        let there = rw at.at at has.there in
+        let part = rw has.shape at (own.parts k has.field there).0 in
         struct_filled L made u.0 part.1.1
 
     pub ends_within : slice_index (struct_at L t.0).offsets k + (struct_at L u.0).size ≤ (struct_at L t.0).size

@@ -1,6 +1,6 @@
 -- The way from the outermost struct down to one that stands in it, and one step more or less.
 use Rattle.std.proofs.Common.{◌≡◌, ℕ, zero, suc, ◌+◌, ◌<◌, ◌≤◌, ◌++◌, List, [], drop, Bool, true}
-use Rattle.std.proofs.Common.{Option, slice_index, refl, sym, ap, subst, ◌∙◌, append_assoc, append-nil, arith}
+use Rattle.std.proofs.Common.{Option, slice_index, refl, sym, ap, ◌∙◌, append_assoc, append-nil, arith}
 use Rattle.fb_schema.specs.declared.kinds.TypeId.{TypeId}
 use Rattle.fb_schema.specs.Schema.{body_at, parts_in}
 use Rattle.fb_layout.specs.Laid.{LaidSchema, struct_at}
@@ -133,8 +133,7 @@ module _ (L : LaidSchema) (defaults : Bool) (indent : Option (List ℕ)) (t : Ty
         rest = own ++ w.rest;
         shown = shown;
         above = rw (type, place) deeper;
-        below = rw type (subst (λ (i : Option (List ℕ)). StandsIn L defaults i x inner left more u es text)
-            (inside_deeper depth indent) rest);
+        below = rw type (rw (← (inside_deeper depth indent)) rest);
         begin = omega (arith, w.begin, begin, place);
         whole = w.whole ∙ (ap (λ (l : List ℕ). l ++ w.rest)
             (whole ∙ ap (λ (l : List ℕ). text ++ l) (level_text L defaults indent v w.parts depth (suc k)))
@@ -151,8 +150,7 @@ module _ (L : LaidSchema) (defaults : Bool) (indent : Option (List ℕ)) (t : Ty
       let (none, type, parts, empty) = rest in
       let own = fields_text L defaults indent v w.parts depth (suc k) true in (
         k,
-        subst (λ (y : TypeId). HasStruct L v w.parts k y es) type
-            (subst (λ (ms : Parts). HasStruct L v w.parts k x ms) parts child),
+        rw (← type) (rw (← parts) child),
         omega (arith, w.begin, begin, none),
         w.whole ∙ ap (λ (l : List ℕ). l ++ w.rest)
             (whole ∙ (ap (λ (l : List ℕ). l ++ fields_text L defaults (deeper depth indent) v w.parts 0 (suc k) true)

@@ -16,7 +16,7 @@ sent_still : (start : Option (List ℕ)) (a b : State) → b.known ≡ a.known �
     → Sent start b
 sent_still start a b known written sent = record {
   bytes = sent.bytes;
-  gone = subst (λ (k : Option (List ℕ)). Appends start k sent.bytes) (sym known) sent.gone;
+  gone = rw known sent.gone;
   count = written ∙ sent.count;
 }
 
@@ -35,8 +35,7 @@ module _ (a b : State) (piece : List ℕ) (known : b.known ≡ a.known) (written
       sent = sent_still start a b known written stands.sent;
       left = stands.left ++ piece;
       whole = ap (λ l. l ++ piece) stands.whole ∙ append_assoc stands.sent.bytes stands.left piece;
-      rest = subst (λ (f : Bool). IsLeft f b (stands.left ++ piece)) (sym failed)
-          (left_more a.failed stands.left waits stands.rest);
+      rest = rw (← failed) at (left_more a.failed stands.left waits stands.rest);
     };
   }
 
@@ -49,7 +48,7 @@ module _ (a b : State) (piece bytes : List ℕ) (was : a.failed ≡ false) (wait
       × (b.written ≡ counted (a.written + m))) → (start : Option (List ℕ)) (text : List ℕ) → Stands start a text
       → Stands start b (text ++ piece)
   by_failure f is all some start text stands =
-      let held : stands.left ≡ a.waits = subst (λ (g : Bool). IsLeft g a stands.left) was stands.rest in
+      let held : stands.left ≡ a.waits = rw was at stands.rest in
       let whole : text ++ piece ≡ stands.sent.bytes ++ bytes =
       ap (λ l. l ++ piece) stands.whole
       ∙ (append_assoc stands.sent.bytes stands.left piece

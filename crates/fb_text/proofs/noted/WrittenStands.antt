@@ -1,11 +1,11 @@
 -- What stands once bytes were written.
-use Rattle.std.proofs.Common.{◌≡◌, ℕ, ◌+◌, ◌<◌, [], List, ◌++◌, length, take, drop, Option, Bool, true, false, sym, ap}
-use Rattle.std.proofs.Common.{subst, ◌∙◌, arith, append_assoc, append-nil, length-append, length-drop, take-append-drop}
+use Rattle.std.proofs.Common.{◌≡◌, ℕ, ◌+◌, ◌<◌, [], List, ◌++◌, length, take, drop, Option, true, false, sym, ap}
+use Rattle.std.proofs.Common.{◌∙◌, arith, append_assoc, append-nil, length-append, length-drop, take-append-drop}
 use Rattle.std.proofs.Math.Seq.{take-append_seam}
 use Rattle.std.proofs.lemmas.List.{length-take}
 use Rattle.std.proofs.KnownBytes.{Appends-trans}
 use Rattle.std.specs.Io.KnownBytes.{Appends}
-use Rattle.fb_text.specs.Writes.{State, Sent, Stands, IsLeft, counted}
+use Rattle.fb_text.specs.Writes.{State, Sent, Stands, counted}
 
 module _ (start : Option (List ℕ)) (old new : State) (sent : Sent start old) where
   -- so many more bytes
@@ -27,7 +27,7 @@ module _ (start : Option (List ℕ)) (old new : State) (sent : Sent start old) w
     sent = more_sent bytes got count;
     left = [];
     whole = is ∙ sym (append-nil (sent.bytes ++ bytes));
-    rest = subst (λ (b : Bool). IsLeft b new []) (sym fine) (sym none);
+    rest = rw fine (sym none);
   }
 
   pub some_written : (bytes whole : List ℕ) (m : ℕ) → whole ≡ sent.bytes ++ bytes → new.failed ≡ true → m < length bytes
@@ -41,22 +41,22 @@ module _ (start : Option (List ℕ)) (old new : State) (sent : Sent start old) w
         left = drop m bytes;
         whole = is ∙ (ap (λ l. sent.bytes ++ l) (sym (take-append-drop m bytes))
             ∙ sym (append_assoc sent.bytes (take m bytes) (drop m bytes)));
-        rest = subst (λ (b : Bool). IsLeft b new (drop m bytes)) (sym broke) more;
+        rest = rw broke more;
       }
 
 -- what stands once nothing waits
 module _ (start : Option (List ℕ)) (s : State) (text : List ℕ) (stands : Stands start s text) where
   pub written_whole : s.failed ≡ false → s.waits ≡ [] → Appends start s.known text
   written_whole fine empty =
-      let none : stands.left ≡ [] = subst (λ (b : Bool). IsLeft b s stands.left) fine stands.rest ∙ empty in
+      let none : stands.left ≡ [] = rw fine at stands.rest ∙ empty in
       let all : text ≡ stands.sent.bytes =
       stands.whole ∙ (ap (λ l. stands.sent.bytes ++ l) none ∙ append-nil stands.sent.bytes) in
-      subst (λ (l : List ℕ). Appends start s.known l) (sym all) stands.sent.gone
+      rw all stands.sent.gone
 
   pub written_front : s.failed ≡ true
       → (m : ℕ) × (m < length text) × Appends start s.known (take m text) × (s.written ≡ counted m)
   written_front broken =
-      let more : 0 < length stands.left = subst (λ (b : Bool). IsLeft b s stands.left) broken stands.rest in
+      let more : 0 < length stands.left = rw broken at stands.rest in
       let sent = stands.sent.bytes in
       let longer : length text ≡ length sent + length stands.left =
       ap length stands.whole ∙ length-append sent stands.left in
@@ -64,6 +64,6 @@ module _ (start : Option (List ℕ)) (s : State) (text : List ℕ) (stands : Sta
       ap (take (length sent)) stands.whole ∙ take-append_seam sent stands.left in (
         length sent,
         omega arith,
-        subst (λ (l : List ℕ). Appends start s.known l) (sym front) stands.sent.gone,
+        rw front stands.sent.gone,
         stands.sent.count,
       )

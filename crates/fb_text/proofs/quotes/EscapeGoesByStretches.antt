@@ -1,6 +1,6 @@
 -- A text escaped: a stretch as it is, the escape of the byte behind it, and the rest escaped.
 use Rattle.std.proofs.Common.{◌≡◌, ℕ, zero, suc, ◌+◌, ◌<◌, ◌≤◌, Bool, true, false, ◌&&◌, ◌==◌, not, nat_le, nat_lt}
-use Rattle.std.proofs.Common.{List, [], ◌∷◌, ◌++◌, length, get_or, take, drop, append-nil, subst, refl, ap, sym, ◌∙◌}
+use Rattle.std.proofs.Common.{List, [], ◌∷◌, ◌++◌, length, get_or, take, drop, append-nil, refl, ap, sym, ◌∙◌}
 use Rattle.std.proofs.Common.{arith, ne_eqb}
 use Rattle.std.specs.List.{prefix_len}
 use Rattle.std.proofs.lemmas.Bool.{and_parts}
@@ -53,7 +53,7 @@ at_drop (x ∷ xs) (suc n) b rest e = let later = at_drop xs n b rest e in (omeg
 
 module _ (bs : List ℕ) (run : ℕ) (is : run ≡ prefix_len is_plain bs) where
   whole : escape bs ≡ take run bs ++ escape (drop run bs)
-  whole = subst (λ (n : ℕ). escape bs ≡ take n bs ++ escape (drop n bs)) (sym is) (run_escaped bs)
+  whole = rw is (run_escaped bs)
 
   -- the byte behind the stretch doesn't stand as it is
   pub stops : (b : ℕ) (rest : List ℕ) → drop run bs ≡ b ∷ rest → is_plain b ≡ false

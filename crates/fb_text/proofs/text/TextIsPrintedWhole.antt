@@ -1,6 +1,6 @@
 -- What stands at the start and at the end of a text.
 use Rattle.std.proofs.Common.{◌≡◌, ℕ, ◌<◌, [], List, length, Option, Some, Bool, true, false, Result, Ok, Err}
-use Rattle.std.proofs.Common.{refl, sym, subst, arith}
+use Rattle.std.proofs.Common.{refl, sym, arith}
 use Rattle.std.specs.Prelude.{is_err}
 use Rattle.std.proofs.KnownBytes.{Appends-nil}
 use Rattle.fb_layout.specs.Laid.{LaidSchema}
@@ -15,7 +15,7 @@ use Rattle.fb_text.specs.declared.indents.Spacing.{Spacing}
 use Rattle.fb_text.specs.declared.faults.WriteFault.{WriteFault}
 use Rattle.fb_text.specs.declared.faults.WriteFault.TheVariants.{NoMemberName, WriteFailed}
 use Rattle.fb_text.specs.Printed.{IsPrinted}
-use Rattle.fb_text.specs.Writes.{State, Stands, IsWritten, IsLeft}
+use Rattle.fb_text.specs.Writes.{State, Stands, IsWritten}
 
 -- before the first byte
 pub nothing_stands : (s : State) → s.failed ≡ false → s.waits ≡ [] → s.written ≡ 0 → Stands s.known s []
@@ -23,7 +23,7 @@ nothing_stands s fine empty none = record {
   sent = record { bytes = []; gone = Appends-nil s.known; count = none };
   left = [];
   whole = refl;
-  rest = subst (λ (b : Bool). IsLeft b s []) (sym fine) (sym empty);
+  rest = rw fine (sym empty);
 }
 
 -- a table's text has its brackets

@@ -1,6 +1,6 @@
 -- What the printer's pieces add up to.
 use Rattle.std.proofs.Common.{◌≡◌, ℕ, zero, suc, ◌<◌, ◌||◌, List, [], ◌∷◌, length, map, slice_get, slice_index_or, Bool}
-use Rattle.std.proofs.Common.{true, Option, None, Some, Result, Err, refl, subst, arith}
+use Rattle.std.proofs.Common.{true, Option, None, Some, Result, Err, refl, arith}
 use Rattle.fb_schema.specs.declared.types.FieldInfo.{FieldInfo}
 use Rattle.fb_schema.specs.Schema.{DeclaredField}
 use Rattle.fb_schema.specs.Seen.{field_seen}
@@ -41,7 +41,7 @@ entry_added L defaults inner some f None more a b e printed code has named = cc
 entry_added L defaults inner some f (Some d) more a b e printed code has named =
     rw (← printed) (added_then a b e (code_text L.schema inner some f.name f.shape d)
     (named_text L defaults inner (some || has_code f.shape d) f d) (code d refl)
-    (subst (λ (m : Bool). Adds b e (named_text L defaults inner m f d)) (has d refl) (named d refl)))
+    (rw (← (has d refl)) (named d refl)))
 
 -- a writer that is never told a union without a name
 pub never_unnamed : {A : Type 0} (r : Result A WriteFault) (P : Type 0) → IfUnnamed r ⊥ → IfUnnamed r P

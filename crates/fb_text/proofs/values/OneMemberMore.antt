@@ -74,8 +74,7 @@ module _ (L : LaidSchema) (defaults : Bool) (inner indent : Option (List ℕ)) w
       let rest = members_behind some fs es zero (λ j g past there. none (suc j) g (omega arith) there) in
       subst (λ (p : Bool). closing indent some ++ codes "}" ≡ entry_text L.schema p inner some f.name f.shape d
       (value_text L defaults inner f.shape d) ++ members_text L defaults inner indent (some || p) fs es) (sym plain)
-      (subst (λ (q : Bool). closing indent some ++ codes "}" ≡ members_text L defaults inner indent q fs es)
-      (sym (or_false some)) rest)
+      (rw (or_false some) rest)
   members_behind some (f ∷ fs) (absent_entry es) (suc k) none =
       members_behind some fs es k (λ j g past there. none (suc j) g (omega (arith, past)) there)
   members_behind some (f ∷ fs) (present_entry d es) (suc k) none =
@@ -87,11 +86,7 @@ module _ (L : LaidSchema) (defaults : Bool) (inner indent : Option (List ℕ)) w
       (some || is_entry_printed defaults f o) fs es
   unprinted_text some f None fs es plain = rw (or_false some) refl
   unprinted_text some f (Some d) fs es plain =
-      subst (λ (p : Bool). members_text L defaults inner indent some fs es ≡ entry_text L.schema p inner some f.name
-      f.shape d (value_text L defaults inner f.shape d) ++ members_text L defaults inner indent (some || p) fs es)
-      (sym plain)
-      (subst (λ (q : Bool). members_text L defaults inner indent some fs es
-      ≡ members_text L defaults inner indent q fs es) (sym (or_false some)) refl)
+      rw plain (rw (or_false some) refl)
 
   -- slots that aren't printed, passed by
   pub members_skip : (some : Bool) (fs : List DeclaredField) (es : SlotEntries) (n k j : ℕ) → k + n ≡ j

@@ -1,5 +1,5 @@
 -- Bytes hold a value, or have a least fault.
-use Rattle.std.proofs.Common.{◌≡◌, ℕ, [], ◌∷◌, Option, None, Some, refl, sym, ◌∙◌, subst, inl, inr}
+use Rattle.std.proofs.Common.{◌≡◌, ℕ, [], ◌∷◌, Option, None, Some, refl, sym, ◌∙◌, inl, inr}
 use Rattle.fb_layout.specs.Laid.{LaidSchema}
 use Rattle.fb_layout.specs.WellMade.{IsWellMade}
 use Rattle.fb_value.specs.declared.faults.ReadFault.{ReadFault}
@@ -80,5 +80,4 @@ value_or_fault_shown p fault L most b made = by_front p fault L most b made _ re
 -- The same of an outcome that is known: none, or a fault.
 pub outcome_shown : (p : ℕ) (fault : Option ReadFault) (L : LaidSchema) (most : Bounds) (b : Bytes)
     (o : Option ReadFault) → IsWellMade L → fault_behind p fault L most b ≡ o → HeldOrFault p fault L most b o
-outcome_shown p fault L most b o made e = subst (λ (x : Option ReadFault). HeldOrFault p fault L most b x) e
-    (value_or_fault_shown p fault L most b made)
+outcome_shown p fault L most b o made e = rw (← e) (value_or_fault_shown p fault L most b made)

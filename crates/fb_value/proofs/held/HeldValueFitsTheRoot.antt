@@ -1,5 +1,5 @@
 -- The value that bytes hold fits the root, where each byte is below 256.
-use Rattle.std.proofs.Common.{◌≡◌, ℕ, zero, suc, ◌+◌, ◌<◌, List, [], ◌∷◌, All, Option, None, Some, refl, subst, arith}
+use Rattle.std.proofs.Common.{◌≡◌, ℕ, zero, suc, ◌+◌, ◌<◌, List, [], ◌∷◌, All, Option, None, Some, refl, arith}
 use Rattle.std.proofs.lemmas.Bool.Decides.{nat_tests}
 use Rattle.fb_layout.specs.Laid.{LaidSchema, StoredKind, scalar_kind, struct_kind, table_kind, text_kind, one_of}
 use Rattle.fb_layout.specs.Laid.{parts_of, struct_at, size_of}
@@ -77,7 +77,7 @@ module _ (L : LaidSchema) (made : IsWellMade L) (b : Bytes) (small : All (λ x. 
     entries_known (absent_entry es) zero d e s q at = cc
     entries_known (absent_entry es) (suc k) d e s q at = entries_known es k d e s q at
     entries_known (present_entry x es) zero d e s q at = let is : x ≡ d = cc in
-        subst (λ (y : Datum). SortFits L s y) is (part_fits s q x (rw is at))
+        rw (← is) (part_fits s q x (rw is at))
     entries_known (present_entry x es) (suc k) d e s q at = entries_known es k d e s q at
 
 -- The value that bytes hold fits the root.

@@ -34,7 +34,7 @@ parts_sound : (L : LaidSchema) (b : Bytes) (fuel : ℕ)
     → (ks : List StoredKind) (os : List ℕ) (p : ℕ) (ds : Parts)
     → parts_at (λ k q. inline_at fuel L b k q) ks os p ≡ Some ds → LiesParts L b ks os p ds
 unfolding parts_at
-parts_sound L b fuel known [] os p ds e = subst (λ (x : Parts). LiesParts L b [] os p x) (same_some no_parts ds e) tt
+parts_sound L b fuel known [] os p ds e = rw (← (same_some no_parts ds e)) tt
 parts_sound L b fuel known (k ∷ ks) [] p ds e = cc
 parts_sound L b fuel known (k ∷ ks) (o ∷ os) p ds e =
     let first = bind_some _ _ _ e in
@@ -47,8 +47,7 @@ pub inline_sound : (fuel : ℕ) (L : LaidSchema) (b : Bytes) (kind : StoredKind)
     → inline_at fuel L b kind p ≡ Some d → LiesInline L b kind p d
 unfolding inline_at
 inline_sound zero L b kind p d e = cc
-inline_sound (suc fuel) L b (scalar_kind base) p d e = subst (λ (x : Datum). LiesInline L b (scalar_kind base) p x)
-    (same_some _ d e) refl
+inline_sound (suc fuel) L b (scalar_kind base) p d e = rw (← (same_some _ d e)) refl
 inline_sound (suc fuel) L b (struct_kind s) p d e =
     let found = bind_some _ _ _ e in
     subst (λ (x : Datum). LiesInline L b (struct_kind s) p x) (same_some (a_struct found.0) d found.2)
@@ -93,10 +92,8 @@ module _ (L : LaidSchema) (b : Bytes) (fuel : ℕ) (known : (s : Sort) (q : ℕ)
   -- what a slot's entry is, with the entries after it
   default_sound : (f : Slot) (fs : List Slot) (xs : List (Option Place)) (o : Option ℤ) (rest ss : SlotEntries)
       → f.if_absent ≡ o → LiesSlots L b fs xs rest → default_entry o rest ≡ ss → LiesSlots L b (f ∷ fs) (None ∷ xs) ss
-  default_sound f fs xs None rest ss is lies e = subst (λ (x : SlotEntries). LiesSlots L b (f ∷ fs) (None ∷ xs) x) e
-      (is, lies)
-  default_sound f fs xs (Some n) rest ss is lies e = subst (λ (x : SlotEntries). LiesSlots L b (f ∷ fs) (None ∷ xs) x) e
-      ((n, is, refl), lies)
+  default_sound f fs xs None rest ss is lies e = rw (← e) (is, lies)
+  default_sound f fs xs (Some n) rest ss is lies e = rw (← e) ((n, is, refl), lies)
 
   -- What lies at a place is its entry.
   as_entry : (s : Sort) (p : ℕ) (d : Datum) → LiesAt L b s p d → EntryAt L b s p d (λ s q. Lies L b s q d)
@@ -121,12 +118,9 @@ module _ (L : LaidSchema) (b : Bytes) (fuel : ℕ) (known : (s : Sort) (q : ℕ)
       → LiesSlots L b (f ∷ fs) (Some (record { sort = s; at = p }) ∷ xs) ss
   entry_sound (code_place u k required here) p f fs xs rest ss e lies =
       let found = unless_some _ _ _ e in
-      subst (λ (x : SlotEntries). LiesSlots L b (f ∷ fs)
-      (Some (record { sort = code_place u k required here; at = p }) ∷ xs) x)
-      (same_some (absent_entry rest) ss found.1) (found.0, lies)
+      rw (← (same_some (absent_entry rest) ss found.1)) (found.0, lies)
   entry_sound (unknown_place c) p f fs xs rest ss e lies =
-      subst (λ (x : SlotEntries). LiesSlots L b (f ∷ fs) (Some (record { sort = unknown_place c; at = p }) ∷ xs) x)
-      (same_some (present_entry (an_unknown c) rest) ss e) (refl, lies)
+      rw (← (same_some (present_entry (an_unknown c) rest) ss e)) (refl, lies)
   entry_sound (ref_place X) p f fs xs rest ss e lies = present_sound (ref_place X) p f fs xs rest ss e lies
   entry_sound (part_place X) p f fs xs rest ss e lies = present_sound (part_place X) p f fs xs rest ss e lies
   entry_sound (inline_place kind) p f fs xs rest ss e lies = present_sound (inline_place kind) p f fs xs rest ss e lies
@@ -135,7 +129,7 @@ module _ (L : LaidSchema) (b : Bytes) (fuel : ℕ) (known : (s : Sort) (q : ℕ)
   slots_sound : (fs : List Slot) (xs : List (Option Place)) (ss : SlotEntries)
       → slots_at L b (λ s q. datum_at fuel L b s q) fs xs ≡ Some ss → LiesSlots L b fs xs ss
   unfolding slots_at
-  slots_sound [] [] ss e = subst (λ (x : SlotEntries). LiesSlots L b [] [] x) (same_some no_entries ss e) tt
+  slots_sound [] [] ss e = rw (← (same_some no_entries ss e)) tt
   slots_sound [] (x ∷ xs) ss e = cc
   slots_sound (f ∷ fs) [] ss e = cc
   slots_sound (f ∷ fs) (None ∷ xs) ss e =
@@ -155,8 +149,7 @@ sound (suc fuel) L b (inline_place kind) p d e =
     (found.0, inline_sound (suc fuel) L b kind p d found.1)
 sound (suc fuel) L b (part_place text_part) p d e =
     let found = unless_some _ _ _ e in
-    subst (λ (x : Datum). Lies L b (part_place text_part) p x)
-    (same_some (a_text (part_of b (p + 4) (num b p 4))) d found.1) (found.0, refl)
+    rw (← (same_some (a_text (part_of b (p + 4) (num b p 4))) d found.1)) (found.0, refl)
 sound (suc fuel) L b (part_place (vector_part kind)) p d e =
     let found = unless_some _ _ _ e in
     let ds = bind_some _ _ _ found.1 in

@@ -1,6 +1,6 @@
 -- What lies as the entries of a table fits its slots, and so the value that bytes hold fits the root.
 use Rattle.std.proofs.Common.{◌≡◌, ℕ, zero, suc, ◌+◌, ◌-◌, ◌<◌, Bool, true, false, not, ◌==◌, List, [], ◌∷◌, drop, map}
-use Rattle.std.proofs.Common.{slice_get, All, Option, None, Some, refl, sym, subst, ◌∙◌, arith}
+use Rattle.std.proofs.Common.{slice_get, All, Option, None, Some, refl, sym, ◌∙◌, arith}
 use Rattle.fb_schema.specs.declared.kinds.TypeId.{TypeId}
 use Rattle.fb_schema.specs.declared.kinds.Kind.TheVariants.{Union}
 use Rattle.fb_schema.specs.declared.kinds.Shape.{Shape}
@@ -136,20 +136,18 @@ module _ (L : LaidSchema) (made : IsWellMade L) (b : Bytes) (small : All (λ x. 
   by_use k df true gone at =
       let marks = gone_marks L.schema df gone in
       none_place L b (slot_of L.schema df) (nth_entry es k) marks.1 marks.0
-      (subst (λ (x : Option Place). LiesInSlot L b (slot_of L.schema df) x (nth_entry es k)) (not_in_use k df gone)
-      (field_lies k df at))
+      (rw (← (not_in_use k df gone)) (field_lies k df at))
   by_use k df false live at =
       live_entry L b small p k (drop (suc k) (slots_of L t)) (slot_of L.schema df) (nth_entry es k)
       (stored_shape L.schema df.shape) live refl
       (marks_of L.schema df df.shape refl (type_marks L made t (slice_get L.schema.types t) refl k df at))
       (needs_of k df df.shape at refl live)
-      (λ d e. known k d e) (subst (λ (x : Option Place). LiesInSlot L b (slot_of L.schema df) x (nth_entry es k))
-      (in_use k df live) (field_lies k df at))
+      (λ d e. known k d e) (rw (← (in_use k df live)) (field_lies k df at))
 
   entry_fits : (k : ℕ) (f : Slot) → slice_get (slots_of L t) k ≡ Some f → EntryFits L f (nth_entry es k)
   entry_fits k f at =
       let found = field_seen L.schema (slots_in (body_at L.schema t)) k f at in
-      subst (λ (g : Slot). EntryFits L g (nth_entry es k)) found.2 (by_use k found.0 found.0.deprecated refl found.1)
+      rw (← found.2) (by_use k found.0 found.0.deprecated refl found.1)
 
 -- entries that fit one by one
 each_entry : (L : LaidSchema) (b : Bytes) (fs : List Slot) (xs : List (Option Place)) (es : SlotEntries)

@@ -1,7 +1,7 @@
 -- What lies in bytes fits its type, where each byte is below 256.
 use Rattle.std.proofs.Common.{◌≡◌, ◌≢◌, ℕ, zero, suc, ◌+◌, ◌-◌, ◌<◌, ◌≤◌, Bool, true, false, not, ◌&&◌, ◌||◌, ◌==◌}
 use Rattle.std.proofs.Common.{cond, List, [], ◌∷◌, drop, slice_get, All, Option, None, Some, is_none, ℤ, refl, sym}
-use Rattle.std.proofs.Common.{subst, ◌∙◌, arith}
+use Rattle.std.proofs.Common.{◌∙◌, arith}
 use Rattle.std.proofs.lemmas.Bool.Decides.{nat_tests}
 use Rattle.fb_schema.specs.declared.kinds.Kind.TheVariants.{Scalar, Enum, Struct, Table, Union, Code, Text}
 use Rattle.fb_schema.specs.declared.kinds.Shape.{Shape}
@@ -49,7 +49,7 @@ MarksOf f _ = f.if_absent ≡ None
 number_default : (base : _) (n m : ℤ) (gone : Bool) → InRange base n
     → default_of gone n (one_of (scalar_kind base)) ≡ Some m → InRange base m
 number_default base n m true range e = cc
-number_default base n m false range e = let is : n ≡ m = cc in subst (λ x. InRange base x) is range
+number_default base n m false range e = let is : n ≡ m = cc in rw (← is) range
 
 no_number : (gone : Bool) (n : ℤ) (kind : StoredKind) → ((base : _) → kind ≡ scalar_kind base → ⊥)
     → default_of gone n (one_of kind) ≡ None

@@ -1,5 +1,5 @@
 -- Bytes have one least fault.
-use Rattle.std.proofs.Common.{◌≡◌, ◌<◌, ◌⊎◌, inl, inr, ℕ, [], ◌∷◌, None, Some, refl, sym, ◌∙◌, subst}
+use Rattle.std.proofs.Common.{◌≡◌, ◌<◌, ◌⊎◌, inl, inr, ℕ, [], ◌∷◌, None, Some, refl, sym, ◌∙◌}
 use Rattle.std.proofs.lemmas.Bool.{cases_order}
 use Rattle.fb_layout.specs.Laid.{LaidSchema}
 use Rattle.fb_value.specs.declared.faults.ReadFault.{ReadFault}
@@ -31,13 +31,13 @@ module _ (L : LaidSchema) (b : Bytes) (most : Bounds) where
   one_at_path (k ∷ path) x tables spent f g p q =
       let named : Some (Some p.1) ≡ Some (Some q.1) = sym p.2 ∙ q.2 in
       let same : p.1 ≡ q.1 = cc in
-      one_at_path path q.1 _ _ f g (subst (λ (y : Place). FaultFrom L b most y _ _ path f) same p.3) q.3
+      one_at_path path q.1 _ _ f g (rw (← same) p.3) q.3
 
   one_least : (x : Place) (tables spent : ℕ) (f g : ReadFault) → LeastFrom L b most x tables spent f
       → LeastFrom L b most x tables spent g → f ≡ g
   one_least x tables spent f g p q =
       let same : p.0 ≡ q.0 = same_path p.0 q.0 (λ before. q.2 p.0 f before p.1) (λ before. p.2 q.0 g before q.1) in
-      one_at_path q.0 x tables spent f g (subst (λ (path : Path). FaultFrom L b most x tables spent path f) same p.1)
+      one_at_path q.0 x tables spent f g (rw (← same) p.1)
       q.1
 
 pub one_least_fault_shown : OneLeastFault

@@ -1,6 +1,6 @@
 -- Where a value lies, no fault stands exactly where its depth and cells are within the limits.
 use Rattle.std.proofs.Common.{◌≡◌, ℕ, zero, suc, ◌+◌, ◌≤◌, ◌↔◌, max, List, [], ◌∷◌, length, Option, None, Some}
-use Rattle.std.proofs.Common.{slice_get, refl, sym, ap, ◌∙◌, subst, arith}
+use Rattle.std.proofs.Common.{slice_get, refl, sym, ap, ◌∙◌, arith}
 use Rattle.fb_value.specs.Datum.{Datum, a_number, a_text, a_vector, a_struct, a_table, a_member, Parts, no_parts}
 use Rattle.fb_value.specs.Datum.{more_parts, SlotEntries, no_entries, absent_entry, present_entry, count}
 use Rattle.fb_value.specs.Counts.{cells, parts_cells, entries_cells, depth, parts_depth, entries_depth}
@@ -166,8 +166,7 @@ along : (L : LaidSchema) (b : Bytes) (most : Bounds) (fuel : ℕ) (xs ys : List 
     (tables spent deep small : ℕ) → xs ≡ ys → (EnoughFor b fuel xs → AmongSure L b most fuel xs tables spent deep small)
     → EnoughFor b fuel ys → AmongSure L b most fuel ys tables spent deep small
 along L b most fuel xs ys tables spent deep small e known =
-    subst (λ (zs : List (Option Place)). EnoughFor b fuel zs → AmongSure L b most fuel zs tables spent deep small) e
-    known
+    rw (← e) known
 
 -- No elements are sure.
 none_sure : (L : LaidSchema) (b : Bytes) (most : Bounds) (fuel : ℕ) (o : Option Target) (p tables spent : ℕ)

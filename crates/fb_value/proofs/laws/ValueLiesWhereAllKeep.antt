@@ -1,6 +1,6 @@
 -- Where no rule fails at a place that is reached, a value lies.
 use Rattle.std.proofs.Common.{◌≡◌, ℕ, zero, suc, ◌+◌, ◌-◌, ◌*◌, ◌<◌, ◌≤◌, Bool, true, false, cond, List, [], ◌∷◌}
-use Rattle.std.proofs.Common.{length, Option, None, Some, slice_get, refl, sym, ap, subst, arith}
+use Rattle.std.proofs.Common.{length, Option, None, Some, slice_get, refl, ap, arith}
 use Rattle.std.proofs.lemmas.Bool.{leb-true, and_parts}
 use Rattle.fb_value.specs.Datum.{Datum, no_parts, SlotEntries, no_entries}
 use Rattle.fb_value.specs.Num.{Bytes, num}
@@ -29,7 +29,7 @@ Found {A} o = (x : A) × (o ≡ Some x)
 -- A value made from one that is there is there.
 found_bind : {A B : Type 0} (r : Option A) (f : A → Option B) → Found r → ((x : A) → Found (f x)) → Found (r >>= f)
 unfolding Found
-found_bind r f (x, e) known = subst (λ (o : Option _). Found (o >>= f)) (sym e) (known x)
+found_bind r f (x, e) known = rw e (known x)
 
 -- A value is there where the place keeps its rules.
 found_unless : {A : Type 0} (L : LaidSchema) (b : Bytes) (s : Sort) (p : ℕ) (r : Option A) → Keeps L b s p → Found r
@@ -69,7 +69,7 @@ module _ (L : LaidSchema) (b : Bytes) (lower : (s : ℕ) → LowerParts s (parts
 -- A good place is good where a test lets it stand.
 there_good : (most : ℕ) (c : Bool) (x y : Place) → IsGood most x.sort → cond c (Some x) None ≡ Some y
     → IsGood most y.sort
-there_good most c x y good e = subst (λ (z : Place). IsGood most z.sort) (if_there c x y e).1 good
+there_good most c x y good e = rw (← ((if_there c x y e).1)) good
 
 -- What a union names is good.
 union_good : (b : Bytes) (most p k c : ℕ) (o : Option ℕ) (y : Place) → named_union b p k c o ≡ Some y
@@ -244,7 +244,7 @@ module _ (L : LaidSchema) (b : Bytes) (most : ℕ) (made : IsResolved L most) wh
   unfolding named_elements
   elements_good X p zero j y good e = cc
   elements_good X p (suc n) zero y good e =
-      subst (λ (z : Place). IsGood most z.sort) (same_place (record { sort = ref_place X; at = p }) y e) good
+      rw (← (same_place (record { sort = ref_place X; at = p }) y e)) good
   elements_good X p (suc n) (suc j) y good e = elements_good X (p + 4) n j y good e
 
   -- The elements of a vector are there.
@@ -282,8 +282,7 @@ module _ (L : LaidSchema) (b : Bytes) (most : ℕ) (made : IsResolved L most) wh
       → AllKeep L b (record { sort = part_place (table_part t); at = p })
   unfolding fault_by
   as_member c t p keep [] y leads =
-      subst (λ (z : Place). Keeps L b z.sort z.at) leads
-      (keep [] (record { sort = part_place (member_part c t); at = p }) refl)
+      rw (← leads) (keep [] (record { sort = part_place (member_part c t); at = p }) refl)
   as_member c t p keep (k ∷ path) y leads = keep (k ∷ path) y leads
 
   -- A part that keeps its rules begins inside the bytes.

@@ -1,5 +1,5 @@
 -- What holds of each table of a value holds of each table that is reached.
-use Rattle.std.proofs.Common.{◌≡◌, ℕ, inl, inr, Some, IsTrue, subst}
+use Rattle.std.proofs.Common.{◌≡◌, ℕ, inl, inr, Some, IsTrue}
 use Rattle.fb_layout.specs.Laid.{LaidSchema}
 use Rattle.fb_value.specs.Datum.{Datum, a_table, a_member}
 use Rattle.fb_value.specs.Num.{Bytes}
@@ -17,9 +17,9 @@ module _ (L : LaidSchema) (b : Bytes) (P : ℕ → ℕ → Type 0) where
 
   table_holds : (X : Target) (p t : ℕ) (d : Datum) → Lies L b (part_place X) p d → EachTable L b P (part_place X) p d
       → table_of X ≡ Some t → P t p
-  table_holds (table_part u) p t (a_table type es) lies each e = subst (λ (n : ℕ). P n p) (same_type u t e) each.0
+  table_holds (table_part u) p t (a_table type es) lies each e = rw (← (same_type u t e)) each.0
   table_holds (member_part c u) p t (a_member c2 (a_table type es)) lies each e =
-      subst (λ (n : ℕ). P n p) (same_type u t e) each.0
+      rw (← (same_type u t e)) each.0
   table_holds text_part p t d lies each e = cc
   table_holds (vector_part kind) p t d lies each e = cc
   table_holds (member_part c u) p t (a_member c2 _) lies each e = absurd lies.1

@@ -1,6 +1,6 @@
 -- From a place where a value lies, each place that is reached has a value or a code.
 use Rattle.std.proofs.Common.{◌≡◌, ℕ, zero, suc, ◌+◌, ◌⊎◌, inl, inr, List, [], ◌∷◌, Option, None, Some, slice_get}
-use Rattle.std.proofs.Common.{refl, subst}
+use Rattle.std.proofs.Common.{refl}
 use Rattle.fb_layout.specs.Laid.{LaidSchema, Slot, StoredKind, table_kind, text_kind, slots_of, size_of}
 use Rattle.fb_value.specs.Datum.{Datum, a_text, a_vector, a_table, a_member, Parts, no_parts, more_parts, SlotEntries}
 use Rattle.fb_value.specs.Datum.{no_entries, absent_entry, present_entry, count}
@@ -8,9 +8,9 @@ use Rattle.fb_value.specs.Num.{Bytes, num}
 use Rattle.fb_value.specs.Places.{Target, table_part, member_part, text_part, vector_part, Sort, ref_place, part_place}
 use Rattle.fb_value.specs.Places.{inline_place, code_place, unknown_place, Place, named, named_slots, named_elements}
 use Rattle.fb_value.specs.Places.{target_of}
-use Rattle.fb_value.specs.Lies.{IsCode, EntryAt, Element, Lies, LiesItems, LiesSlots, LiesAt}
+use Rattle.fb_value.specs.Lies.{IsCode, EntryAt, Lies, LiesItems, LiesSlots, LiesAt}
 use Rattle.fb_value.specs.Reached.{Path, Names, Leads}
-use Rattle.fb_value.specs.EachTable.{EachElement, EachTable, EachItem, EachEntry, EachTableAt}
+use Rattle.fb_value.specs.EachTable.{EachTable, EachItem, EachEntry, EachTableAt}
 use Rattle.fb_value.proofs.reached.StepsLeadForward.{same_place}
 
 -- a place without a value of its own: a code that keeps its rules, or the value of one that no member has
@@ -42,11 +42,11 @@ module _ (L : LaidSchema) (b : Bytes) (P : ℕ → ℕ → Type 0) where
   slots_child [] [] no_entries lies each k y e = cc
   slots_child (f ∷ fs) (None ∷ xs) (absent_entry es) lies each zero y e = cc
   slots_child (f ∷ fs) (Some x ∷ xs) (absent_entry es) lies each zero y e =
-      subst (λ (z : Place). Settled z) (same_place x y e) (inr (bare_code L b x.sort x.at lies.0))
+      rw (← (same_place x y e)) (inr (bare_code L b x.sort x.at lies.0))
   slots_child (f ∷ fs) (x ∷ xs) (absent_entry es) lies each (suc k) y e = slots_child fs xs es lies.1 each k y e
   slots_child (f ∷ fs) (None ∷ xs) (present_entry d es) lies each zero y e = cc
   slots_child (f ∷ fs) (Some x ∷ xs) (present_entry d es) lies each zero y e =
-      subst (λ (z : Place). Settled z) (same_place x y e) (entry_settled x.sort x.at d lies.0 each.0)
+      rw (← (same_place x y e)) (entry_settled x.sort x.at d lies.0 each.0)
   slots_child (f ∷ fs) (x ∷ xs) (present_entry d es) lies each (suc k) y e = slots_child fs xs es lies.1 each.1 k y e
   slots_child _ _ _ lies each k y e = absurd lies
 
@@ -56,15 +56,14 @@ module _ (L : LaidSchema) (b : Bytes) (P : ℕ → ℕ → Type 0) where
   unfolding Settled named_elements
   items_child kind X p no_parts is four lies each k y e = cc
   items_child kind X p (more_parts d ds) is four lies each zero y e =
-      subst (λ (z : Place). Settled z) (same_place (record { sort = ref_place X; at = p }) y e)
-      (inl (
+      rw (← (same_place (record { sort = ref_place X; at = p }) y e)) (inl (
         d,
-        subst (λ (o : Option Target). Element L b kind p o d (λ s q. Lies L b s q d)) is lies.0,
-        subst (λ (o : Option Target). EachElement b o p (λ s q. EachTable L b P s q d)) is each.0,
+        rw is at lies.0,
+        rw is at each.0,
       ))
   items_child kind X p (more_parts d ds) is four lies each (suc k) y e =
-      items_child kind X (p + 4) ds is four (subst (λ (n : ℕ). LiesItems L b kind (p + n) ds) four lies.1)
-      (subst (λ (n : ℕ). EachItem L b P kind (p + n) ds) four each.1) k y e
+      items_child kind X (p + 4) ds is four (rw (← four) lies.1)
+      (rw (← four) each.1) k y e
 
   vector_child : (kind : StoredKind) (p : ℕ) (ds : Parts) → count ds ≡ num b p 4 → LiesItems L b kind (p + 4) ds
       → EachItem L b P kind (p + 4) ds → (k : ℕ) (y : Place)
@@ -92,8 +91,7 @@ module _ (L : LaidSchema) (b : Bytes) (P : ℕ → ℕ → Type 0) where
       → slice_get (named L b (ref_place X) p) k ≡ Some (Some y) → Settled y
   unfolding Settled
   ref_child X p d lies each zero y e =
-      subst (λ (z : Place). Settled z) (same_place (record { sort = part_place X; at = p + num b p 4 }) y e)
-      (inl (d, lies, each))
+      rw (← (same_place (record { sort = part_place X; at = p + num b p 4 }) y e)) (inl (d, lies, each))
   ref_child X p d lies each (suc k) y e = cc
 
   at_child : (s : Sort) (p : ℕ) (d : Datum) → LiesAt L b s p d → EachTableAt L b P s p d → (k : ℕ) (y : Place)
@@ -116,5 +114,5 @@ module _ (L : LaidSchema) (b : Bytes) (P : ℕ → ℕ → Type 0) where
   child x (inr is) k y e = bare_child x.sort x.at is k y e
 
   pub reach : (path : Path) (x y : Place) → Settled x → Leads L b x path y → Settled y
-  reach [] x y settled e = subst (λ (z : Place). Settled z) e settled
+  reach [] x y settled e = rw (← e) settled
   reach (k ∷ path) x y settled leads = reach path leads.1 y (child x settled k leads.1 leads.2) leads.3

@@ -1,6 +1,6 @@
 -- A place that keeps its rules is within the bytes, and what it names is at greater positions.
 use Rattle.std.proofs.Common.{◌≡◌, ℕ, zero, suc, ◌+◌, ◌-◌, ◌<◌, ◌≤◌, Bool, true, false, not, nat_eq, cond, List, []}
-use Rattle.std.proofs.Common.{◌∷◌, length, Option, None, Some, slice_get, refl, subst, arith}
+use Rattle.std.proofs.Common.{◌∷◌, length, Option, None, Some, slice_get, refl, arith}
 use Rattle.std.proofs.lemmas.Bool.{leb-true, ltb-true, and_parts}
 use Rattle.fb_value.specs.Num.{Bytes, num}
 use Rattle.fb_layout.specs.Laid.{LaidSchema, Slot, StoredKind, table_kind, union_kind, text_kind}
@@ -37,14 +37,14 @@ higher : (b : Bytes) (p k : ℕ) (s : Sort) (y : Place)
 higher b p k s y e =
     let found = if_there _ _ y e in
     let there : 0 < slot_number b p k = ltb-true _ _ found.0 in
-    subst (λ (z : Place). p < z.at) found.1 (omega arith)
+    rw (← found.1) (omega arith)
 
 -- The same of a union's value.
 union_higher : (b : Bytes) (p k c : ℕ) (o : Option ℕ) (y : Place) → named_union b p k c o ≡ Some y → p < y.at
 union_higher b p k c None y e =
     let found = if_there _ _ y e in
     let there : 0 < slot_number b p k = ltb-true _ _ (and_parts (not (nat_eq c 0)) (is_present b p k) found.0).1 in
-    subst (λ (z : Place). p < z.at) found.1 (omega arith)
+    rw (← found.1) (omega arith)
 union_higher b p k c (Some t) y e = higher b p k (ref_place (member_part c t)) y e
 
 -- The same of any slot.
@@ -75,7 +75,7 @@ pub elements_higher : (X : Target) (p n j : ℕ) (y : Place) → slice_get (name
 unfolding named_elements
 elements_higher X p zero j y e = cc
 elements_higher X p (suc n) zero y e =
-    subst (λ (z : Place). p ≤ z.at) (same_place (record { sort = ref_place X; at = p }) y e) (omega arith)
+    rw (← (same_place (record { sort = ref_place X; at = p }) y e)) (omega arith)
 elements_higher X p (suc n) (suc j) y e = omega (arith, elements_higher X (p + 4) n j y e)
 
 -- What a vector names is at greater positions.
@@ -91,7 +91,7 @@ pub ref_higher : (L : LaidSchema) (b : Bytes) (X : Target) (p k : ℕ) (y : Plac
 unfolding fault_by
 ref_higher L b X p zero y e n =
     let above : 0 < num b p 4 = ltb-true _ _ (rule_held _ _ _ (rule_held _ _ _ (rule_held _ _ _ e).1).1).0 in
-    subst (λ (z : Place). p < z.at) (same_place (record { sort = part_place X; at = p + num b p 4 }) y n) (omega arith)
+    rw (← (same_place (record { sort = part_place X; at = p + num b p 4 }) y n)) (omega arith)
 ref_higher L b X p (suc k) y e n = cc
 
 -- each step leads to a greater position

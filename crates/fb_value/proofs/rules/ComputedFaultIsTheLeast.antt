@@ -1,6 +1,6 @@
 -- The fault that is computed is the one at the least path.
 use Rattle.std.proofs.Common.{◌≡◌, ℕ, zero, suc, ◌+◌, ◌-◌, ◌<◌, ◌⊎◌, inl, inr, List, [], ◌∷◌, length, take, Option}
-use Rattle.std.proofs.Common.{None, Some, slice_get, refl, ap, subst, arith, add_assoc, add-zero}
+use Rattle.std.proofs.Common.{None, Some, slice_get, refl, ap, arith, add_assoc, add-zero}
 use Rattle.fb_value.specs.declared.faults.ReadFault.{ReadFault}
 use Rattle.fb_value.specs.Num.{Bytes}
 use Rattle.fb_layout.specs.Laid.{LaidSchema}
@@ -92,7 +92,7 @@ among_none look cost spent (None ∷ xs) e zero y names = cc
 among_none look cost spent (None ∷ xs) e (suc k) y names = among_none look cost spent xs e k y names
 among_none look cost spent (Some x ∷ xs) e zero y names =
     let is : x ≡ y = cc in
-    subst (λ (z : Place). look z (spent + 0) ≡ None) is (rw add-zero (or_none _ _ e).0)
+    rw (← is) (rw add-zero (or_none _ _ e).0)
 among_none look cost spent (Some x ∷ xs) e (suc k) y names =
     rw (← add_assoc spent (cost x) (sum_over cost (take k xs)))
     (among_none look cost (spent + cost x) xs (or_none _ _ e).1 k y names)
@@ -134,7 +134,7 @@ after_first look cost spent x xs f none r =
         → look z (spent + sum_over cost (take j (Some x ∷ xs))) ≡ None
     go zero z h e =
         let is : x ≡ z = cc in
-        subst (λ (w : Place). look w (spent + 0) ≡ None) is (rw add-zero none)
+        rw (← is) (rw add-zero none)
     go (suc j) z h e = rw (← add_assoc spent (cost x) (sum_over cost (take j xs))) (r.before j z (omega arith) e)
 
 -- What is computed among several places is the first fault.
@@ -204,10 +204,7 @@ module _ (fuel : ℕ) (L : LaidSchema) (b : Bytes) (most : Bounds) (x : Place) (
   none_before (j ∷ path) g (inr same) fault =
       let is : fault.1 ≡ r.y = same_entry (named L b x.sort x.at) j r.k fault.1 r.y same.0 fault.2 r.names in
       below.2 path g same.1
-      (subst (λ (i : ℕ). FaultFrom L b most r.y (tables + own_tables x.sort)
-      ((spent + own_cells b x.sort x.at) + sum_over (all L b) (take i (named L b x.sort x.at))) path g) same.0
-      (subst (λ (z : Place). FaultFrom L b most z (tables + own_tables x.sort)
-      ((spent + own_cells b x.sort x.at) + sum_over (all L b) (take j (named L b x.sort x.at))) path g) is fault.3))
+      (rw (← same.0) (rw (← is) fault.3))
 
   -- The fault behind the first such step is the least.
   step_least : LeastFrom L b most x tables spent f

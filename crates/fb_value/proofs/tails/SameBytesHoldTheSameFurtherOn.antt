@@ -128,7 +128,7 @@ module _ (L : LaidSchema) (al al2 : Aligned) (b c : Bytes) (k : ℕ)
           → (nat_lt (length c) q || (n == 0) || al2 (align_of L kind) q) ≡ true
       by_first (inl is) = or_left _ _ (by_rest (or_cases _ _ is))
       by_first (inr is) = or_right _ _
-          (subst (λ (i : ℕ). al2 (align_of L kind) i ≡ true) (sym e) (same (align_of L kind) p within is))
+          (rw (← e) at (same (align_of L kind) p within is))
 
   vector_kept : (kind : StoredKind) (p : ℕ) → KeepsBy al L b (part_place (vector_part kind)) p
       → KeepsBy al2 L c (part_place (vector_part kind)) (k + p)
@@ -227,8 +227,7 @@ module _ (L : LaidSchema) (al al2 : Aligned) (b c : Bytes) (k : ℕ)
   behind_lies (ref_place X) p d known h =
       let at : k + (p + num b p 4) ≡ (k + p) + num c (k + p) 4 = omega (arith, number_moved b c k bytes p 4) in (
         ref_keeps X p h.0,
-        subst (λ (q : ℕ). LiesBy al2 L c (part_place X) q d)
-            at (known (part_place X) (p + num b p 4) h.1),
+        rw (← at) (known (part_place X) (p + num b p 4) h.1),
       )
   behind_lies (part_place X) p d known h = known (part_place X) p h
   behind_lies (inline_place kind) p d known h = known (inline_place kind) p h
@@ -279,8 +278,7 @@ module _ (L : LaidSchema) (al al2 : Aligned) (b c : Bytes) (k : ℕ)
         let at : k + (p + 4) ≡ (k + p) + 4 = omega arith in (
           vector_kept kind p h.0,
           rw (number_moved b c k bytes p 4) h.1,
-          subst (λ (q : ℕ). LiesItemsBy al2 L c kind q ds)
-              at (items_lie kind (p + 4) ds h.2),
+          rw (← at) (items_lie kind (p + 4) ds h.2),
         )
     lies_moved (part_place (table_part t)) p (a_table type ss) h =
         let xs = named_slots L b p 0 (slots_of L t) in (
@@ -299,7 +297,7 @@ module _ (L : LaidSchema) (al al2 : Aligned) (b c : Bytes) (k : ℕ)
     items_lie kind p (more_parts d ds) h =
         let at : k + (p + size_of L kind) ≡ (k + p) + size_of L kind = omega arith in (
           element_lies kind p (target_of kind) d (λ s q is. lies_moved s q d is) h.0,
-          subst (λ (q : ℕ). LiesItemsBy al2 L c kind q ds) at (items_lie kind (p + size_of L kind) ds h.1),
+          rw (← at) (items_lie kind (p + size_of L kind) ds h.1),
         )
 
     slots_lie : (fs : List Slot) (xs : List (Option Place)) (ss : SlotEntries) → LiesSlotsBy al L b fs xs ss
@@ -328,7 +326,7 @@ module _ (L : LaidSchema) (al al2 : Aligned) (b c : Bytes) (k : ℕ)
     unfolding EachKnown
     each_behind (ref_place X) p d known lies each =
         let at : k + (p + num b p 4) ≡ (k + p) + num c (k + p) 4 = omega (arith, number_moved b c k bytes p 4) in
-        subst (λ (q : ℕ). EachTable L c Q (part_place X) q d) at (known (part_place X) (p + num b p 4) lies.1 each)
+        rw (← at) (known (part_place X) (p + num b p 4) lies.1 each)
     each_behind (part_place X) p d known lies each = known (part_place X) p lies each
     each_behind _ p d known lies each = tt
 
@@ -359,7 +357,7 @@ module _ (L : LaidSchema) (al al2 : Aligned) (b c : Bytes) (k : ℕ)
       each_moved (part_place text_part) p (a_text bs) lies each = tt
       each_moved (part_place (vector_part kind)) p (a_vector ds) lies each =
           let at : k + (p + 4) ≡ (k + p) + 4 = omega arith in
-          subst (λ (q : ℕ). EachItem L c Q kind q ds) at (each_items kind (p + 4) ds lies.2 each)
+          rw (← at) (each_items kind (p + 4) ds lies.2 each)
       each_moved (part_place (table_part t)) p (a_table type ss) lies each =
           let xs = named_slots L b p 0 (slots_of L t) in
           let slots = table_slots t p lies.0 in (
@@ -377,7 +375,7 @@ module _ (L : LaidSchema) (al al2 : Aligned) (b c : Bytes) (k : ℕ)
       each_items kind p (more_parts d ds) lies each =
           let at : k + (p + size_of L kind) ≡ (k + p) + size_of L kind = omega arith in (
             each_element kind p (target_of kind) d (λ s q is each. each_moved s q d is each) lies.0 each.0,
-            subst (λ (q : ℕ). EachItem L c Q kind q ds) at (each_items kind (p + size_of L kind) ds lies.1 each.1),
+            rw (← at) (each_items kind (p + size_of L kind) ds lies.1 each.1),
           )
 
       each_slots : (fs : List Slot) (xs : List (Option Place)) (ss : SlotEntries) → LiesSlotsBy al L b fs xs ss

@@ -1,5 +1,5 @@
 -- The laws of tails.
-use Rattle.std.proofs.Common.{◌≡◌, ℕ, ◌+◌, ◌-◌, ◌%◌, ◌≤◌, ◌++◌, true, length, slice_index, refl, ap, sym, ◌∙◌, subst}
+use Rattle.std.proofs.Common.{◌≡◌, ℕ, ◌+◌, ◌-◌, ◌%◌, ◌≤◌, ◌++◌, true, length, slice_index, refl, ap, sym, ◌∙◌}
 use Rattle.std.proofs.Common.{arith, length-append}
 use Rattle.std.proofs.lemmas.Bool.{eqb-true, eq-eqb, and_parts, and_from}
 use Rattle.std.proofs.lemmas.List.{get_or-append-add}
@@ -11,7 +11,7 @@ use Rattle.fb_value.specs.Places.{Sort}
 use Rattle.fb_value.specs.Rules.{Aligned, from_start}
 use Rattle.fb_value.specs.Lies.{LiesAtBy}
 use Rattle.fb_value.specs.Tails.{from_end}
-use Rattle.fb_value.specs.EachTable.{EachTableAt, IsOldTable}
+use Rattle.fb_value.specs.EachTable.{IsOldTable}
 use Rattle.fb_value.specs.TailLaws.{KeptInFront, KeptByMultiple, LiesInWhole, OldKeptInFront}
 use Rattle.fb_value.proofs.tails.SameBytesHoldTheSameFurtherOn.{at_moved, each_at_moved}
 
@@ -39,8 +39,8 @@ front_shown L m front s sort e d h =
     let at : length front + (length s - e) ≡ length (front ++ s) - e = omega (arith, h.within, whole) in
     record {
       within = omega (arith, h.within, whole);
-      lies = subst (λ (p : ℕ). LiesAtBy (from_end (front ++ s) m) L (front ++ s) sort p d) at
-          (at_moved L (from_end s m) (from_end (front ++ s) m) s (front ++ s) (length front) (omega (arith, whole))
+      lies = rw (← at) (at_moved L (from_end s m) (from_end (front ++ s) m) s (front ++ s) (length front)
+      (omega (arith, whole))
           (λ i. get_or-append-add front s i 0) (λ a p low is. same a p whole is) sort (length s - e) d h.lies);
     }
   where
@@ -55,9 +55,8 @@ at_once : (L : LaidSchema) (al al2 : Aligned) (b : Bytes) → ((a p : ℕ) → p
     → (sort : Sort) (p : ℕ) (d : Datum) → LiesAtBy al L b sort p d → LiesAtBy al2 L b sort p d
 at_once L al al2 b same sort p d h =
     let still : (q : ℕ) → 0 + q ≡ q = λ q. omega arith in
-    subst (λ (q : ℕ). LiesAtBy al2 L b sort q d) (still p)
-    (at_moved L al al2 b b 0 (omega arith) (λ i. ap (λ j. slice_index b j) (still i))
-    (λ a q low is. subst (λ (r : ℕ). al2 a r ≡ true) (sym (still q)) (same a q low is)) sort p d h)
+    rw (← (still p)) (at_moved L al al2 b b 0 (omega arith) (λ i. ap (λ j. slice_index b j) (still i))
+    (λ a q low is. rw (still q) (same a q low is)) sort p d h)
 
 pub multiple_shown : KeptByMultiple
 multiple_shown L m n s sort e d mn h =
@@ -84,8 +83,7 @@ pub old_shown : OldKeptInFront
 old_shown L m front s sort e d h old =
     let whole : length (front ++ s) ≡ length front + length s = length-append front s in
     let at : length front + (length s - e) ≡ length (front ++ s) - e = omega (arith, h.within, whole) in
-    subst (λ (p : ℕ). EachTableAt L (front ++ s) (λ t p. IsOldTable L (front ++ s) t p) sort p d) at
-    (each_at_moved L (from_end s m) (λ a p. true) s (front ++ s) (length front) (omega (arith, whole))
+    rw (← at) (each_at_moved L (from_end s m) (λ a p. true) s (front ++ s) (length front) (omega (arith, whole))
     (λ i. get_or-append-add front s i 0) (λ a p low is. refl)
     (λ t p. IsOldTable L s t p) (λ t p. IsOldTable L (front ++ s) t p) (λ t p slots known j out. slots j ∙ known j out)
     sort (length s - e) d h.lies old)

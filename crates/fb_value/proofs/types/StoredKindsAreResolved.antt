@@ -1,6 +1,6 @@
 -- What a layout keeps of stored kinds: structs hold numbers and lower structs, and vectors no unions.
 use Rattle.std.proofs.Common.{◌≡◌, ℕ, suc, ◌+◌, ◌<◌, List, [], ◌∷◌, length, map, IsTrue, Option, None, Some, slice_get}
-use Rattle.std.proofs.Common.{refl, subst}
+use Rattle.std.proofs.Common.{refl}
 use Rattle.fb_schema.specs.declared.kinds.Kind.{Kind}
 use Rattle.fb_schema.specs.declared.kinds.Kind.TheVariants.{Scalar, Enum, Struct, Table, Text}
 use Rattle.fb_schema.specs.declared.kinds.Shape.{Shape}
@@ -119,8 +119,7 @@ module _ (L : LaidSchema) (made : IsWellMade L) where
       let struct : IsTrue (is_struct (body_at L.schema s)) = rw e refl in
       let laid = made.sized.structs s struct in
       parts_lower L s 0 laid.end fs (struct_at L s).offsets (λ k f h. (is.parts k f h).0)
-      (subst (λ (x : DeclaredBody). StandInOrder L 0 (kinds_in L.schema (parts_in x)) (struct_at L s).offsets laid.end)
-      e laid.fields)
+      (rw e at laid.fields)
   body_lower s _ e is = tt
 
   -- The slots of a declared type are stored ones, whatever its body.

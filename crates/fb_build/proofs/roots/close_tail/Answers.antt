@@ -1,4 +1,4 @@
-use Rattle.std.proofs.Common.{◌≡◌, ℕ, ◌+◌, ◌≤◌, ◌++◌, ◌∙◌, true, refl, ap, sym, subst, length, drop, arith}
+use Rattle.std.proofs.Common.{◌≡◌, ℕ, ◌+◌, ◌≤◌, ◌++◌, ◌∙◌, true, refl, ap, length, drop, arith}
 use Rattle.std.proofs.Common.{length-append}
 use Rattle.byteorder.specs.Endian.{little_bytes}
 use Rattle.fb_layout.specs.Laid.{LaidSchema}
@@ -33,9 +33,8 @@ covered_behind : (L : LaidSchema) (s b : Bytes) (m : ℕ) (v : Datum) (h : IsCou
     × (divides (greatest_align L (drop 4 b) (reached_parts L (drop 4 b) v)) (length b) ≡ true)
 covered_behind L s b m v h covers whole =
     let long : length s + 4 ≡ length b = omega (arith, counted_long s b h) in
-    let all : divides m (length b) ≡ true = subst (λ (n : ℕ). divides m n ≡ true) long whole in
-    subst (λ (z : Bytes). IsCoveredBy L z v × (divides (greatest_align L z (reached_parts L z v)) (length b) ≡ true))
-    (sym (counted_behind s b h)) (covers.0, rw covers.1 all)
+    let all : divides m (length b) ≡ true = rw (← long) whole in
+    rw (counted_behind s b h) (covers.0, rw covers.1 all)
 
 -- ---- a buffer alone
 

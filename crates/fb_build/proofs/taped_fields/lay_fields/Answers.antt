@@ -1,5 +1,5 @@
 use Rattle.std.proofs.Common.{◌≡◌, ◌+◌, ◌-◌, ◌%◌, ◌<◌, ◌∙◌, ℕ, suc, true, List, ◌∷◌, length, drop, slice_index_or, refl}
-use Rattle.std.proofs.Common.{ap, subst, arith, false}
+use Rattle.std.proofs.Common.{ap, arith, false}
 use Rattle.std.proofs.lemmas.Bool.{eq-eqb, eqb-true}
 use Rattle.std.proofs.lemmas.List.Sums.{sum_by-cons}
 use Rattle.std.proofs.Math.Seq.{drop-cons}
@@ -22,8 +22,7 @@ note_behind : (notes : List NotedField) (i : ℕ) → i < length notes
     → drop i notes ≡ slice_index_or notes i Reference ∷ drop (i + 1) notes
 note_behind notes i low =
     let one : suc i ≡ i + 1 = omega arith in
-    subst (λ (j : ℕ). drop i notes ≡ slice_index_or notes i Reference ∷ drop j notes) one
-    (drop-cons notes i Reference low)
+    rw (← one) (drop-cons notes i Reference low)
 
 zeros_are : (align n count : ℕ) → count ≡ (align - (n + 0) % align) % align → count ≡ zeros_to align n
 zeros_are align n count is = let all : n + 0 ≡ n = omega arith in rw all at is

@@ -1,11 +1,10 @@
-use Rattle.std.proofs.Common.{◌≡◌, ◌+◌, ◌-◌, ◌*◌, ◌∙◌, refl, sym, length, drop, slice_index, arith, subst}
+use Rattle.std.proofs.Common.{◌≡◌, ◌+◌, ◌-◌, ◌*◌, ◌∙◌, refl, length, drop, slice_index, arith}
 use Rattle.std.proofs.lemmas.Option.{slice_get_within}
 use Rattle.fb_layout.specs.Laid.{one_of, size_of}
-use Rattle.fb_value.specs.Datum.{Parts, no_parts}
+use Rattle.fb_value.specs.Datum.{no_parts}
 use Rattle.fb_value.specs.Places.{part_place}
 use Rattle.fb_value.specs.View.{parts_in}
 use Rattle.fb_build.specs.Fields.{target_for}
-use Rattle.fb_build.specs.Items.{ItemsEnd}
 use Rattle.fb_build.specs.Tails.{LaidInTail}
 use Rattle.fb_build.proofs.fields.ReferencesLeadInside.{leads_any, reference_there}
 use Rattle.fb_build.proofs.fields.FieldHasItsValue.{more_divides, target_grown}
@@ -56,8 +55,7 @@ loop-k-preserved c =
           let size = reference_size L kind is.references in
           let long : length b.bytes ≡ length o.bytes + size_of L kind = omega (arith, now.long, size) in
           let e = parts_back ds n k d.0 c.loop-k-test.true d.1 in
-          subst (λ (qs : Parts). ItemsEnd L b.most b.bytes kind qs) (sym e)
-          (one_more L o b kind d.0 (parts_in (drop (n - k) ds)) is.known.element now.grows long lies
+          rw e (one_more L o b kind d.0 (parts_in (drop (n - k) ds)) is.known.element now.grows long lies
           (inv.items L kind ds is)));
       leads = λ L kind ds is. (let d = element_at ds n i is.each (omega (arith, c.loop-k-test.true)) in
           let size = reference_size L kind is.references in

@@ -1,4 +1,4 @@
-use Rattle.std.proofs.Common.{ℕ, ◌≡◌, ◌<◌, ◌≤◌, ◌+◌, ◌-◌, ◌++◌, ◌∙◌, inl, inr, refl, ap, subst, [], ◌∷◌, length}
+use Rattle.std.proofs.Common.{ℕ, ◌≡◌, ◌<◌, ◌≤◌, ◌+◌, ◌-◌, ◌++◌, ◌∙◌, inl, inr, refl, ap, [], ◌∷◌, length}
 use Rattle.std.proofs.Common.{slice_get, slice_index, Some, arith}
 use Rattle.std.proofs.lemmas.Grind.{get_or_default_zero}
 use Rattle.std.proofs.Common.{nat_lt, true, false}
@@ -60,8 +60,7 @@ returns-clause-laid c vtables is =
     let some : 0 < e = omega (arith, c.count.ensures.exact, c.lay_new.ensures.free, long) in
     let each = is.shared.each in
     let key : slice_get (come vtables places ++ (vt ∷ [])) (length places) ≡ Some vt =
-    subst (λ (n : ℕ). slice_get (come vtables places ++ (vt ∷ [])) n ≡ Some vt) each
-    (last_key (come vtables places) vt) in
+    rw each at (last_key (come vtables places) vt) in
     let own : slice_index (places ++ (e ∷ [])) (length places) ≡ length s =
     last_place places e ∙ c.count.ensures.exact in
     let laid : IsVtableLaid vtables c.args.number vt places (places ++ (e ∷ [])) old s (c.count-place.result + 4) =

@@ -2,7 +2,7 @@ use Rattle.std.proofs.Common.{◌≡◌, List, length, get_or, slice_get, Some, 
 use Rattle.std.proofs.Common.{◌∙◌, arith}
 use Rattle.std.proofs.lemmas.List.{length-map}
 use Rattle.std.proofs.lemmas.Option.{slice_get-map, slice_get-get_or}
-use Rattle.fb_schema.specs.Schema.{Name, DeclaredField, DeclaredSchema, body_at}
+use Rattle.fb_schema.specs.Schema.{DeclaredField, DeclaredSchema, body_at}
 use Rattle.fb_schema.specs.Seen.{field_seen}
 use Rattle.fb_schema.specs.Found.{fields_in}
 use Rattle.fb_conform.specs.Names.{slot_named}
@@ -28,8 +28,7 @@ loop-i-preserved c =
     let declared = is_body A.schema c.requires.declared t (twin_declared A.schema B.schema t u c.requires.twins) in
     let added = subst (λ (S : DeclaredSchema). AddsIfMoved (slot_named (body_at S u) (string_bytes f.name))
     (moved_at c.args.type_id i) c.loop-i.found.items c.add_name.new.found.items) c.schema.ensures.schema
-    (subst (λ (n : Name). AddsIfMoved (slot_named (body_at c.schema.result.now u) n) (moved_at c.args.type_id i)
-    c.loop-i.found.items c.add_name.new.found.items) c.as_str.ensures.value c.in_ok-add_name.ensures) in
+    (rw (← c.as_str.ensures.value) c.in_ok-add_name.ensures) in
     field_added A B t u c.requires.twins declared c.requires.fields i (field_seen f) at c.loop-i.found.items
     c.add_name.new.found.items added c.loop-i.invariant
 

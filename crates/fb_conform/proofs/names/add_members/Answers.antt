@@ -3,8 +3,7 @@ use Rattle.std.proofs.Common.{subst}
 use Rattle.std.proofs.Common.{◌∙◌, arith}
 use Rattle.std.proofs.lemmas.List.{length-map}
 use Rattle.std.proofs.lemmas.Option.{slice_get-map, slice_get-get_or}
-use Rattle.fb_schema.specs.Schema.{Name, DeclaredBody, DeclaredSchema, body_at}
-use Rattle.fb_schema.specs.WellDeclared.{IsBody}
+use Rattle.fb_schema.specs.Schema.{Name, DeclaredSchema, body_at}
 use Rattle.fb_conform.specs.Names.{slot_named}
 use Rattle.fb_conform.specs.MovedNames.{AddsIfMoved}
 use Rattle.fb_conform.proofs.laws.EachBodyIsDeclared.{is_body}
@@ -19,7 +18,7 @@ loop-i-init c =
     let t = c.args.type_id.0 in
     let u = c.args.twin.0 in
     let ms : List (Name × ℕ) = map (λ m. (string_bytes m.0, m.1.0)) c.args.members.now in
-    let is = subst (λ (b : DeclaredBody). IsBody A.schema t b) c.requires.members
+    let is = rw c.requires.members at
     (is_body A.schema c.requires.declared t (twin_declared A.schema B.schema t u c.requires.twins)) in
     members_begin A B t u c.requires.twins ms c.requires.members is c.args.found.now.items c.requires.before
 
@@ -37,12 +36,11 @@ loop-i-preserved c =
     slice_get-map (λ m. (string_bytes m.0, m.1.0)) xs i
     ∙ ap (option_map (λ m. (string_bytes m.0, m.1.0)))
     (slice_get-get_or xs i c.index-members-i.result c.loop-i-test.true) in
-    let is = subst (λ (b : DeclaredBody). IsBody A.schema t b) c.requires.members
+    let is = rw c.requires.members at
     (is_body A.schema c.requires.declared t (twin_declared A.schema B.schema t u c.requires.twins)) in
     let added = subst (λ (S : DeclaredSchema). AddsIfMoved (slot_named (body_at S u) (string_bytes m.0))
     (moved_at c.args.type_id (i + 1)) c.loop-i.found.items c.add_name.new.found.items) c.schema.ensures.schema
-    (subst (λ (n : Name). AddsIfMoved (slot_named (body_at c.schema.result.now u) n) (moved_at c.args.type_id (i + 1))
-    c.loop-i.found.items c.add_name.new.found.items) c.as_str.ensures.value c.in_ok-add_name.ensures) in
+    (rw (← c.as_str.ensures.value) c.in_ok-add_name.ensures) in
     member_added A B t u c.requires.twins ms c.requires.members is i (string_bytes m.0, m.1.0) at c.loop-i.found.items
     c.add_name.new.found.items added c.loop-i.invariant
 
@@ -54,7 +52,7 @@ returns c =
     let u = c.args.twin.0 in
     let xs = c.args.members.now in
     let ms : List (Name × ℕ) = map (λ m. (string_bytes m.0, m.1.0)) xs in
-    let is = subst (λ (b : DeclaredBody). IsBody A.schema t b) c.requires.members
+    let is = rw c.requires.members at
     (is_body A.schema c.requires.declared t (twin_declared A.schema B.schema t u c.requires.twins)) in
     let long : length ms ≡ length xs = length-map xs _ in
     members_added A B t u c.requires.twins ms c.requires.members is c.loop-i.i

@@ -51,8 +51,7 @@ returns-after-same_numbers g c =
     elim c.if-same_numbers.branch [
       | then-same_numbers w ↦ both_passed _ _ _ c.same_numbers.result w.has_values-kept.result c.if-same_numbers.kept
           c.same_numbers.ensures
-          (subst (λ (S : DeclaredSchema). IsTrue w.has_values-kept.result ↔ All (Contains (values_in (body_at S u)))
-          values) w.schema-then-same_numbers.ensures.schema
+          (rw (← w.schema-then-same_numbers.ensures.schema)
           (subst (λ (vs : List (Name × ℤ)). IsTrue w.has_values-kept.result
           ↔ All (Contains (values_in (body_at w.schema-then-same_numbers.result.now u))) vs)
           (ap (λ vs. map (λ v. (string_bytes v.0, v.1)) vs) w.deref.ensures.value) w.has_values-kept.ensures))
@@ -90,11 +89,8 @@ returns-in-Union-Union g c =
     let told : IsTrue kept
     ↔ ((k m : ℕ) → member_coded (union_body members) k ≡ Some m → CodeKept A.schema B.schema (body_at B.schema u) k
     m) =
-    subst (λ (W : DeclaredSchema). IsTrue kept ↔ ((k m : ℕ) → member_coded (union_body members) k ≡ Some m
-    → CodeKept W B.schema (body_at B.schema u) k m)) c.schema-in-Union-Union.ensures.schema
-    (subst (λ (W : DeclaredSchema). IsTrue kept ↔ ((k m : ℕ) → member_coded (union_body members) k ≡ Some m
-    → CodeKept S W (body_at W u) k m)) c.schema-in-Union-Union-2.ensures.schema
-    (subst (λ (ms : List (Name × ℕ)). IsTrue kept
+    rw (← c.schema-in-Union-Union.ensures.schema)
+    (rw (← c.schema-in-Union-Union-2.ensures.schema) (subst (λ (ms : List (Name × ℕ)). IsTrue kept
     ↔ ((k m : ℕ) → member_coded (union_body ms) k ≡ Some m → CodeKept S T (body_at T u) k m))
     (ap (λ ms. map (λ m. (string_bytes m.0, m.1.0)) ms) c.deref-in-Union-Union.ensures.value)
     c.keeps_codes-kept.ensures))

@@ -1,12 +1,10 @@
-use Rattle.std.proofs.Common.{◌≡◌, ℕ, [], map, sym, ap, ◌∙◌, subst, slice_index_or}
+use Rattle.std.proofs.Common.{◌≡◌, [], map, sym, ap, ◌∙◌, subst}
 use Rattle.std.specs.Option.{option_map}
 use Rattle.fb_layout.specs.Widths.{greatest}
 use Rattle.fb_layout.specs.WellMade.{IsWellMade}
-use Rattle.fb_layout.specs.Laid.{LaidSchema}
-use Rattle.fb_layout.specs.Known.{no_table, sizes_seen, known_from, tables_from, layout_known}
+use Rattle.fb_layout.specs.Known.{sizes_seen, known_from, tables_from, layout_known}
 use Rattle.fb_layout.proofs.layouts.LayoutIsWellMadeOrRefused.{refused_for, made_for}
 use Rattle.fb_layout.proofs.laws.SchemaHasOneLayout.{no_layout}
-use Rattle.fb_layout.proofs.layouts.SizesOrTheFirstFault.{table_at}
 use Rattle.fb_layout.proofs.slots.RequiredSlotsAreNumbered.{small_numbers}
 use Rattle.fb_layout.proofs.layouts.lay.Goals as goal
 
@@ -30,8 +28,7 @@ invariant_of-result c =
     ≡ layout_known S (map (option_map sizes_seen) c.in-Ok.structs.items) = ap (layout_known S) (sym items) in
     record {
       made = subst IsWellMade same is.made;
-      tables = subst (λ (L : LaidSchema). (t : ℕ) → slice_index_or c.in-Ok-tables_of.tables.items t no_table
-          ≡ table_at L t) same is.tables;
+      tables = rw (← same) is.tables;
       required = c.in-Ok-required_of.ensures;
       greatest = c.greatest-greatest.ensures ∙ ap (λ s. greatest (layout_known S (map (option_map sizes_seen) s)))
           c.as_slice-2.ensures.value;

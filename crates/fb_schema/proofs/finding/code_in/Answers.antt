@@ -1,9 +1,9 @@
-use Rattle.std.proofs.Common.{◌≡◌, ◌≢◌, ◌+◌, ℕ, suc, false, List, String, Global, map, position, AllPairs, None, Some}
-use Rattle.std.proofs.Common.{bytes_eq, codes, string_bytes, ap, sym, subst, ◌∙◌, arith, refl}
+use Rattle.std.proofs.Common.{◌≡◌, ◌+◌, ℕ, suc, false, List, String, Global, map, position, None, Some}
+use Rattle.std.proofs.Common.{bytes_eq, codes, string_bytes, ap, sym, ◌∙◌, arith, refl}
 use Rattle.fb_schema.specs.declared.kinds.TypeId.{TypeId}
 use Rattle.fb_schema.specs.Schema.{Name, DeclaredBody, union_body}
 use Rattle.fb_schema.specs.Seen.{body_seen}
-use Rattle.fb_schema.specs.Indexed.{inner_names, IndexesNames}
+use Rattle.fb_schema.specs.Indexed.{inner_names}
 use Rattle.fb_schema.proofs.LookUps.{union_of, code_through, keys_seen}
 use Rattle.fb_schema.proofs.finding.code_in.Goals as goal
 
@@ -19,15 +19,13 @@ module _ (members : List (String Global × TypeId)) (body : DeclaredBody) (is : 
 pub position-requires-clause-indexed : goal.position-requires-clause-indexed
 position-requires-clause-indexed c =
     let body = body_seen c.args.body.now in
-    subst (λ (names : List Name). IndexesNames c.args.names.now names)
-    (names_are c.in_ok-members.members.now body (union_of body _ c.in_ok-members.ensures) c.args.name.now)
+    rw (← (names_are c.in_ok-members.members.now body (union_of body _ c.in_ok-members.ensures) c.args.name.now))
     c.requires.indexed
 
 pub position-requires-clause-distinct : goal.position-requires-clause-distinct
 position-requires-clause-distinct c =
     let body = body_seen c.args.body.now in
-    subst (λ (names : List Name). AllPairs (λ a b. a ≢ b) names)
-    (names_are c.in_ok-members.members.now body (union_of body _ c.in_ok-members.ensures) c.args.name.now)
+    rw (← (names_are c.in_ok-members.members.now body (union_of body _ c.in_ok-members.ensures) c.args.name.now))
     c.requires.distinct.names
 
 pub returns-in_err-at : goal.returns-in_err-at

@@ -1,10 +1,9 @@
-use Rattle.std.proofs.Common.{◌≢◌, List, AllPairs, bytes_eq, slice_get, None, Some, ap, sym, subst, ◌∙◌}
+use Rattle.std.proofs.Common.{List, bytes_eq, slice_get, None, Some, ap, sym, ◌∙◌}
 use Rattle.std.specs.Option.{option_map}
 use Rattle.std.proofs.lemmas.Option.{slice_get-map}
-use Rattle.fb_schema.specs.Schema.{Name, DeclaredField}
+use Rattle.fb_schema.specs.Schema.{DeclaredField}
 use Rattle.fb_schema.specs.Seen.{field_seen, body_seen}
 use Rattle.fb_schema.specs.Found.{fields_in}
-use Rattle.fb_schema.specs.Indexed.{IndexesNames}
 use Rattle.fb_schema.proofs.Got.{got}
 use Rattle.fb_schema.proofs.LookUps.{keys_seen, found_through, fields_indexed, fields_differ}
 use Rattle.fb_schema.proofs.finding.field_in.Goals as goal
@@ -12,18 +11,14 @@ use Rattle.fb_schema.proofs.finding.field_in.Goals as goal
 pub position-requires-clause-indexed : goal.position-requires-clause-indexed
 position-requires-clause-indexed c =
     let body = body_seen c.args.body.now in
-    subst (λ (names : List Name). IndexesNames c.args.names.now names)
-    (sym (keys_seen field_seen (λ f. f.name) (bytes_eq c.args.name.now) c.fields_of-fields.result.now
-    (fields_in body) c.fields_of-fields.ensures))
-    (fields_indexed body c.args.names.now c.requires.indexed)
+    rw (keys_seen field_seen (λ f. f.name) (bytes_eq c.args.name.now) c.fields_of-fields.result.now
+    (fields_in body) c.fields_of-fields.ensures) (fields_indexed body c.args.names.now c.requires.indexed)
 
 pub position-requires-clause-distinct : goal.position-requires-clause-distinct
 position-requires-clause-distinct c =
     let body = body_seen c.args.body.now in
-    subst (λ (names : List Name). AllPairs (λ a b. a ≢ b) names)
-    (sym (keys_seen field_seen (λ f. f.name) (bytes_eq c.args.name.now) c.fields_of-fields.result.now
-    (fields_in body) c.fields_of-fields.ensures))
-    (fields_differ body c.requires.distinct)
+    rw (keys_seen field_seen (λ f. f.name) (bytes_eq c.args.name.now) c.fields_of-fields.result.now
+    (fields_in body) c.fields_of-fields.ensures) (fields_differ body c.requires.distinct)
 
 pub returns-in_err-position : goal.returns-in_err-position
 returns-in_err-position c =

@@ -1,5 +1,5 @@
-use Rattle.std.proofs.Common.{◌≡◌, ◌≢◌, ℕ, List, String, Global, ℤ, map, AllPairs, position, slice_get, Option, None}
-use Rattle.std.proofs.Common.{Some, string_bytes, ap, sym, subst, ◌∙◌}
+use Rattle.std.proofs.Common.{◌≡◌, ℕ, List, String, Global, ℤ, map, slice_get, Option, None}
+use Rattle.std.proofs.Common.{Some, string_bytes, ap, sym, ◌∙◌}
 use Rattle.std.specs.Option.{option_map}
 use Rattle.std.specs.Ordering.{int_eq}
 use Rattle.std.proofs.lemmas.Int.{to_z-of_z}
@@ -7,7 +7,6 @@ use Rattle.std.proofs.lemmas.Option.{slice_get-map}
 use mir.Syntax.{w128}
 use Rattle.fb_schema.specs.Schema.{Name, values_in}
 use Rattle.fb_schema.specs.Seen.{body_seen}
-use Rattle.fb_schema.specs.Indexed.{IndexesNumbers}
 use Rattle.fb_schema.proofs.Got.{got}
 use Rattle.fb_schema.proofs.LookUps.{keys_seen, found_through}
 use Rattle.fb_schema.proofs.finding.name_in.Goals as goal
@@ -26,24 +25,19 @@ name_at values at value declared there same =
 
 pub position-requires-clause-indexed : goal.position-requires-clause-indexed
 position-requires-clause-indexed c =
-    subst (λ (ns : List ℤ). IndexesNumbers c.args.numbers.now ns)
-    (sym (keys_seen seen (λ v. v.1) (int_eq c.args.number) c.values_of-values.result.now
-    (values_in (body_seen c.args.body.now)) c.values_of-values.ensures))
-    c.requires.indexed
+    rw (keys_seen seen (λ v. v.1) (int_eq c.args.number) c.values_of-values.result.now
+    (values_in (body_seen c.args.body.now)) c.values_of-values.ensures) c.requires.indexed
 
 pub position-requires-clause-distinct : goal.position-requires-clause-distinct
 position-requires-clause-distinct c =
-    subst (λ (ns : List ℤ). AllPairs (λ a b. a ≢ b) ns)
-    (sym (keys_seen seen (λ v. v.1) (int_eq c.args.number) c.values_of-values.result.now
-    (values_in (body_seen c.args.body.now)) c.values_of-values.ensures))
-    c.requires.distinct.numbers
+    rw (keys_seen seen (λ v. v.1) (int_eq c.args.number) c.values_of-values.result.now
+    (values_in (body_seen c.args.body.now)) c.values_of-values.ensures) c.requires.distinct.numbers
 
 pub returns-in_err-position : goal.returns-in_err-position
 returns-in_err-position c =
     let none : Option ℕ = None in
     let numbers : List ℤ = map (λ (v : String Global × ℤ). v.1) c.values_of-values.result.now in
-    let place = subst (λ (n : ℤ). none ≡ position (int_eq n) numbers)
-    (to_z-of_z w128 c.args.number c.ranges.number) c.in_err-position.ensures in
+    let place = rw (to_z-of_z w128 c.args.number c.ranges.number) at c.in_err-position.ensures in
     rw c.from_residual.ensures (ap (option_map (λ v. v.0))
     (found_through seen (λ v. v.1) (int_eq c.args.number) c.values_of-values.result.now
     (values_in (body_seen c.args.body.now)) c.values_of-values.ensures None place))
@@ -53,8 +47,7 @@ returns c =
     let values = c.values_of-values.result.now in
     let numbers : List ℤ = map (λ (v : String Global × ℤ). v.1) values in
     let at = c.in_ok-position.field-0 in
-    let place = subst (λ (n : ℤ). Some at ≡ position (int_eq n) numbers)
-    (to_z-of_z w128 c.args.number c.ranges.number) c.in_ok-position.ensures in
+    let place = rw (to_z-of_z w128 c.args.number c.ranges.number) at c.in_ok-position.ensures in
     let there = got values at (Some c.in_ok-value.value) c.in_ok-value.ensures.lookup.0 c.in_ok-value.ensures.lookup.1
     in
     ap Some c.as_str.ensures.value

@@ -1,5 +1,5 @@
-use Rattle.std.proofs.Common.{◌≡◌, ◌≢◌, ℕ, List, String, Global, ℤ, map, AllPairs, bytes_eq, slice_get, Option, None}
-use Rattle.std.proofs.Common.{Some, string_bytes, ap, sym, subst, ◌∙◌, rules}
+use Rattle.std.proofs.Common.{◌≡◌, ℕ, List, String, Global, ℤ, map, bytes_eq, slice_get, Option, None}
+use Rattle.std.proofs.Common.{Some, string_bytes, ap, sym, ◌∙◌, rules}
 use mir.Val.{SFits}
 use mir.Syntax.{w128}
 use Rattle.std.proofs.lemmas.Int.{to_z-of_z}
@@ -7,7 +7,6 @@ use Rattle.std.specs.Option.{option_map}
 use Rattle.std.proofs.lemmas.Option.{slice_get-map}
 use Rattle.fb_schema.specs.Schema.{Name, values_in}
 use Rattle.fb_schema.specs.Seen.{body_seen}
-use Rattle.fb_schema.specs.Indexed.{IndexesNames}
 use Rattle.fb_schema.proofs.Got.{got}
 use Rattle.fb_schema.proofs.LookUps.{keys_seen, found_through, values_indexed, values_differ}
 use Rattle.fb_schema.proofs.finding.number_in.Goals as goal
@@ -27,18 +26,14 @@ number_at values at value declared there same =
 pub position-requires-clause-indexed : goal.position-requires-clause-indexed
 position-requires-clause-indexed c =
     let body = body_seen c.args.body.now in
-    subst (λ (names : List Name). IndexesNames c.args.names.now names)
-    (sym (keys_seen seen (λ v. v.0) (bytes_eq c.args.name.now) c.values_of-values.result.now
-    (values_in body) c.values_of-values.ensures))
-    (values_indexed body c.args.names.now c.requires.indexed)
+    rw (keys_seen seen (λ v. v.0) (bytes_eq c.args.name.now) c.values_of-values.result.now
+    (values_in body) c.values_of-values.ensures) (values_indexed body c.args.names.now c.requires.indexed)
 
 pub position-requires-clause-distinct : goal.position-requires-clause-distinct
 position-requires-clause-distinct c =
     let body = body_seen c.args.body.now in
-    subst (λ (names : List Name). AllPairs (λ a b. a ≢ b) names)
-    (sym (keys_seen seen (λ v. v.0) (bytes_eq c.args.name.now) c.values_of-values.result.now
-    (values_in body) c.values_of-values.ensures))
-    (values_differ body c.requires.distinct)
+    rw (keys_seen seen (λ v. v.0) (bytes_eq c.args.name.now) c.values_of-values.result.now
+    (values_in body) c.values_of-values.ensures) (values_differ body c.requires.distinct)
 
 pub returns-in_err-position : goal.returns-in_err-position
 returns-in_err-position c =

@@ -1,4 +1,4 @@
-use Rattle.std.proofs.Common.{◌≡◌, List, IfOk, Result, sym, subst}
+use Rattle.std.proofs.Common.{◌≡◌, List, IfOk, Result}
 use Rattle.std.specs.declared.alloc.AllocError.{AllocError}
 use Rattle.fb_schema.specs.Schema.{Name}
 use Rattle.fb_schema.specs.declared.name_index.NameIndex.{NameIndex}
@@ -8,7 +8,7 @@ use Rattle.fb_schema.proofs.indexing.names_in.Goals as goal
 
 made : (r : Result NameIndex AllocError) (ms ns : List Name) → ms ≡ ns → IfOk r (λ index. IndexesNames index ns)
     → IfOk r (λ index. IndexesNames index ms)
-made r ms ns e h = subst (λ (names : List Name). IfOk r (λ index. IndexesNames index names)) (sym e) h
+made r ms ns e h = rw e h
 
 pub returns-in-Table : goal.returns-in-Table
 returns-in-Table c = made _ _ _ (table_names _ _ _ c.as_slice.ensures.value c.in-Table.is) c.of.ensures

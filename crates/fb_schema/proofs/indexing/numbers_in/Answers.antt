@@ -1,7 +1,7 @@
-use Rattle.std.proofs.Common.{◌≡◌, List, String, Global, ℤ, map, IfOk, string_bytes, sym, subst, ◌∙◌}
+use Rattle.std.proofs.Common.{◌≡◌, String, Global, ℤ, map, string_bytes, ◌∙◌}
 use Rattle.std.proofs.lemmas.Simd.{map-map}
 use Rattle.fb_schema.specs.Seen.{body_seen}
-use Rattle.fb_schema.specs.Indexed.{inner_numbers, IndexesNumbers}
+use Rattle.fb_schema.specs.Indexed.{inner_numbers}
 use Rattle.fb_schema.proofs.LookUps.{numbers_of}
 use Rattle.fb_schema.proofs.indexing.numbers_in.Goals as goal
 use Rattle.fb_schema.proofs.indexing.numbers_in.Goals.{In-Some}
@@ -15,5 +15,4 @@ numbers c =
 
 pub returns-in-Some : goal.returns-in-Some
 returns-in-Some c =
-    subst (λ (ns : List ℤ). IfOk c.of.result (λ index. IndexesNumbers index ns))
-    (sym (numbers (goal.at.returns-in-Some c).In-Some)) c.of.ensures
+    rw (numbers (goal.at.returns-in-Some c).In-Some) c.of.ensures

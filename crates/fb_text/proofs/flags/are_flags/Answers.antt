@@ -1,4 +1,4 @@
-use Rattle.std.proofs.Common.{rules, ◌≡◌, ◌%◌, ◌^◌, ℤ, pos, ◌<ℤ◌, ap, subst, ◌∙◌}
+use Rattle.std.proofs.Common.{rules, pos, ◌<ℤ◌, ap, ◌∙◌}
 use Rattle.std.proofs.lemmas.Int.{to_z-of_z}
 use mir.Syntax.{w128}
 use Rattle.fb_schema.specs.Schema.{body_at}
@@ -12,7 +12,6 @@ returns-then-number-gt0 c =
     let number = c.args.number in
     let name = name_numbered (body_at c.args.names.now.schema.now c.args.names.now.enumeration.0) in
     let above : pos 0 <ℤ number = search rules in
-    let bits = subst (λ (n : ℤ). c.bits_of.result ≡ bits_of n % 2 ^ 64) (to_z-of_z w128 number c.ranges.number)
-    c.bits_of.ensures in
+    let bits = rw (to_z-of_z w128 number c.ranges.number) at c.bits_of.ensures in
     rw (some_bits number above)
     (c.are_named.ensures ∙ (ap (are_named name 64 1) bits ∙ low_named name 64 1 (bits_of number)))

@@ -1,13 +1,12 @@
-use Rattle.std.proofs.Common.{◌≡◌, ℕ, ◌+◌, ◌-◌, ◌^◌, ◌<◌, List, length, map, Option, None, Some, slice_get}
-use Rattle.std.proofs.Common.{slice_index, slice_index_or, sym, ap, subst, ◌∙◌, arith}
+use Rattle.std.proofs.Common.{◌≡◌, ℕ, ◌+◌, ◌-◌, ◌^◌, ◌<◌, List, length, map, None, Some, slice_get}
+use Rattle.std.proofs.Common.{slice_index, slice_index_or, sym, ap, ◌∙◌, arith}
 use Rattle.std.proofs.lemmas.Option.{slice_get_within}
 use Rattle.fb_schema.specs.declared.types.FieldInfo.{FieldInfo}
 use Rattle.fb_schema.specs.Schema.{DeclaredField, body_at, parts_in}
 use Rattle.fb_schema.specs.Seen.{field_seen}
 use Rattle.fb_layout.specs.Laid.{struct_at}
-use Rattle.fb_value.specs.Datum.{Datum, a_struct}
+use Rattle.fb_value.specs.Datum.{a_struct}
 use Rattle.fb_value.specs.Nth.{nth_part}
-use Rattle.fb_text.specs.Nested.{HasByte}
 use Rattle.fb_text.proofs.values.MemberIsItsCodeAndValue.{seen_there, seen_long}
 use Rattle.fb_text.proofs.nested.FieldHasItsBytes.{has_byte}
 use Rattle.fb_text.proofs.nested.inner_at.Goals as goal
@@ -30,7 +29,7 @@ returns-then-k-fields-clause-inner g c ds k u es more shown has less begin =
     let L = c.args.layout.now in
     let t = c.args.here.structure in
     let at : slice_index (struct_at L t.0).offsets k + more ≡ c.args.byte - c.args.here.at = omega (arith, begin) in
-    let byte = subst (λ (b : ℕ). HasByte L t k has.field b) (at ∙ sym c.saturating_sub.ensures)
+    let byte = rw (at ∙ sym c.saturating_sub.ensures) at
     (has_byte L c.schema-schema.ensures.made t ds k u es has more less) in
     let same = c.field_at-next.ensures.found k has.field has.there byte in
     let within = slice_get_within (parts_in (body_at L.schema t.0)) k has.field has.there in
@@ -45,7 +44,7 @@ returns-in-Some-clause-inner g c ds k u es more shown has less begin =
     let x = c.index-fields-k.result in
     let next = c.field_at-next.result in
     let at : slice_index (struct_at L t.0).offsets k + more ≡ c.args.byte - c.args.here.at = omega (arith, begin) in
-    let byte = subst (λ (b : ℕ). HasByte L t k has.field b) (at ∙ sym c.saturating_sub.ensures)
+    let byte = rw (at ∙ sym c.saturating_sub.ensures) at
     (has_byte L c.schema-schema.ensures.made t ds k u es has more less) in
     let same : next ≡ k = c.field_at-next.ensures.found k has.field has.there byte in
     let within : next < length fields = omega (arith, c.from-k.ensures, c.if-k-fields.false) in
@@ -53,7 +52,7 @@ returns-in-Some-clause-inner g c ds k u es more shown has less begin =
     let field = field_is fields _ next k x has.field c.parts_of-fields.ensures.parts same within is has.there in
     let shape = ap (λ (f : FieldInfo). f.shape) (sym c.index-fields-k.is)
     ∙ (ap (λ (f : DeclaredField). f.shape) field ∙ has.shape) in
-    let part = subst (λ (o : Option Datum). g.S.Shown.shows c.child-part.result L o) (ap (nth_part ds) same ∙ has.part)
+    let part = rw (ap (nth_part ds) same ∙ has.part) at
     (rw c.from-k.ensures at (c.child-part.ensures.shows L (Some (a_struct ds)) shown)) in
     let found : Some c.in-Some.structure ≡ Some u = c.in-Some.ensures.known u es shape (c.find.ensures.top L _ part) in
     let offset : slice_index (struct_at L t.0).offsets next ≡ slice_index (struct_at L t.0).offsets k =
@@ -73,7 +72,7 @@ returns-in-None-clause-inner g c ds k u es more shown has less begin =
     let x = c.index-fields-k.result in
     let next = c.field_at-next.result in
     let at : slice_index (struct_at L t.0).offsets k + more ≡ c.args.byte - c.args.here.at = omega (arith, begin) in
-    let byte = subst (λ (b : ℕ). HasByte L t k has.field b) (at ∙ sym c.saturating_sub.ensures)
+    let byte = rw (at ∙ sym c.saturating_sub.ensures) at
     (has_byte L c.schema-schema.ensures.made t ds k u es has more less) in
     let same : next ≡ k = c.field_at-next.ensures.found k has.field has.there byte in
     let within : next < length fields = omega (arith, c.from-k.ensures, c.if-k-fields.false) in
@@ -81,7 +80,7 @@ returns-in-None-clause-inner g c ds k u es more shown has less begin =
     let field = field_is fields _ next k x has.field c.parts_of-fields.ensures.parts same within is has.there in
     let shape = ap (λ (f : FieldInfo). f.shape) (sym c.index-fields-k.is)
     ∙ (ap (λ (f : DeclaredField). f.shape) field ∙ has.shape) in
-    let part = subst (λ (o : Option Datum). g.S.Shown.shows c.child-part.result L o) (ap (nth_part ds) same ∙ has.part)
+    let part = rw (ap (nth_part ds) same ∙ has.part) at
     (rw c.from-k.ensures at (c.child-part.ensures.shows L (Some (a_struct ds)) shown)) in
     let found : None ≡ Some u = c.in-None.ensures.known u es shape (c.find.ensures.top L _ part) in
     absurd (cc)

@@ -1,10 +1,10 @@
-use Rattle.std.proofs.Common.{◌≡◌, ℕ, suc, true, ◌+◌, ◌-◌, Some, refl, sym, ap, subst, ◌∙◌, add-one, arith}
+use Rattle.std.proofs.Common.{◌≡◌, ℕ, suc, true, ◌+◌, ◌-◌, Some, refl, sym, ap, ◌∙◌, add-one, arith}
 use Rattle.std.proofs.Common.{◌++◌, slice_index}
 use Rattle.fb_layout.specs.Laid.{struct_at}
 use Rattle.fb_value.specs.Datum.{a_struct}
-use Rattle.fb_text.specs.Nested.{HasByte, fields_text, StandsIn}
+use Rattle.fb_text.specs.Nested.{fields_text}
 use Rattle.fb_text.proofs.nested.FieldHasItsBytes.{has_byte, is_filled}
-use Rattle.fb_text.proofs.nested.StructStandsInItsParent.{OnTheWay, way_begins, way_goes_on, way_ends}
+use Rattle.fb_text.proofs.nested.StructStandsInItsParent.{way_begins, way_goes_on, way_ends}
 use Rattle.fb_text.proofs.nested.parent_of.Goals as goal
 
 pub loop-level-init : goal.loop-level-init
@@ -31,9 +31,7 @@ loop-level-preserved g c =
       light = omega (arith, c.inner_at-here.ensures.light, c.loop-level.invariant.light);
       way = λ defaults indent ds es behind shows stands.
           let on = c.loop-level.invariant.way defaults indent ds es behind shows stands in
-          let now = subst (λ (m : ℕ). OnTheWay L defaults indent c.args.structure ds
-          (λ ms. g.S.Shown.shows here.shown L (Some (a_struct ms))) i here.at here.structure m c.args.inner.at
-          c.args.inner.structure es behind) left on in
+          let now = rw left at on in
           rw add-one (way_goes_on L defaults indent c.args.structure ds c.args.inner.at c.args.inner.structure
           es behind c.schema-schema.ensures.made
           (λ ms. g.S.Shown.shows here.shown L (Some (a_struct ms)))
@@ -55,15 +53,13 @@ returns-clause-parent g c defaults indent ds es behind shows stands =
     let level : i ≡ n - 1 = omega arith in
     let left : n - i ≡ 1 = omega (arith, level, c.requires.nested) in
     let on = c.loop-level.invariant.way defaults indent ds es behind shows stands in
-    let now = subst (λ (m : ℕ). OnTheWay L defaults indent c.args.structure ds
-    (λ ms. g.S.Shown.shows here.shown L (Some (a_struct ms))) i here.at here.structure m byte c.args.inner.structure
-    es behind) left on in
+    let now = rw left at on in
     let (k, child, begin, whole) =
     way_ends L defaults indent c.args.structure ds byte c.args.inner.structure es behind made
     (λ ms. g.S.Shown.shows here.shown L (Some (a_struct ms))) i here.at here.structure now in
     let filled = is_filled L made here.structure now.parts k c.args.inner.structure es child in
     let at : slice_index (struct_at L here.structure.0).offsets k + 0 ≡ byte - here.at = omega (arith, begin) in
-    let has = subst (λ (b : ℕ). HasByte L here.structure k child.field b) (at ∙ sym c.saturating_sub.ensures)
+    let has = rw (at ∙ sym c.saturating_sub.ensures) at
     (has_byte L made here.structure now.parts k c.args.inner.structure es child 0 filled) in
     let same : suc k ≡ field + 1 = omega (arith, c.field_at-field.ensures.found k child.field child.there has) in
     let own = λ (d j : ℕ). fields_text L defaults indent here.structure now.parts d j true in (
@@ -71,8 +67,7 @@ returns-clause-parent g c defaults indent ds es behind shows stands =
       now.rest,
       (
         now.shown,
-        subst (λ (d : ℕ). StandsIn L defaults indent c.args.structure ds d here.at here.structure
-            now.parts now.rest) level now.above,
+        rw (← level) now.above,
       ),
       whole ∙ (ap (λ (d : ℕ). own d (suc k) ++ now.rest) level ∙ ap (λ (j : ℕ). own (n - 1) j ++ now.rest) same),
     )

@@ -1,4 +1,4 @@
-use Rattle.std.proofs.Common.{rules, ◌≡◌, ◌%◌, ◌^◌, ℤ, true, false, ap, subst, ◌∙◌}
+use Rattle.std.proofs.Common.{rules, ◌≡◌, true, false, ap, ◌∙◌}
 use Rattle.std.proofs.lemmas.Int.{to_z-of_z}
 use mir.Syntax.{w128}
 use Rattle.fb_schema.specs.Schema.{body_at}
@@ -14,7 +14,6 @@ returns g c =
     let name = name_numbered body in
     let bits = bits_of c.args.number in
     let named : are_flags body bits ≡ true = search rules in
-    let lowest = subst (λ (n : ℤ). c.bits_of.result ≡ bits_of n % 2 ^ 64) (to_z-of_z w128 c.args.number c.ranges.number)
-    c.bits_of.ensures in
+    let lowest = rw (to_z-of_z w128 c.args.number c.ranges.number) at c.bits_of.ensures in
     let low = ap (λ n. bits_text name 64 1 n false) lowest ∙ low_written name 64 1 bits false in
     rw named (then c.put_str.ensures (then (added_as low c.put_bits.ensures) c.put_str-2.ensures))

@@ -1,4 +1,4 @@
-use Rattle.std.proofs.Common.{◌≡◌, ◌==◌, ◌∷◌, [], true, List, ℕ, length, subst, sym, refl, ◌∙◌, arith}
+use Rattle.std.proofs.Common.{◌≡◌, ◌==◌, ◌∷◌, [], true, List, ℕ, length, sym, refl, ◌∙◌, arith}
 use Rattle.std.proofs.lemmas.Bool.Decides.{nat_tests}
 use Rattle.json.specs.Print.{escape}
 use Rattle.fb_text.proofs.noted.PiecesAddUp.{added_none, added_as, then}
@@ -12,7 +12,7 @@ put_escape-requires g c =
 
 pub returns-in_default : goal.returns-in_default
 returns-in_default g c =
-    let ended = subst (λ (l : List ℕ). length l ≡ 0) c.split_at.ensures.back c.in_default.ensures.cases in
+    let ended = rw c.split_at.ensures.back at c.in_default.ensures.cases in
     let made = last c.loop-left.left.now c.plain_run.result c.plain_run.ensures.run ended in
     c.loop-left.invariant _ (added_as made (added_as c.split_at.ensures.front c.put.ensures))
 

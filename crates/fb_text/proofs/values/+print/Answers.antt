@@ -1,15 +1,14 @@
 use Rattle.std.proofs.Common.{◌≡◌, suc, true, false, min, ◌+◌, ◌-◌, ◌^◌, ◌<◌, ◌≤◌, ◌++◌, []}
-use Rattle.std.proofs.Common.{slice_index, slice_index_or, append-nil, Option, Some, length, map, sym, subst, ap}
+use Rattle.std.proofs.Common.{slice_index, slice_index_or, append-nil, Some, length, map, sym, ap}
 use Rattle.std.proofs.Common.{◌∙◌, add-one, arith}
 use Rattle.fb_schema.specs.Schema.{body_at, slots_in}
 use Rattle.fb_schema.specs.Seen.{field_seen}
-use Rattle.fb_value.specs.Datum.{Datum, a_table, a_member, a_struct, a_vector, count}
+use Rattle.fb_value.specs.Datum.{a_table, a_member, a_struct, a_vector, count}
 use Rattle.fb_value.specs.Nth.{nth_entry, nth_part}
 use Rattle.fb_text.specs.Indents.{blanks}
 use Rattle.fb_layout.specs.Laid.{struct_at}
 use Rattle.fb_text.specs.Nested.{HasStruct, fields_text}
 use Rattle.fb_text.specs.declared.nested.StructCursor.{StructCursor}
-use Rattle.fb_text.specs.Shown.{IsTop}
 use Rattle.fb_text.proofs.noted.PiecesAddUp.{then, added_as, added_failed}
 use Rattle.fb_text.proofs.nested.StructStandsInItsParent.{outermost_stands, stands_deeper, few_bytes}
 use Rattle.fb_text.proofs.values.NestedStructIsAField.{fields_next}
@@ -26,11 +25,11 @@ put_member-returns-clause-text g t c o shows =
     entry_added L c.args.style.defaults (blanks c.args.inner.now) c.args.some (field_seen c.args.slot.now) o
     c.put_code-some.result _ _ _ (sym c.if-not-is_printed.false ∙ c.is_printed.ensures o top)
     (λ d e. rw c.schema.ensures.schema
-    at (c.put_code-some.ensures.text d (subst (λ (x : Option Datum). IsTop c.find-found.result x) e top)))
-    (λ d e. c.put_code-some.ensures.some d (subst (λ (x : Option Datum). IsTop c.find-found.result x) e top))
+    at (c.put_code-some.ensures.text d (rw (← e) top)))
+    (λ d e. c.put_code-some.ensures.some d (rw (← e) top))
     (λ d e. then (rw c.as_str.ensures.value at c.put_member_line.ensures)
-    (c.put_found.ensures d (subst (λ (x : Option Datum). g.S.Shown.shows c.args.shown L x) e shows)
-    (subst (λ (x : Option Datum). IsTop c.find-found.result x) e top)))
+    (c.put_found.ensures d (rw (← e) shows)
+    (rw (← e) top)))
 
 pub put_struct-loop-structure-init : goal.put_struct-loop-structure-init
 put_struct-loop-structure-init g t c =
@@ -143,7 +142,7 @@ put_fields-returns-in-loop-fields-clause-text g t c root ds es behind at =
     rw (c.enter.ensures, c.loop-fields.invariant.same, place, one) (
       inner,
       fields_text L defaults indent u es first.depth (suc k) true ++ behind,
-      (subst (λ (o : Option Datum). g.S.Shown.shows c.child-part.result L o) is part, deeper),
+      (rw (← is) part, deeper),
       λ end adds. c.loop-fields.invariant.text es behind end at.0
           (added_as (struct_first L defaults indent u es first.depth k here.some behind s inner has)
           (then line (then c.put_str.ensures adds))),

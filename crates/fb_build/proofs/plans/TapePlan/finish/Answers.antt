@@ -1,16 +1,12 @@
-use Rattle.std.proofs.Common.{◌≡◌, ◌∙◌, ap, sym, ℕ, List, [], ◌∷◌, Option, length, slice_index, slice_index_or, refl}
-use Rattle.std.proofs.Common.{append-nil, arith, subst}
+use Rattle.std.proofs.Common.{◌≡◌, ◌∙◌, ap, ℕ, List, [], ◌∷◌, Option, length, slice_index, slice_index_or, refl}
+use Rattle.std.proofs.Common.{append-nil, arith}
 use Rattle.std.proofs.lemmas.Grind.{get_or_default_zero}
 use Rattle.fb_layout.specs.Laid.{LaidSchema}
 use Rattle.fb_value.specs.Datum.{Datum, a_table}
-use Rattle.fb_value.specs.Holds.{HoldsFramed, front_of}
 use Rattle.fb_value.specs.Num.{Bytes}
 use Rattle.fb_value.specs.Places.{table_part}
 use Rattle.fb_value.specs.View.{entries_in}
-use Rattle.fb_tape.specs.Tapes.{MeansRoot, Taped}
-use Rattle.fb_value.specs.OldSlots.{OnlyOldBehind}
-use Rattle.fb_build.specs.Covered.{CoveredFramed, EndsAlignedFramed}
-use Rattle.fb_build.specs.Planned.{TapePlanned}
+use Rattle.fb_tape.specs.Tapes.{MeansRoot}
 use Rattle.fb_build.specs.CoveredTails.{parts_in_tail}
 use Rattle.fb_build.specs.Roots.{IsRoot}
 use Rattle.fb_build.specs.Tails.{TailSeen}
@@ -41,8 +37,7 @@ root_in : (L M : LaidSchema) (vtables : List Bytes) (ends places : List ℕ) (o 
     → IsRoot M o places place (a_table M.schema.root (entries_in xs))
 root_in L M vtables ends places o xs place same h is =
     let at = place_is L vtables ends places o _ place h is in
-    subst (λ (N : LaidSchema). IsRoot N o places place (a_table N.schema.root (entries_in xs))) same
-    (rw at (root_waits L vtables ends places o _ h))
+    rw (← same) (rw at (root_waits L vtables ends places o _ h))
 
 pub close_tail-requires-clause-inside : goal.close_tail-requires-clause-inside
 close_tail-requires-clause-inside c =
@@ -55,20 +50,17 @@ pub returns-clause-holds : goal.returns-clause-holds
 returns-clause-holds c xs most raw means deep small =
     let inv = c.self.invariant in
     let given : MeansRoot c.self.inside.tape xs =
-    subst (λ (t : Taped). MeansRoot t xs) (sym (ap (λ p. p.tape) c.self.view_is)) means in
+    rw (ap (λ p. p.tape) c.self.view_is) means in
     let w = c.lay_tape.ensures.waits _ (given (omega (arith, inv.small))) in
     let root = root_in _ _ _ _ _ _ xs _ inv.layout w c.index-place.ensures in
-    subst (λ (p : TapePlanned). HoldsFramed p.prefixed p.layout most raw c.into_bytes.result.items
-    (a_table p.layout.schema.root (entries_in xs))) c.self.view_is
-    (rw c.into_bytes.ensures (c.close_tail.ensures.holds _ _ most raw root deep small))
+    rw (← c.self.view_is) (rw c.into_bytes.ensures (c.close_tail.ensures.holds _ _ most raw root deep small))
 
 pub returns-clause-old_slots : goal.returns-clause-old_slots
 returns-clause-old_slots c =
     let inv = c.self.invariant in
     let w = c.lay_tape.ensures.waits _ (inv.means.means (omega (arith, inv.small))) in
     let root = root_in _ _ _ _ _ _ inv.means.entries _ inv.layout w c.index-place.ensures in
-    subst (λ (p : TapePlanned). OnlyOldBehind (front_of p.prefixed) p.layout c.into_bytes.result.items) c.self.view_is
-    (rw c.into_bytes.ensures (c.close_tail.ensures.old_slots _ _ root))
+    rw (← c.self.view_is) (rw c.into_bytes.ensures (c.close_tail.ensures.old_slots _ _ root))
 
 pub returns-clause-covered : goal.returns-clause-covered
 returns-clause-covered c =
@@ -77,8 +69,7 @@ returns-clause-covered c =
     let root = root_in _ _ _ _ _ _ inv.means.entries _ inv.layout w c.index-place.ensures in
     let both = c.close_tail.ensures.covered _ _ _ w.shared
     (come_different c.self.inside.tape.vtables (length c.lay_tape.new.laying.places.items) inv.different) root in
-    subst (λ (p : TapePlanned). CoveredFramed p.prefixed p.layout c.into_bytes.result.items) c.self.view_is
-    (rw c.into_bytes.ensures both.0)
+    rw (← c.self.view_is) (rw c.into_bytes.ensures both.0)
 
 pub returns-clause-aligned : goal.returns-clause-aligned
 returns-clause-aligned c =
@@ -87,5 +78,4 @@ returns-clause-aligned c =
     let root = root_in _ _ _ _ _ _ inv.means.entries _ inv.layout w c.index-place.ensures in
     let both = c.close_tail.ensures.covered _ _ _ w.shared
     (come_different c.self.inside.tape.vtables (length c.lay_tape.new.laying.places.items) inv.different) root in
-    subst (λ (p : TapePlanned). EndsAlignedFramed p.prefixed p.layout c.into_bytes.result.items) c.self.view_is
-    (rw c.into_bytes.ensures both.1)
+    rw (← c.self.view_is) (rw c.into_bytes.ensures both.1)

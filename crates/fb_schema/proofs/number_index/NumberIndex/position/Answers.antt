@@ -1,5 +1,5 @@
 use Rattle.std.proofs.Common.{rules, ◌≡◌, String, Global, ℤ, List, map, get_or, pos, slice_get, Some, int_cmp, sym}
-use Rattle.std.proofs.Common.{subst, ◌∙◌, Ok, Err}
+use Rattle.std.proofs.Common.{◌∙◌, Ok, Err}
 use mir.Syntax.{w128}
 use Rattle.std.specs.Ordering.{int_eq}
 use Rattle.std.specs.List.Sorted.{IsBinarySearchResult}
@@ -19,16 +19,14 @@ pub returns-then-is_at : goal.returns-then-is_at
 returns-then-is_at c =
     let numbers : List ℤ = map (λ (v : String Global × ℤ). v.1) c.args.values.now in
     let there : slice_get numbers c.unwrap_or-counted.result ≡ Some c.args.number =
-    subst (λ (n : ℤ). slice_get numbers c.unwrap_or-counted.result ≡ Some n)
-    (to_z-of_z w128 c.args.number c.ranges.number) (c.is_at.ensures c.if-is_at.true) in
+    rw (← (to_z-of_z w128 c.args.number c.ranges.number)) (c.is_at.ensures c.if-is_at.true) in
     sym (found_at int_eq Decides-int_eq numbers c.unwrap_or-counted.result c.args.number c.requires.distinct there)
 
 pub returns-then-is_at-2 : goal.returns-then-is_at-2
 returns-then-is_at-2 c =
     let numbers : List ℤ = map (λ (v : String Global × ℤ). v.1) c.args.values.now in
     let there : slice_get numbers c.trailing_zeros-doubled.result ≡ Some c.args.number =
-    subst (λ (n : ℤ). slice_get numbers c.trailing_zeros-doubled.result ≡ Some n)
-    (to_z-of_z w128 c.args.number c.ranges.number) (c.is_at-2.ensures c.if-is_at-2.true) in
+    rw (← (to_z-of_z w128 c.args.number c.ranges.number)) (c.is_at-2.ensures c.if-is_at-2.true) in
     sym (found_at int_eq Decides-int_eq numbers c.trailing_zeros-doubled.result c.args.number c.requires.distinct there)
 
 pub returns-in-Ok : goal.returns-in-Ok
@@ -36,7 +34,7 @@ returns-in-Ok c =
     let numbers : List ℤ = map (λ (v : String Global × ℤ). v.1) c.args.values.now in
     let places = c.as_slice-places.result.now in
     let ordered : IsInOrder int_cmp (pos 0) numbers places =
-    subst (λ ps. IsInOrder int_cmp (pos 0) numbers ps) (sym c.as_slice-places.ensures.value) c.requires.indexed in
+    rw c.as_slice-places.ensures.value c.requires.indexed in
     let result : IsBinarySearchResult (λ p. int_cmp (get_or numbers p (pos 0)) c.args.number) places (Ok c.in-Ok.at) =
     c.in-Ok.ensures.position (λ p. int_cmp (get_or numbers p (pos 0)) c.args.number)
     (always_returns_same _ _ _ (λ a r q k. (search rules, search rules))) in
@@ -51,7 +49,7 @@ returns-in-Err c =
     let numbers : List ℤ = map (λ (v : String Global × ℤ). v.1) c.args.values.now in
     let places = c.as_slice-places.result.now in
     let ordered : IsInOrder int_cmp (pos 0) numbers places =
-    subst (λ ps. IsInOrder int_cmp (pos 0) numbers ps) (sym c.as_slice-places.ensures.value) c.requires.indexed in
+    rw c.as_slice-places.ensures.value c.requires.indexed in
     let result : IsBinarySearchResult (λ p. int_cmp (get_or numbers p (pos 0)) c.args.number) places
     (Err c.in-Err.field-0) = c.in-Err.ensures.position (λ p. int_cmp (get_or numbers p (pos 0)) c.args.number)
     (always_returns_same _ _ _ (λ a r q k. (search rules, search rules))) in

@@ -1,10 +1,9 @@
-use Rattle.std.proofs.Common.{◌≡◌, ◌≢◌, ℕ, List, map, position, AllPairs, Option, None, Some, bytes_eq, string_bytes}
-use Rattle.std.proofs.Common.{ap, sym, subst, ◌∙◌}
+use Rattle.std.proofs.Common.{◌≡◌, ℕ, List, map, position, Option, None, Some, bytes_eq, string_bytes}
+use Rattle.std.proofs.Common.{ap, sym, ◌∙◌}
 use Rattle.std.proofs.lemmas.Simd.{map-map}
 use Rattle.fb_schema.specs.declared.types.TypeInfo.{TypeInfo}
 use Rattle.fb_schema.specs.Schema.{Name, DeclaredType}
 use Rattle.fb_schema.specs.Seen.{type_seen}
-use Rattle.fb_schema.specs.Indexed.{IndexesNames}
 use Rattle.fb_schema.proofs.DeclaredNames.{keys_differ}
 use Rattle.fb_schema.proofs.Positions.{position-map}
 use Rattle.fb_schema.proofs.schema.Schema.find.Goals as goal
@@ -23,13 +22,11 @@ placed types names name at listed place = place
 
 pub position-requires-clause-indexed : goal.position-requires-clause-indexed
 position-requires-clause-indexed c =
-    subst (λ (names : List Name). IndexesNames c.self.inside.full_names names)
-    (names_lent c.self.inside.types.items c.as_slice.result.now c.as_slice.ensures.value) c.self.invariant.full
+    rw (← (names_lent c.self.inside.types.items c.as_slice.result.now c.as_slice.ensures.value)) c.self.invariant.full
 
 pub position-requires-clause-distinct : goal.position-requires-clause-distinct
 position-requires-clause-distinct c =
-    subst (λ (names : List Name). AllPairs (λ a b. a ≢ b) names)
-    (names_lent c.self.inside.types.items c.as_slice.result.now c.as_slice.ensures.value)
+    rw (← (names_lent c.self.inside.types.items c.as_slice.result.now c.as_slice.ensures.value))
     (keys_differ (λ t. t.name) (map type_seen c.self.inside.types.items) c.self.invariant.declared.names)
 
 pub returns-in_err-at : goal.returns-in_err-at

@@ -1,9 +1,7 @@
-use Rattle.std.proofs.Common.{◌≡◌, ℤ, None, Some, ap, sym, subst, ◌∙◌}
-use Rattle.std.specs.Option.{option_copied}
+use Rattle.std.proofs.Common.{None, Some, ap, sym, ◌∙◌}
 use Rattle.std.proofs.lemmas.Int.{to_z-of_z}
 use mir.Syntax.{w128}
 use Rattle.fb_schema.specs.Schema.{DeclaredBody}
-use Rattle.fb_schema.specs.Seen.{body_seen}
 use Rattle.fb_schema.specs.Found.{name_numbered}
 use Rattle.fb_schema.specs.Indexed.{inner_numbers, IndexesNumbers}
 use Rattle.fb_schema.proofs.Got.{got_of}
@@ -48,8 +46,7 @@ returns c =
     let info = c.in_ok-info.info in
     let there = got_of c.deref.result.now s.types.items c.args.enumeration.0
     (Some info) c.deref.ensures.value c.in_ok-info.ensures.lookup.0 c.in_ok-info.ensures.lookup.1 in
-    let found = subst (λ (n : ℤ). option_copied c.name_in.result ≡ name_numbered (body_seen info.now.body) n)
-    (to_z-of_z w128 c.args.number c.ranges.number) c.name_in.ensures in
+    let found = rw (to_z-of_z w128 c.args.number c.ranges.number) at c.name_in.ensures in
     rw (← c.self.view_is)
     (found ∙ ap (λ (b : DeclaredBody). name_numbered b c.args.number)
     (sym (body_there s.types.items c.args.enumeration.0 info.now there)))

@@ -2,7 +2,7 @@ use Rattle.std.proofs.Common.{◌≡◌, List, map, string_bytes, ap, sym, subst
 use Rattle.std.specs.List.{AllZip}
 use Rattle.std.proofs.lemmas.Simd.{map-map}
 use Rattle.fb_schema.specs.declared.types.TypeInfo.{TypeInfo}
-use Rattle.fb_schema.specs.Schema.{Name, DeclaredType}
+use Rattle.fb_schema.specs.Schema.{DeclaredType}
 use Rattle.fb_schema.specs.Seen.{type_seen}
 use Rattle.fb_schema.specs.Indexed.{inner_names, inner_numbers, IndexesNames, IndexesNumbers}
 use Rattle.fb_schema.specs.Keys.{key_of_types}
@@ -23,8 +23,8 @@ invariant_of-result c =
       declared = c.requires;
       keyed = c.key_of_types-key.ensures ∙ ap (λ (l : List TypeInfo). key_of_types (map type_seen l))
           c.as_slice.ensures.value;
-      full = subst (λ (names : List Name). IndexesNames c.in_ok-full_names.full_names names)
-          (full_names c.args.types.items c.as_slice-2.result.now c.as_slice-2.ensures.value) c.in_ok-full_names.ensures;
+      full = rw (← (full_names c.args.types.items c.as_slice-2.result.now c.as_slice-2.ensures.value))
+      c.in_ok-full_names.ensures;
       names = lent_indexes (λ index t. IndexesNames index (inner_names t.body)) c.in_ok-inner_names.inner_names.items
           c.args.types.items c.as_slice-3.result.now c.as_slice-3.ensures.value c.in_ok-inner_names.ensures;
       numbers = lent_indexes (λ index t. IndexesNumbers index (inner_numbers t.body))
