@@ -49,7 +49,7 @@ loop-name-preserved-in-Some-field c =
           ∙ (ap (λ es. c.args.source.unknown || names_known (body_at S t) (members_view es)) c.in-Some.ensures.steps
           ∙ allowed_next S c.schema-schema.result.now t (string_bytes c.in-Some.name.now) c.as_str.result.now
           (tree_view c.in-Some.tree.now) (members_view c.next.new.self) c.args.source.unknown _
-          c.schema-schema.ensures.schema c.as_str.ensures.value c.field_by_name-field.ensures
+          c.schema-schema.ensures.schema c.as_str.ensures.value c.field_of-field.ensures
           (sym c.is_allowed.ensures ∙ c.if-not-is_allowed.false));
     }
 
@@ -70,7 +70,7 @@ loop-name-preserved c =
           ∙ (ap (λ es. c.args.source.unknown || names_known (body_at S t) (members_view es)) c.in-Some.ensures.steps
           ∙ allowed_next S c.schema-schema.result.now t (string_bytes c.in-Some.name.now) c.as_str.result.now
           (tree_view c.in-Some.tree.now) (members_view c.next.new.self) c.args.source.unknown _
-          c.schema-schema.ensures.schema c.as_str.ensures.value c.field_by_name-field.ensures
+          c.schema-schema.ensures.schema c.as_str.ensures.value c.field_of-field.ensures
           (sym c.is_allowed.ensures ∙ c.if-not-is_allowed.false));
     }
 
@@ -83,7 +83,7 @@ returns-then-not-is_allowed-clause-known c =
     ∙ (ap (λ es. c.args.source.unknown || names_known (body_at S t) (members_view es)) c.in-Some.ensures.steps
     ∙ not_allowed S c.schema-schema.result.now t (string_bytes c.in-Some.name.now) c.as_str.result.now
     (tree_view c.in-Some.tree.now) (members_view c.next.new.self) c.args.source.unknown _
-    c.schema-schema.ensures.schema c.as_str.ensures.value c.field_by_name-field.ensures
+    c.schema-schema.ensures.schema c.as_str.ensures.value c.field_of-field.ensures
     (sym c.is_allowed.ensures ∙ c.if-not-is_allowed.true)) in
     rw none refl
 
