@@ -21,7 +21,6 @@ use std::alloc::{AllocError, Global};
 const FEW: usize = 16;
 
 /// A place for each of some slots, with no member.
-#[inline(never)]
 fn no_members<'t>(alloc: Global, slots: usize) -> Result<Vec<Option<&'t Json>>, AllocError>
     ensures { IfOk result (λ found. found.items ≡ replicate slots None) }
 {
