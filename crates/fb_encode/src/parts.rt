@@ -20,6 +20,7 @@ use fb_schema::{Kind, Shape, TypeId};
 use serde_json::Value as Json;
 
 /// Notes a text, and returns the cells that are left.
+#[inline(always)]
 fn note_text(
     noting: &mut Noting<'_>,
     tree: &Json,
@@ -66,6 +67,7 @@ pub(crate) fn note_object(
 }
 
 /// Notes the text or table that a tree gives, and returns the cells that are left.
+#[inline(always)]
 #[cycle(notes)]
 fn note_target(
     source: Source,

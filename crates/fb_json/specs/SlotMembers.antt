@@ -1,6 +1,7 @@
 -- The members of a table by its slots. Each member's name is looked up once, and its tree is found at the slot from
 -- then on.
 use Rattle.std.specs.Prelude.{ℕ, ◌≡◌, List, Option, Some, Bool, true, false, length, map, option_map, slice_get}
+use Rattle.std.specs.Prelude.{if◌then◌else◌, nat_le, take}
 use Rattle.std.specs.Borrow.{Bor}
 use Rattle.serde_json.specs.declared.value.Value.{Value}
 use Rattle.serde_json.specs.Data.{Data, Members}
@@ -16,6 +17,10 @@ use Rattle.fb_json.specs.Meant.{Meaner, meant}
 -- the tree behind a reference
 abbrev pub tree_seen : Option (Bor Value) → Option Data
 tree_seen r = option_map (λ t. view t.now) r
+
+-- the places of so many slots: the first of a few, or many
+abbrev pub places : {X : Type 0} → ℕ → List X → List X → List X
+places slots few many = if nat_le slots 16 then take slots few else many
 
 -- each slot has the member of its name
 pub record AreMembersOf (trees : List (Option (Bor Value))) (fs : List DeclaredField) (ms : Members) : Type 0 where

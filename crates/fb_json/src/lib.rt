@@ -34,6 +34,6 @@ pub use laws::{
 pub use leaves::text_of;
 pub use paths::fault_path;
 pub use root::value_of;
-pub use slot_members::members_by_slot;
+pub use slot_members::{members_by_slot, places};
 pub use source::Source;
 pub use step::Step;

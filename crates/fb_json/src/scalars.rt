@@ -23,6 +23,7 @@ fn in_range(base: Base, number: Option<i128>, place: Place) -> Result<i128, Json
 
 /// The number of a basic type that a tree gives.
 #[tactic(auto, unfolding(crate::specs::Leaves::scalar_meant))]
+#[inline(always)]
 pub(crate) fn scalar_of(base: Base, tree: &Json, place: Place) -> Result<i128, JsonFault>
     ensures { result ≡ scalar_meant base (tree_view tree.now) place }
 {

@@ -17,7 +17,7 @@ use crate::codes::code_of_slot;
 use crate::entries::entry;
 use crate::faults::{JsonFault, Place};
 use crate::room::Room;
-use crate::slot_members::members_by_slot;
+use crate::slot_members::{members_by_slot, places};
 use crate::source::Source;
 use crate::step::Step;
 use crate::trail::Trail;
@@ -51,12 +51,15 @@ pub(crate) fn table(
         return Err(JsonFault::TooManyCells(place));
     }
     let slots = source.layout.slots_of(owner);
-    let trees = members_by_slot(source, owner, slots, members)?;
+    let mut few = [None; 16];
+    let mut many = Vec::new(source.alloc);
+    members_by_slot(source, owner, slots, members, &mut few, &mut many)?;
+    let trees = places(&few, &many, slots.len());
     let room = Room {
         levels: room.levels - 1,
         left: room.left - 1,
     };
-    let (entries, left) = entries(source, trail, owner, slots, trees.as_slice(), room)?;
+    let (entries, left) = entries(source, trail, owner, slots, trees, room)?;
     Ok((Value::Fields(owner, entries), left))
 }
 

@@ -18,7 +18,7 @@ use Rattle.fb_json.specs.declared.faults.Place.{Place}
 use Rattle.fb_json.specs.Leaves.{text_meant}
 use Rattle.fb_json.specs.Meant.{look, meant, slot_place, used_meant}
 use Rattle.fb_json.specs.Outcome.{Gives}
-use Rattle.fb_json.specs.SlotMembers.{looked_up, tree_seen}
+use Rattle.fb_json.specs.SlotMembers.{AreMembersOf, looked_up, tree_seen}
 use Rattle.fb_json.proofs.slots.MemberAtItsSlot.{looked_up_at, read_at}
 use Rattle.fb_json.proofs.slots.OneSlotOrFieldMore.{fails_by, fails_is, slot_at}
 use Rattle.fb_json.proofs.slots.SlotsDecideTheTable.{table_fails, table_gives, table_unknown}
@@ -316,15 +316,17 @@ tables::note_table-returns-then-left-eq0-clause-refused t c =
     no_cell L c.args.source.unknown ms (look L c.args.source.unknown ms) c.args.owner.0 c.args.place c.args.levels
     c.args.left (omega (arith, c.if-levels-eq0.false)) c.if-left-eq0.true
 
-pub tables::note_table-returns-in_err-trees-clause-refused : goal.tables::note_table-returns-in_err-trees-clause-refused
-tables::note_table-returns-in_err-trees-clause-refused t c =
+pub tables::note_table-returns-in_err-members_by_slot-clause-refused
+    : goal.tables::note_table-returns-in_err-members_by_slot-clause-refused
+tables::note_table-returns-in_err-members_by_slot-clause-refused t c =
     let ms = members_view c.args.members.now.entries in
     let L = c.args.source.layout.now in
     let u = c.args.source.unknown in
     let p = err_from_is_err_and c.from_residual.result c.from_residual.ensures.1 in
-    rw (p.1, p.2) (fails_by c.in_err-trees.field-0.0 _ _ (λ h. table_unknown L u ms (look L u ms) c.args.owner.0
-    c.args.place c.args.levels c.args.left c.in_err-trees.field-0.0 (omega (arith, c.if-levels-eq0.false))
-    (omega (arith, c.if-left-eq0.false)) h) c.in_err-trees.ensures.known)
+    let fault = c.in_err-members_by_slot.field-0.0 in
+    rw (p.1, p.2) (fails_by fault _ _ (λ h. table_unknown L u ms (look L u ms) c.args.owner.0 c.args.place
+    c.args.levels c.args.left fault (omega (arith, c.if-levels-eq0.false)) (omega (arith, c.if-left-eq0.false)) h)
+    c.in_err-members_by_slot.ensures.known)
 
 pub tables::note_table-loop-k-init : goal.tables::note_table-loop-k-init
 tables::note_table-loop-k-init t c = none_noted _ _ _ _ _ _ _ _ c.requires.whole
@@ -337,14 +339,15 @@ tables::note_table-loop-k-preserved-then-is_absent t c =
     let slots = c.slots_of-slots.result.now in
     let k = c.loop-k.k in
     let f = c.index-slots-k.result in
-    let trees = c.in_ok-trees.trees.items in
-    let members = c.in_ok-trees.ensures.members in
+    let trees = c.places-trees.result.now in
+    let members : AreMembersOf trees (map field_seen slots) ms =
+    rw c.places-trees.ensures c.in_ok-members_by_slot.ensures.members in
     let inv = c.loop-k.invariant in
     let at = slot_at slots k f c.loop-k-test.true c.index-slots-k.is in
     let within : k < length trees = omega (arith, members.all, length-map slots field_seen, c.loop-k-test.true) in
-    let there = read_at trees k c.index-tree.result.now within c.index-tree.ensures in
+    let there = read_at trees k c.index-trees-k.result within c.index-trees-k.is in
     let none = c.is_absent.ensures.none c.if-is_absent.true in
-    let seen = looked_up_at trees (map field_seen slots) ms members k (field_seen f) at c.index-tree.result.now L u
+    let seen = looked_up_at trees (map field_seen slots) ms members k (field_seen f) at c.index-trees-k.result L u
     there ∙ ap (looked_up L u) none in
     let place = slot_place c.args.owner.0 k in
     let x = option_map a_number (slot_of L.schema (field_seen f)).if_absent in
@@ -370,12 +373,13 @@ tables::note_table-returns-in_err-code-clause-refused t c =
     let slots = c.slots_of-slots.result.now in
     let k = c.loop-k.k in
     let f = c.index-slots-k.result in
-    let trees = c.in_ok-trees.trees.items in
-    let members = c.in_ok-trees.ensures.members in
+    let trees = c.places-trees.result.now in
+    let members : AreMembersOf trees (map field_seen slots) ms =
+    rw c.places-trees.ensures c.in_ok-members_by_slot.ensures.members in
     let at = slot_at slots k f c.loop-k-test.true c.index-slots-k.is in
     let within : k < length trees = omega (arith, members.all, length-map slots field_seen, c.loop-k-test.true) in
-    let there = read_at trees k c.index-tree.result.now within c.index-tree.ensures in
-    let seen = looked_up_at trees (map field_seen slots) ms members k (field_seen f) at c.index-tree.result.now L u
+    let there = read_at trees k c.index-trees-k.result within c.index-trees-k.is in
+    let seen = looked_up_at trees (map field_seen slots) ms members k (field_seen f) at c.index-trees-k.result L u
     there in
     let fault = c.in_err-code.field-0.0 in
     let p = err_from_is_err_and c.from_residual-in_err-code.result c.from_residual-in_err-code.ensures.1 in
@@ -384,7 +388,7 @@ tables::note_table-returns-in_err-code-clause-refused t c =
     (sym (c.in_err-code.ensures (look L u ms) seen)) in
     rw (p.1, p.2) (fails_is fault _ (table_fails L u ms (look L u ms) c.args.owner.0 c.args.place c.args.levels
     c.args.left fault (omega (arith, c.if-levels-eq0.false)) (omega (arith, c.if-left-eq0.false))
-    c.in_ok-trees.ensures.known (rw c.slots_of-slots.ensures.slots at untold)))
+    c.in_ok-members_by_slot.ensures.known (rw c.slots_of-slots.ensures.slots at untold)))
 
 pub tables::note_table-note_slot-requires : goal.tables::note_table-note_slot-requires
 tables::note_table-note_slot-requires t c =
@@ -416,22 +420,23 @@ tables::note_table-returns-in_err-left-clause-refused t c =
     let slots = c.slots_of-slots.result.now in
     let k = c.loop-k.k in
     let f = c.index-slots-k.result in
-    let trees = c.in_ok-trees.trees.items in
-    let members = c.in_ok-trees.ensures.members in
+    let trees = c.places-trees.result.now in
+    let members : AreMembersOf trees (map field_seen slots) ms =
+    rw c.places-trees.ensures c.in_ok-members_by_slot.ensures.members in
     let at = slot_at slots k f c.loop-k-test.true c.index-slots-k.is in
     let within : k < length trees = omega (arith, members.all, length-map slots field_seen, c.loop-k-test.true) in
-    let there = read_at trees k c.index-tree.result.now within c.index-tree.ensures in
-    let seen = looked_up_at trees (map field_seen slots) ms members k (field_seen f) at c.index-tree.result.now L u
+    let there = read_at trees k c.index-trees-k.result within c.index-trees-k.is in
+    let seen = looked_up_at trees (map field_seen slots) ms members k (field_seen f) at c.index-trees-k.result L u
     there in
     let place = slot_place c.args.owner.0 k in
     let fault = c.in_err-left.field-0.0 in
     let p = err_from_is_err_and c.from_residual-in_err-left.result c.from_residual-in_err-left.ensures.1 in
-    let by = entry_by L u (look L u ms) (field_seen f) c.index-tree.result.now place c.in_ok-code.code
+    let by = entry_by L u (look L u ms) (field_seen f) c.index-trees-k.result place c.in_ok-code.code
     (c.args.levels - 1) c.loop-k.left seen in
     let told = sym (c.in_ok-code.ensures (look L u ms) seen) in
     rw (p.1, p.2) (fails_by fault _ _ (λ h. table_fails L u ms (look L u ms) c.args.owner.0 c.args.place c.args.levels
     c.args.left fault (omega (arith, c.if-levels-eq0.false)) (omega (arith, c.if-left-eq0.false))
-    c.in_ok-trees.ensures.known (rw c.slots_of-slots.ensures.slots at (ungiven L (look L u ms) c.args.owner.0
+    c.in_ok-members_by_slot.ensures.known (rw c.slots_of-slots.ensures.slots at (ungiven L (look L u ms) c.args.owner.0
     slots k f c.loop-k-test.true c.index-slots-k.is c.loop-k.code (c.args.levels - 1) (c.args.left - 1) c.loop-k.left
     _ _ _ _ c.loop-k.invariant c.in_ok-code.code fault told (by ∙ h)))) c.in_err-left.ensures.refused)
 
@@ -443,15 +448,16 @@ tables::note_table-loop-k-preserved t c =
     let slots = c.slots_of-slots.result.now in
     let k = c.loop-k.k in
     let f = c.index-slots-k.result in
-    let trees = c.in_ok-trees.trees.items in
-    let members = c.in_ok-trees.ensures.members in
+    let trees = c.places-trees.result.now in
+    let members : AreMembersOf trees (map field_seen slots) ms =
+    rw c.places-trees.ensures c.in_ok-members_by_slot.ensures.members in
     let at = slot_at slots k f c.loop-k-test.true c.index-slots-k.is in
     let within : k < length trees = omega (arith, members.all, length-map slots field_seen, c.loop-k-test.true) in
-    let there = read_at trees k c.index-tree.result.now within c.index-tree.ensures in
-    let seen = looked_up_at trees (map field_seen slots) ms members k (field_seen f) at c.index-tree.result.now L u
+    let there = read_at trees k c.index-trees-k.result within c.index-trees-k.is in
+    let seen = looked_up_at trees (map field_seen slots) ms members k (field_seen f) at c.index-trees-k.result L u
     there in
     let place = slot_place c.args.owner.0 k in
-    let by = entry_by L u (look L u ms) (field_seen f) c.index-tree.result.now place c.in_ok-code.code
+    let by = entry_by L u (look L u ms) (field_seen f) c.index-trees-k.result place c.in_ok-code.code
     (c.args.levels - 1) c.loop-k.left seen in
     next_noted L (look L u ms) c.args.owner.0 slots k f c.loop-k-test.true c.index-slots-k.is c.loop-k.code
     (c.args.levels - 1) (c.args.left - 1) c.loop-k.left _ _ _ _ c.loop-k.invariant
@@ -486,7 +492,7 @@ tables::note_table-returns-clause-noted t c =
     (c.args.left - 1) c.loop-k.left _ _ _ _ c.loop-k-test.false inv in
     let table = table_gives L u ms (look L u ms) c.args.owner.0 c.args.place c.args.levels c.args.left inv.entries
     c.loop-k.left (omega (arith, c.if-levels-eq0.false)) (omega (arith, c.if-left-eq0.false))
-    c.in_ok-trees.ensures.known (rw c.slots_of-slots.ensures.slots at given) in
+    c.in_ok-members_by_slot.ensures.known (rw c.slots_of-slots.ensures.slots at given) in
     table_noted L (look L u ms) c.args.owner.0 slots c.loop-k.k c.loop-k.code (c.args.levels - 1) (c.args.left - 1)
     c.loop-k.left _ _ _ _ c.loop-k-test.false inv c.schema-schema.ensures.made
     (omega (arith, long, c.loop-k-test.false, c.loop-k.auto.k-end)) _ table c.close_table.new.self

@@ -17,7 +17,7 @@ use Rattle.fb_json.specs.FaultPaths.{entry_spot, field_spot, slot_spot}
 use Rattle.fb_json.specs.FaultPaths.{bare_spot, tree_spot, IsFirstAt, IsFirstIn, ToSlot, ToField, ToElement}
 use Rattle.fb_json.specs.Outcome.{Fails}
 use Rattle.fb_json.specs.Meant.{as_member, look, meant, slot_place, entry_meant, part_meant}
-use Rattle.fb_json.specs.SlotMembers.{looked_up, AreMembersOf}
+use Rattle.fb_json.specs.SlotMembers.{looked_up, places, AreMembersOf}
 use Rattle.fb_json.proofs.members.MapFindsTheMembers.{found_by_map, found_some, found_none}
 use Rattle.fb_json.proofs.slots.MemberAtItsSlot.{looked_up_in}
 use Rattle.fb_json.proofs.slots.PartsNestLess.{item_nested, member_nested, most_nested, slots_nested}
@@ -88,11 +88,13 @@ tree::vector-returns-in_err-items-clause-trail t c =
 
 pub tables::table-entries-requires : goal.tables::table-entries-requires
 tables::table-entries-requires t c =
-    let are = c.in_ok-trees.ensures.members in
-    let less = slots_nested c.in_ok-trees.trees.items (map field_seen c.slots_of-slots.result.now)
+    let are = c.in_ok-members_by_slot.ensures.members in
+    let slots = c.slots_of-slots.result.now in
+    let found = c.members_by_slot.new in
+    let less = slots_nested (places (length slots) found.few found.many.items) (map field_seen slots)
     (members_view c.args.members.now.entries) are in
-    let same = ap most_nested c.as_slice.ensures.value in
-    let all = ap length c.as_slice.ensures.value
+    let same = ap most_nested c.places-trees.ensures in
+    let all = ap length c.places-trees.ensures
     ∙ (are.all ∙ length-map c.slots_of-slots.result.now field_seen) in
     (omega (arith, less, same), (c.slots_of-slots.ensures.few, all))
 
@@ -107,30 +109,33 @@ tables::table-returns-then-room-eq0-2-clause-trail t c =
     (members_view c.args.members.now.entries) c.args.owner c.args.place c.args.room.levels c.args.trail.now
     (omega arith))
 
-pub tables::table-returns-in_err-trees-clause-trail : goal.tables::table-returns-in_err-trees-clause-trail
-tables::table-returns-in_err-trees-clause-trail t c =
+pub tables::table-returns-in_err-members_by_slot-clause-trail
+    : goal.tables::table-returns-in_err-members_by_slot-clause-trail
+tables::table-returns-in_err-members_by_slot-clause-trail t c =
     let p = err_from_is_err_and c.from_residual.result c.from_residual.ensures.1 in
     rw (p.1, p.2) (λ kept. unknown_in_table c.args.source.layout.now c.args.source.unknown
     (members_view c.args.members.now.entries) c.args.owner c.args.place c.args.room.levels c.args.room.left
-    (omega arith) (omega arith) c.in_err-trees.field-0.0 c.args.trail.now
-    (fault_given c.in_err-trees.field-0.0 _ c.in_err-trees.ensures.known kept))
+    (omega arith) (omega arith) c.in_err-members_by_slot.field-0.0 c.args.trail.now
+    (fault_given c.in_err-members_by_slot.field-0.0 _ c.in_err-members_by_slot.ensures.known kept))
 
 pub tables::table-returns-clause-trail : goal.tables::table-returns-clause-trail
 tables::table-returns-clause-trail t c =
     let ms = members_view c.args.members.now.entries in
     let slots = map field_seen c.slots_of-slots.result.now in
-    let are : AreMembersOf c.as_slice.result.now slots ms = rw c.as_slice.ensures.value c.in_ok-trees.ensures.members in
+    let are : AreMembersOf c.places-trees.result.now slots ms =
+    rw c.places-trees.ensures c.in_ok-members_by_slot.ensures.members in
     c.in_ok-entries.ensures.trail ms are
 
 pub tables::table-returns-in_err-entries-clause-trail : goal.tables::table-returns-in_err-entries-clause-trail
 tables::table-returns-in_err-entries-clause-trail t c =
     let ms = members_view c.args.members.now.entries in
     let slots = map field_seen c.slots_of-slots.result.now in
-    let are : AreMembersOf c.as_slice.result.now slots ms = rw c.as_slice.ensures.value c.in_ok-trees.ensures.members in
+    let are : AreMembersOf c.places-trees.result.now slots ms =
+    rw c.places-trees.ensures c.in_ok-members_by_slot.ensures.members in
     let p = err_from_is_err_and c.from_residual-in_err-entries.result c.from_residual-in_err-entries.ensures.1 in
     rw (p.1, p.2) (λ kept. in_table c.args.source.layout.now c.args.source.unknown ms c.args.owner c.args.place
     c.args.room.levels c.args.room.left (omega arith) (omega arith) slots c.in_err-entries.field-0.0 c.args.trail.now
-    c.entries.new.trail c.slots_of-slots.ensures.slots c.in_ok-trees.ensures.known
+    c.entries.new.trail c.slots_of-slots.ensures.slots c.in_ok-members_by_slot.ensures.known
     (c.in_err-entries.ensures.trail ms are kept))
 
 pub tables::entries-entry-requires : goal.tables::entries-entry-requires

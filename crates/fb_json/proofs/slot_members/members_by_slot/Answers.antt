@@ -1,108 +1,14 @@
-use Rattle.std.proofs.Common.{List, string_bytes, ◌≡◌, ◌∙◌, ◌||◌, true, false, Some, None, map, set, replicate, length}
-use Rattle.std.proofs.Common.{ap, sym, subst, refl}
-use Rattle.std.proofs.lemmas.List.{map-set, length-map}
-use Rattle.serde_json.specs.View.{members_view, view as tree_view}
-use Rattle.serde_json.proofs.Views.{Entry}
-use Rattle.fb_schema.specs.Schema.{DeclaredField, body_at, slots_in}
-use Rattle.fb_schema.specs.Seen.{field_seen}
-use Rattle.fb_json.specs.Meant.{names_known}
-use Rattle.fb_json.specs.SlotMembers.{AreMembersOf, tree_seen}
-use Rattle.fb_json.proofs.slot_members.MemberIsAllowed.{allowed_next, none_left, not_allowed}
-use Rattle.fb_json.proofs.slot_members.MemberIsPutAtItsSlot.{ArePutSoFar, all_put, found_next, next_put}
-use Rattle.fb_json.proofs.slot_members.MemberIsPutAtItsSlot.{none_put, none_seen}
+use Rattle.std.proofs.Common.{None, length, replicate, refl}
+use Rattle.fb_json.proofs.slot_members.FewOrMany.{few_empty, many_empty}
 use Rattle.fb_json.proofs.slot_members.members_by_slot.Goals as goal
 
-pub loop-name-init : goal.loop-name-init
-loop-name-init c =
-    let S = c.args.source.layout.now.schema in
-    let t = c.args.owner.0 in
-    let gives = c.into_iter-name-iterator.ensures.into_iter_gives in
-    let ms = members_view c.args.members.now.entries in
-    let start : map tree_seen c.in_ok-found.found.items ≡ replicate (length c.args.slots.now) None =
-    ap (map tree_seen) c.in_ok-found.ensures ∙ none_seen (length c.args.slots.now) in
-    let long : length c.args.slots.now ≡ length (slots_in (body_at S t)) =
-    sym (length-map c.args.slots.now field_seen) ∙ ap length c.requires in
-    record {
-      put = rw (start, gives.0) (none_put (slots_in (body_at S t)) ms (length c.args.slots.now) long);
-      there = rw gives.0 gives.6;
-      known = ap (λ es. c.args.source.unknown || names_known (body_at S t) (members_view es)) (sym gives.0);
-    }
+pub put_members-requires : goal.put_members-requires
+put_members-requires c = record {
+  slots = c.requires;
+  empty = many_empty (length c.args.slots.now) c.args.few.now c.in_ok-many.field-0.items c.if-slots-gt-FEW.true
+      c.in_ok-many.ensures;
+}
 
-pub loop-name-preserved-in-Some-field : goal.loop-name-preserved-in-Some-field
-loop-name-preserved-in-Some-field c =
-    let S = c.args.source.layout.now.schema in
-    let t = c.args.owner.0 in
-    let m = c.args.members.now in
-    let e : Entry = (c.in-Some.name.now, c.in-Some.tree.now) in
-    let g = field_seen c.in-Some-field.field.now in
-    let put : map tree_seen c.put.new.found.items
-    ≡ set (map tree_seen c.loop-name.found.items) g.slot (Some (tree_view c.in-Some.tree.now)) =
-    ap (map tree_seen) c.put.ensures ∙ map-set tree_seen c.loop-name.found.items g.slot (Some c.in-Some.tree) in
-    record {
-      put = rw put (next_put S c.schema-schema.result.now t c.schema-schema.ensures.made.declared m
-          c.loop-name.name-iterator e c.next.new.self c.as_str.result.now (Some g)
-          (map tree_seen c.loop-name.found.items) c.schema-schema.ensures.schema c.as_str.ensures.value
-          c.in-Some-field.ensures c.in-Some.ensures.steps c.loop-name.invariant.there c.loop-name.invariant.put);
-      there = found_next m c.loop-name.name-iterator e c.next.new.self c.in-Some.ensures.steps
-          c.loop-name.invariant.there;
-      known = c.loop-name.invariant.known
-          ∙ (ap (λ es. c.args.source.unknown || names_known (body_at S t) (members_view es)) c.in-Some.ensures.steps
-          ∙ allowed_next S c.schema-schema.result.now t (string_bytes c.in-Some.name.now) c.as_str.result.now
-          (tree_view c.in-Some.tree.now) (members_view c.next.new.self) c.args.source.unknown _
-          c.schema-schema.ensures.schema c.as_str.ensures.value c.field_by_name-field.ensures
-          (sym c.is_allowed.ensures ∙ c.if-not-is_allowed.false));
-    }
-
-pub loop-name-preserved : goal.loop-name-preserved
-loop-name-preserved c =
-    let S = c.args.source.layout.now.schema in
-    let t = c.args.owner.0 in
-    let m = c.args.members.now in
-    let e : Entry = (c.in-Some.name.now, c.in-Some.tree.now) in
-    record {
-      put = next_put S c.schema-schema.result.now t c.schema-schema.ensures.made.declared m
-          c.loop-name.name-iterator e c.next.new.self c.as_str.result.now None
-          (map tree_seen c.loop-name.found.items) c.schema-schema.ensures.schema c.as_str.ensures.value
-          c.in_default.ensures c.in-Some.ensures.steps c.loop-name.invariant.there c.loop-name.invariant.put;
-      there = found_next m c.loop-name.name-iterator e c.next.new.self c.in-Some.ensures.steps
-          c.loop-name.invariant.there;
-      known = c.loop-name.invariant.known
-          ∙ (ap (λ es. c.args.source.unknown || names_known (body_at S t) (members_view es)) c.in-Some.ensures.steps
-          ∙ allowed_next S c.schema-schema.result.now t (string_bytes c.in-Some.name.now) c.as_str.result.now
-          (tree_view c.in-Some.tree.now) (members_view c.next.new.self) c.args.source.unknown _
-          c.schema-schema.ensures.schema c.as_str.ensures.value c.field_by_name-field.ensures
-          (sym c.is_allowed.ensures ∙ c.if-not-is_allowed.false));
-    }
-
-pub returns-then-not-is_allowed-clause-known : goal.returns-then-not-is_allowed-clause-known
-returns-then-not-is_allowed-clause-known c =
-    let S = c.args.source.layout.now.schema in
-    let t = c.args.owner.0 in
-    let none : (c.args.source.unknown || names_known (body_at S t) (members_view c.args.members.now.entries)) ≡ false =
-    c.loop-name.invariant.known
-    ∙ (ap (λ es. c.args.source.unknown || names_known (body_at S t) (members_view es)) c.in-Some.ensures.steps
-    ∙ not_allowed S c.schema-schema.result.now t (string_bytes c.in-Some.name.now) c.as_str.result.now
-    (tree_view c.in-Some.tree.now) (members_view c.next.new.self) c.args.source.unknown _
-    c.schema-schema.ensures.schema c.as_str.ensures.value c.field_by_name-field.ensures
-    (sym c.is_allowed.ensures ∙ c.if-not-is_allowed.true)) in
-    rw none refl
-
-pub returns-clause-members : goal.returns-clause-members
-returns-clause-members c =
-    let S = c.args.source.layout.now.schema in
-    let t = c.args.owner.0 in
-    let ms = members_view c.args.members.now.entries in
-    subst (λ (fs : List DeclaredField). AreMembersOf c.loop-name.found.items fs ms) (sym c.requires)
-    (all_put c.loop-name.found.items (slots_in (body_at S t)) ms
-    (subst (λ es. ArePutSoFar (slots_in (body_at S t)) (map tree_seen c.loop-name.found.items) ms (members_view es))
-    c.in-None.ensures.steps.0 c.loop-name.invariant.put))
-
-pub returns-clause-known : goal.returns-clause-known
-returns-clause-known c =
-    let S = c.args.source.layout.now.schema in
-    let t = c.args.owner.0 in
-    let all : (c.args.source.unknown || names_known (body_at S t) (members_view c.args.members.now.entries)) ≡ true =
-    c.loop-name.invariant.known
-    ∙ (ap (λ es. c.args.source.unknown || names_known (body_at S t) (members_view es)) c.in-None.ensures.steps.0
-    ∙ none_left S t c.args.source.unknown) in
-    rw all refl
+pub put_members-requires-2-clause-empty : goal.put_members-requires-2-clause-empty
+put_members-requires-2-clause-empty c =
+    few_empty (length c.args.slots.now) (replicate 16 None) c.args.many.now.items c.if-slots-gt-FEW.false refl
