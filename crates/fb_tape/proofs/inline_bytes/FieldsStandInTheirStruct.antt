@@ -1,6 +1,6 @@
 -- The fields of a struct, one behind the other with zeros between them.
 use Rattle.std.proofs.Common.{◌≡◌, ℕ, ◌+◌, ◌-◌, ◌<◌, ◌≤◌, inl, inr, ◌++◌, Bool, true, false, ◌||◌, List, [], ◌∷◌}
-use Rattle.std.proofs.Common.{length, replicate, slice_index, refl, ap, sym, ◌∙◌, subst, arith, append_assoc}
+use Rattle.std.proofs.Common.{length, replicate, slice_index, refl, ap, sym, ◌∙◌, arith, append_assoc}
 use Rattle.std.proofs.Common.{length-append}
 use Rattle.std.proofs.lemmas.Bool.{false≢true, and_from, le-leb, lt-ltb, cases_lt}
 use Rattle.std.proofs.lemmas.List.{get_or-append_right, get_or_append_left, get_or-append-add, get_or-replicate}
@@ -115,16 +115,14 @@ module _ (L : LaidSchema) (kinds : List StoredKind) (os : List ℕ) (ds : List D
       let lies = inline_lies L (λ a q. true) (λ a q. true) (field ++ behind) (front ++ (field ++ behind)) (length front)
       long (moved behind) (λ a q under is. refl) kind 0 d (inline.lies behind) in
       let at : length front + 0 ≡ 0 + o = omega (arith, begins) in
-      subst (λ (b : Bytes). LiesInline L b kind (0 + o) d) (apart behind)
-      (subst (λ (p : ℕ). LiesInline L (front ++ (field ++ behind)) kind p d) at lies)
+      rw (← (apart behind)) (rw (← at) lies)
 
   field_tight : (behind : Bytes) → EachInlineIn L (IsTightInline L (whole behind)) kind (0 + o) d
   field_tight behind =
       let tight = inline_moved L (field ++ behind) (front ++ (field ++ behind)) (length front) (moved behind) kind 0 d
       (inline.tight behind) in
       let at : length front + 0 ≡ 0 + o = omega (arith, begins) in
-      subst (λ (b : Bytes). EachInlineIn L (IsTightInline L b) kind (0 + o) d) (apart behind)
-      (subst (λ (p : ℕ). EachInlineIn L (IsTightInline L (front ++ (field ++ behind))) kind p d) at tight)
+      rw (← (apart behind)) (rw (← at) tight)
 
   padded_more : (i : ℕ) → i < length (front ++ field) → is_in_part L (kinds ++ (kind ∷ [])) (os ++ (o ∷ [])) i ≡ false
       → slice_index (front ++ field) i ≡ 0
@@ -144,11 +142,9 @@ module _ (L : LaidSchema) (kinds : List StoredKind) (os : List ℕ) (ds : List D
   pub one_field_more : FirstFieldsStand L (kinds ++ (kind ∷ [])) (os ++ (o ∷ [])) (ds ++ (d ∷ [])) (front ++ field)
   one_field_more = record {
     lies = λ behind. lies_more L (whole behind) kind o d (field_lies behind) kinds os ds e
-        (subst (λ (b : Bytes). LiesParts L b kinds os 0 (parts_in ds)) (own_apart behind)
-        (h.lies (replicate (o - length own) 0 ++ (field ++ behind))));
+        (rw (← (own_apart behind)) (h.lies (replicate (o - length own) 0 ++ (field ++ behind))));
     tight = λ behind. tight_more L (IsTightInline L (whole behind)) kind o d (field_tight behind) kinds os ds e f
-        (subst (λ (b : Bytes). EachFieldIn L (IsTightInline L b) kinds os 0 (parts_in ds)) (own_apart behind)
-        (h.tight (replicate (o - length own) 0 ++ (field ++ behind))));
+        (rw (← (own_apart behind)) (h.tight (replicate (o - length own) 0 ++ (field ++ behind))));
     padded = padded_more;
   }
 
@@ -166,13 +162,11 @@ struct_stands L s ds own low h =
     let apart = λ (behind : Bytes). sym (append_assoc own zeros behind) in
     record {
       long = long;
-      lies = λ behind. subst (λ (b : Bytes). LiesParts L b (parts_of L s) (struct_at L s).offsets 0 (parts_in ds))
-          (apart behind) (h.lies (zeros ++ behind));
+      lies = λ behind. rw (← (apart behind)) (h.lies (zeros ++ behind));
       tight = λ behind. (
         λ i under free. ap (λ j. slice_index ((own ++ zeros) ++ behind) j) (omega arith)
             ∙ get_or_append_left (own ++ zeros) behind 0 i (omega (arith, long, under))
             ∙ padded_read L (parts_of L s) (struct_at L s).offsets ds own h n i (omega (arith, low, under)) free,
-        subst (λ (b : Bytes). EachFieldIn L (IsTightInline L b) (parts_of L s) (struct_at L s).offsets 0 (parts_in ds))
-            (apart behind) (h.tight (zeros ++ behind)),
+        rw (← (apart behind)) (h.tight (zeros ++ behind)),
       );
     }

@@ -27,7 +27,7 @@ module _ (L : LaidSchema) (b c : Bytes) (k : ℕ) (bytes : (i : ℕ) → slice_i
         → EachFieldIn L (IsTightInline L b) kinds os p ds → EachFieldIn L (IsTightInline L c) kinds os (k + p) ds
     fields_moved (kind ∷ kinds) (o ∷ os) p (more_parts d ds) h =
         let at : k + (p + o) ≡ (k + p) + o = omega arith in (
-          subst (λ (q : ℕ). EachInlineIn L (IsTightInline L c) kind q d) at (inline_moved kind (p + o) d h.0),
+          rw (← at) (inline_moved kind (p + o) d h.0),
           fields_moved kinds os p ds h.1,
         )
     fields_moved _ _ p _ h = tt

@@ -111,7 +111,7 @@ part_fits_at L (k ∷ kinds) [] i kind v h at low is = absurd h
 part_fits_at L (k ∷ kinds) (w ∷ items) zero kind v h at low is =
     let same : k ≡ kind = cc in
     subst (λ (x : StoredKind). Fits L (one_of x) (view v)) same
-    (subst (λ (x : Value). Fits L (one_of k) (view x)) (sym is) h.0)
+    (rw is h.0)
 part_fits_at L (k ∷ kinds) (w ∷ items) (suc i) kind v h at low is =
     part_fits_at L kinds items i kind v h.1 at (omega (arith, low)) is
 

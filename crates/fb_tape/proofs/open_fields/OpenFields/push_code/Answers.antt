@@ -1,10 +1,8 @@
-use Rattle.std.proofs.Common.{List, [], None, map, pos, refl, subst, arith}
+use Rattle.std.proofs.Common.{[], None, pos, refl, arith}
 use Rattle.std.proofs.lemmas.Int.{ints}
 use Rattle.fb_schema.specs.declared.kinds.Base.TheVariants.{U8}
 use Rattle.fb_layout.specs.Laid.{LaidSchema, scalar_kind}
 use Rattle.fb_value.specs.Datum.{a_number}
-use Rattle.fb_tape.specs.OpenFields.{OpenField, AddsInlineField}
-use Rattle.fb_tape.specs.OpenList.{field_seen}
 use Rattle.fb_tape.proofs.inline_bytes.InlineKindsAreNumbersOrStructs.{same_wide}
 use Rattle.fb_tape.proofs.open_fields.FieldsStandInTurn.{inline_inside}
 use Rattle.fb_tape.proofs.open_fields.FieldsStandInTurn.{inline_field_added}
@@ -23,9 +21,7 @@ invariant_of-self-2 c =
 pub returns-clause-adds : goal.returns-clause-adds
 returns-clause-adds c L =
     let same = same_wide U8 (pos c.args.code) (omega (arith, ints), omega (arith, ints)) in
-    subst (λ (xs : List OpenField). AddsInlineField L c.args.slot (scalar_kind U8) (a_number (pos c.args.code)) xs
-    (map (field_seen c.push_number.new.bytes.items) c.push_reserved.new.self.items)) c.self.view_is
-    (inline_field_added L c.args.slot (scalar_kind U8) (a_number (pos c.args.code)) c.self.inside.bytes.items
+    rw (← c.self.view_is) (inline_field_added L c.args.slot (scalar_kind U8) (a_number (pos c.args.code)) c.self.inside.bytes.items
     c.push_number.new.bytes.items c.self.inside.fields.items c.push_reserved.new.self.items _ c.self.invariant
     (rw (c.from.ensures, same) at c.in_ok-push_number.ensures.adds L) (rw c.reserve.ensures.items at c.push_reserved.ensures.items) refl refl refl
     (omega (arith, c.len-first.ensures)))

@@ -1,8 +1,6 @@
-use Rattle.std.proofs.Common.{List, map, refl, subst, ap, arith}
+use Rattle.std.proofs.Common.{refl, ap, arith}
 use Rattle.fb_layout.specs.Seen.{kind_seen}
 use Rattle.fb_value.specs.View.{view}
-use Rattle.fb_tape.specs.OpenFields.{OpenField, AddsInlineField}
-use Rattle.fb_tape.specs.OpenList.{field_seen}
 use Rattle.fb_tape.specs.declared.ops.NotedField.TheVariants.{Inline}
 use Rattle.fb_tape.proofs.open_fields.FieldsStandInTurn.{kept_inside, fails_as_before, inline_inside}
 use Rattle.fb_tape.proofs.open_fields.FieldsStandInTurn.{inline_field_added}
@@ -40,10 +38,7 @@ invariant_of-self-2 c =
 
 pub returns-clause-adds : goal.returns-clause-adds
 returns-clause-adds c =
-    subst (λ (xs : List OpenField). AddsInlineField c.args.layout.now c.args.slot
-    (kind_seen c.args.layout.now c.args.kind) (view c.args.value.now) xs
-    (map (field_seen c.push_inline.new.bytes.items) c.push_reserved.new.self.items)) c.self.view_is
-    (inline_field_added c.args.layout.now c.args.slot (kind_seen c.args.layout.now c.args.kind) (view c.args.value.now)
+    rw (← c.self.view_is) (inline_field_added c.args.layout.now c.args.slot (kind_seen c.args.layout.now c.args.kind) (view c.args.value.now)
     c.self.inside.bytes.items c.push_inline.new.bytes.items c.self.inside.fields.items c.push_reserved.new.self.items _
     c.self.invariant c.in_ok-push_inline.ensures.adds (rw c.reserve.ensures.items at c.push_reserved.ensures.items) refl c.align_of.ensures
     (ap (λ n. Inline n) c.size_of.ensures) (omega (arith, c.len-first.ensures)))
