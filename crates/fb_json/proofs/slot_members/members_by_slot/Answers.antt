@@ -1,14 +1,14 @@
-use Rattle.std.proofs.Common.{List, string_bytes, ◌≡◌, ◌∙◌, ◌||◌, true, false, Some, None, map, set, replicate, length}
-use Rattle.std.proofs.Common.{ap, sym, subst, refl}
+use Rattle.std.proofs.Common.{string_bytes, ◌≡◌, ◌∙◌, ◌||◌, true, false, Some, None, map, set, replicate, length}
+use Rattle.std.proofs.Common.{ap, sym, refl}
 use Rattle.std.proofs.lemmas.List.{map-set, length-map}
 use Rattle.serde_json.specs.View.{members_view, view as tree_view}
 use Rattle.serde_json.proofs.Views.{Entry}
-use Rattle.fb_schema.specs.Schema.{DeclaredField, body_at, slots_in}
+use Rattle.fb_schema.specs.Schema.{body_at, slots_in}
 use Rattle.fb_schema.specs.Seen.{field_seen}
 use Rattle.fb_json.specs.Meant.{names_known}
-use Rattle.fb_json.specs.SlotMembers.{AreMembersOf, tree_seen}
+use Rattle.fb_json.specs.SlotMembers.{tree_seen}
 use Rattle.fb_json.proofs.slot_members.MemberIsAllowed.{allowed_next, none_left, not_allowed}
-use Rattle.fb_json.proofs.slot_members.MemberIsPutAtItsSlot.{ArePutSoFar, all_put, found_next, next_put}
+use Rattle.fb_json.proofs.slot_members.MemberIsPutAtItsSlot.{all_put, found_next, next_put}
 use Rattle.fb_json.proofs.slot_members.MemberIsPutAtItsSlot.{none_put, none_seen}
 use Rattle.fb_json.proofs.slot_members.members_by_slot.Goals as goal
 
@@ -92,10 +92,8 @@ returns-clause-members c =
     let S = c.args.source.layout.now.schema in
     let t = c.args.owner.0 in
     let ms = members_view c.args.members.now.entries in
-    subst (λ (fs : List DeclaredField). AreMembersOf c.loop-name.found.items fs ms) (sym c.requires)
-    (all_put c.loop-name.found.items (slots_in (body_at S t)) ms
-    (subst (λ es. ArePutSoFar (slots_in (body_at S t)) (map tree_seen c.loop-name.found.items) ms (members_view es))
-    c.in-None.ensures.steps.0 c.loop-name.invariant.put))
+    rw c.requires (all_put c.loop-name.found.items (slots_in (body_at S t)) ms
+    (rw c.in-None.ensures.steps.0 at c.loop-name.invariant.put))
 
 pub returns-clause-known : goal.returns-clause-known
 returns-clause-known c =
