@@ -60,7 +60,7 @@ pub none_behind : {X : Type 0} (rule : List X → X → List SchemaFault) (befor
     → (k : ℕ) (x : X) → slice_get xs k ≡ Some x → rule (before ++ take k xs) x ≡ []
 none_behind rule before [] h k x e = absurd (none-some x e)
 none_behind rule before (y ∷ xs) h zero x e =
-    ap (λ b. rule b x) (append-nil before) ∙ subst (λ z. rule before z ≡ []) (same_Some y x e)
+    ap (λ b. rule b x) (append-nil before) ∙ rw (← (same_Some y x e))
     (both_none (rule before y) (faults_behind rule (before ++ y ∷ []) xs) h).0
 none_behind rule before (y ∷ xs) h (suc k) x e =
     ap (λ b. rule b x) (sym (append_assoc before (y ∷ []) (take k xs)))
@@ -129,7 +129,7 @@ module _ (declared : Name → Bool) (host : AttributeHost) (attributes : List At
       (λ is e. cc) (λ e. e)
       (none_behind (attribute_behind declared host) [] attributes none i a at) in
       not-false (may_stand host k a.value) (either-none (not (may_stand host k a.value)) again (BadAttribute a.name.at)
-      (subst (λ b. faults_by_name declared host again a b ≡ []) known right)).0
+      (rw known at right)).0
 
   -- the first that is a built-in one may stand
   pub called_stands : (a : AttributeRead) → attribute_called k attributes ≡ Some a → may_stand host k a.value ≡ true

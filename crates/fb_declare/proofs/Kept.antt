@@ -31,7 +31,7 @@ use Rattle.fb_resolve.specs.MembersRead.{table_of, member_read}
 use Rattle.fb_declare.proofs.TypesKept.{MeansIn, table_named, IsReadIn, means_in, read_in, AreEnumsKept, aligns_before}
 use Rattle.fb_declare.proofs.TypesKept.{resolved_at, type_at, enums_kept}
 use Rattle.std.specs.List.{AllZip, list_all, slice_get, IsDistinct}
-use Rattle.std.specs.Option.{option_map, is_none, unwrap_or, ForSome}
+use Rattle.std.specs.Option.{option_map, is_none, ForSome}
 use Rattle.fb_syntax.specs.Located.{Located}
 use Rattle.fb_resolve.specs.Outline.{TypeRead, RootRead, Outline, name_of_type}
 use Rattle.fb_resolve.specs.Meaning.{meaning_of}
@@ -121,8 +121,8 @@ type_names_differ o S g h = keys_apart bytes_eq-Decides (λ t. t.name) S.types
 root_kept : (o : Outline) (S : DeclaredSchema) → Gives o S → (root : Option RootRead)
     → Some S.root ≡ table_of (meaning_of_root o.types root) → Names is_table S S.root
 root_kept o S g None e = cc
-root_kept o S g (Some r) e = subst (λ t. Names is_table S (unwrap_or t 0)) (sym e)
-    (table_named S (meaning_of o.types r.scope r.name.bytes) (means_in o S g r.scope r.name.bytes) (ap is_none (sym e)))
+root_kept o S g (Some r) e = rw (← e) at
+  (table_named S (meaning_of o.types r.scope r.name.bytes) (means_in o S g r.scope r.name.bytes) (ap is_none (sym e)))
 
 -- ---- bodies
 
@@ -157,9 +157,9 @@ bodies_kept : (o : Outline) (S : DeclaredSchema) → Gives o S
     → slice_get S.types t ≡ Some type → IsBody S t type.body
 bodies_kept o S g none t type at =
     let x = type_at o S g none t type at in
-    subst (λ n. IsBody S n type.body) (length-before o.types (resolved_types o.types) t
+    rw (← (length-before o.types (resolved_types o.types) t
     (slice_get_within (resolved_types o.types) t (resolved_type o.types x.read)
-    (resolved_at o.types t x.read x.at)))
+    (resolved_at o.types t x.read x.at))))
     (body_kept o.types S (enums_kept o S g none) (declared_in o) (aligns_before o.types t)
     (resolved_declaration o.types x.read.scope x.read.declaration) type.body
     (read_in o S g x.read.scope x.read.declaration) x.right x.has)
@@ -207,13 +207,12 @@ four_by (Some q) h t e =
 
 pub four_bytes : (o : Outline) (i : Option Located) → faults_of_outline o ≡ [] → i ≡ o.identifier
     → ForSome i (λ t. length t.bytes ≡ 4)
-four_bytes o i h same = subst (λ i. ForSome i (λ t. length t.bytes ≡ 4)) (sym same)
-    (four_by o.identifier (outline_right o h).2)
+four_bytes o i h same = rw same (four_by o.identifier (outline_right o h).2)
 
 bytes_of : (i : Option Located) → ForSome i (λ t. length t.bytes ≡ 4)
     → ForSome (option_map (λ t. t.bytes) i) (λ id. length id ≡ 4)
 bytes_of None h id e = absurd (none-some id e)
-bytes_of (Some t) h id e = subst (λ x. length x ≡ 4) (same_Some t.bytes id e) (h t refl)
+bytes_of (Some t) h id e = rw (← (same_Some t.bytes id e)) (h t refl)
 
 -- What an outline with no fault gives is well declared.
 pub kept : (o : Outline) (S : DeclaredSchema) → faults_of_outline o ≡ [] → Gives o S → IsDeclared S
@@ -224,6 +223,5 @@ kept o S h g =
       names = type_names_differ o S g right.0;
       aligned = (aligns o S g right.0, are_aligned o S g right.0);
       root = root_kept o S g o.root g.root;
-      identifier = subst (λ i. ForSome i (λ id. length id ≡ 4)) (sym g.identifier)
-          (bytes_of o.identifier (four_bytes o o.identifier h refl));
+      identifier = rw g.identifier (bytes_of o.identifier (four_bytes o o.identifier h refl));
     }

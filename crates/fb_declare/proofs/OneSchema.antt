@@ -1,5 +1,5 @@
 -- What declarations give is one schema at most.
-use Rattle.std.proofs.Common.{◌≡◌, ◌<◌, ℕ, List, [], ◌∷◌, length, get_or, refl, ap, sym, subst, ◌∙◌, arith, Some}
+use Rattle.std.proofs.Common.{◌≡◌, ◌<◌, ℕ, List, [], ◌∷◌, length, get_or, refl, ap, sym, ◌∙◌, arith, Some}
 use Rattle.std.proofs.Common.{slice_get}
 use Rattle.std.specs.List.{AllZip}
 use Rattle.std.proofs.lemmas.List.{ext_get_or, nil_from_length}
@@ -26,7 +26,7 @@ same_slot read p q a b d k h =
     (Contains-permutation p read f (IsPermutation-sym read p a.same) (Contains-get_or p k d h)) in
     let at : slice_get q among.0 ≡ Some f = slice_get_read q (length q) among.0 f refl among.1 (sym among.2) in
     let place : among.0 ≡ k = sym (b.slots among.0 f at) ∙ a.slots k f (slice_get-get_or p k d h) in
-    sym (get_or_from_slice_get q k f d (subst (λ m. slice_get q m ≡ Some f) place at))
+    sym (get_or_from_slice_get q k f d (rw place at at))
 
 -- The slots that stand in place are the same.
 same_slots : (read p q : List DeclaredField) → AreInPlace read p → AreInPlace read q → p ≡ q

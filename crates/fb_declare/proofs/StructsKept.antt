@@ -20,7 +20,7 @@ use Rattle.fb_syntax.specs.declared.declarations.FieldType.TheVariants.{One, Man
 use Rattle.fb_schema.specs.declared.kinds.Kind.TheVariants.{Scalar, Enum, Struct}
 use Rattle.fb_schema.specs.Schema.{Name, DeclaredField, DeclaredSchema, DeclaredBody, struct_body, body_at, parts_in}
 use Rattle.fb_schema.specs.Schema.{force_align_in, is_struct}
-use Rattle.fb_schema.specs.WellDeclared.{IsPart, IsPlain, IsForceAlign, IsStructBody, names_of}
+use Rattle.fb_schema.specs.WellDeclared.{IsPart, IsForceAlign, IsStructBody, names_of}
 use Rattle.fb_declare.specs.declared.faults.SchemaFault.TheVariants.{EmptyStruct, IncompleteStruct}
 use Rattle.fb_declare.specs.declared.field_faults.FieldHost.TheVariants as fields
 use Rattle.fb_resolve.specs.declared.meanings.Meaning.{Meaning}
@@ -142,7 +142,7 @@ struct_kept types S declared lower s read h =
           let f = x.0 in
           let own = all_at (IsFieldRight declared host) s.fields
           (fields_right declared host s.fields right.2) k f x.1 in
-          subst (λ (q : DeclaredField). IsPart S (length lower) q.shape × IsPlain q) (sym x.2) (
+          rw x.2 (
             part_right S (length lower) f.field.kind f.meaning
                 (all_at (IsRead types S) s.fields read k f x.1).means own.type,
             (refl, refl, refl, refl),
@@ -214,8 +214,7 @@ number_forced natural (pos n) h =
     record {
       same = ap (λ b. cond b (Some n) None) h
           ∙ sym first;
-      enough = λ a is. subst (λ (a : ℕ). natural ≤ a) (same_Some n a (sym first ∙ is))
-          (alignment_right natural n h).1;
+      enough = λ a is. rw (← (same_Some n a (sym first ∙ is))) (alignment_right natural n h).1;
     }
 number_forced natural (negsuc n) h = absurd (false≢true h)
 
@@ -284,7 +283,7 @@ module _ (o : Outline) (S : DeclaredSchema) (gives : Gives o S)
         let stands = called_stands (declared_in o) (hosts.Struct natural) s.declared.attributes right.0 ForceAlign in
         let forced = subst (IsForced natural) (sym read.1)
         (attribute_forced natural (attribute_called ForceAlign s.declared.attributes) stands) in (
-          λ a e. subst (λ (n : ℕ). n ≤ a) (sym own) (forced.enough a (sym h.1 ∙ e)),
+          λ a e. rw own (forced.enough a (sym h.1 ∙ e)),
           λ i. unwrap_or ((forced.same ∙ sym h.1) i) (sym own i),
         )
     struct_aligned d (struct_body parts force) h is read free = absurd h
@@ -298,9 +297,8 @@ module _ (o : Outline) (S : DeclaredSchema) (gives : Gives o S)
       let x = body_at_by o S gives none is_struct s refl is in
       let lower = aligns_before o.types s in
       let below = aligns-below o.types (resolved_types o.types) s in
-      subst (λ n. IsAligned lower below n (body_at S s))
-      (sym (aligns-at o.types (resolved_types o.types) s (resolved_type o.types x.read)
-      (resolved_at o.types s x.read x.at)))
+      rw (aligns-at o.types (resolved_types o.types) s (resolved_type o.types x.read)
+      (resolved_at o.types s x.read x.at))
       (struct_aligned lower below (resolved_declaration o.types x.read.scope x.read.declaration) (body_at S s) x.has is
       (read_in o S gives x.read.scope x.read.declaration) x.right)
 

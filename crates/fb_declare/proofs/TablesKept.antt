@@ -198,7 +198,7 @@ may_be_element S at n _ means free = tt
 union_named : (S : DeclaredSchema) (k : FieldType) (m : Meaning) (u : TypeId) → MeansIn S m → union_of k m ≡ Some u
     → Names is_union S u.0
 union_named S (types_read.One n) (Known (Union v)) u means e = let same : v ≡ u = cc in
-    subst (λ (t : TypeId). Names is_union S t.0) same means.0
+    rw (← same) means.0
 union_named S _ _ u means e = cc
 
 abbrev IsSlotRight : DeclaredSchema → DeclaredField → Type 0

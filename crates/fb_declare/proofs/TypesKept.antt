@@ -22,7 +22,7 @@ use Rattle.fb_resolve.specs.Attributes.{has_attribute, number_called}
 use Rattle.fb_resolve.specs.BasicTypes.{basic_type}
 use Rattle.fb_resolve.specs.Defaults.{given_by}
 use Rattle.fb_resolve.specs.EnumValues.{has_flags, underlying_at, value_at, number_named, value_named, behind}
-use Rattle.fb_resolve.specs.EnumValues.{enum_values, enum_values_of, value_in, value_of_read, values_read}
+use Rattle.fb_resolve.specs.EnumValues.{enum_values, value_in, values_read}
 use Rattle.fb_resolve.specs.Meaning.{use_of, use_of_read, use_of_type, basic_or, meaning_of, type_name, type_meant}
 use Rattle.fb_resolve.specs.MembersRead.{table_of}
 use Rattle.fb_resolve.specs.ResolvedFields.{ResolvedField}
@@ -77,7 +77,7 @@ IsReadIn types S (resolved.Union u) = All (λ m. MeansIn S m.meaning) u.members
 module _ {A B C : Type 0} (R : B → C → Type 0) (f : A → B) where
   at_left : (xs : List A) (ys : List C) → AllZip R (map f xs) ys → (t : ℕ) (x : A) → slice_get xs t ≡ Some x
       → (y : C) × (slice_get ys t ≡ Some y) × R (f x) y
-  at_left (a ∷ xs) (y ∷ ys) z zero x e = (y, refl, subst (λ a. R (f a) y) (same_Some a x e) z.0)
+  at_left (a ∷ xs) (y ∷ ys) z zero x e = (y, refl, rw (← (same_Some a x e)) z.0)
   at_left (a ∷ xs) (y ∷ ys) z (suc t) x e = at_left xs ys z.1 t x e
   at_left _ _ z t x e = absurd (grind arith)
 
@@ -115,7 +115,7 @@ module _ (o : Outline) (S : DeclaredSchema) (g : Gives o S) where
   means_read t (Some r) e =
       let x = at_left IsType (resolved_type o.types) o.types S.types g.types t r e in
       means_use S o.types r.scope t r.declaration x.0.body
-      (λ test is. (slice_get_within S.types t x.0 x.1, subst (λ o. IsTrue (test (body_in o))) (sym x.1) is))
+      (λ test is. (slice_get_within S.types t x.0 x.1, rw x.1 is))
       x.2.body
 
   means_type : (t : Option ℕ) → MeansIn S (use_of_type o.types t)
@@ -198,7 +198,7 @@ enum_facts types declared lower scope (decls.Enum e) (enum_body base flags value
     let kept = enum_kept declared (resolved_enum types scope e) refl h in (
       kept.0 ∙ ap Some (sym has.0),
       value_found (InRange base) (values_read types scope e)
-          (subst (λ b. All (λ v. InRange b v.1) (values_read types scope e)) (sym has.0) kept.1.ranges) scope e,
+          (rw has.0 kept.1.ranges) scope e,
     )
 enum_facts types declared lower scope d (enum_body base flags values) h has is = absurd has
 enum_facts types declared lower scope d b h has is = absurd (true≢false (sym is))
@@ -233,9 +233,7 @@ module _ (o : Outline) (S : DeclaredSchema) (g : Gives o S)
   unfolding value_at
   enums_kept e named =
       let x = body_at_by is_enum e refl named.1 in
-      subst (λ r. IsEnumKept (option_and_then (λ q. (enum_values_of o.types q).base) r) (value_of_read o.types r)
-      (body_at S e)) (sym x.at)
-      (enum_facts o.types (declared_in o) (aligns_before o.types e) x.read.scope x.read.declaration
+      rw x.at (enum_facts o.types (declared_in o) (aligns_before o.types e) x.read.scope x.read.declaration
       (body_at S e) x.right x.has named.1)
 
 -- whether an element has the key of one before it

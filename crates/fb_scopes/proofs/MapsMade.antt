@@ -1,6 +1,6 @@
 -- Maps made from other maps, one level of forks at a time.
 use Rattle.std.proofs.Common.{ℕ, zero, suc, ◌≡◌, ◌≢◌, ◌-◌, ◌/◌, ◌%◌, ◌==◌, ◌∙◌, List, Bool, Some, length, get_or}
-use Rattle.std.proofs.Common.{slice_get, unwrap_or, if◌then◌else◌, true, false, refl, sym, ap, subst, arith}
+use Rattle.std.proofs.Common.{slice_get, unwrap_or, if◌then◌else◌, true, false, refl, sym, ap, arith}
 use Rattle.std.proofs.lemmas.Option.{slice_get_within, slice_get_read}
 use Rattle.std.proofs.lemmas.Bool.Decides.{nat_tests}
 use Rattle.fb_scopes.specs.declared.maps.Fork.{Fork}
@@ -20,7 +20,7 @@ lower levels above = omega arith
 pub fork-of-map : (forks : List Fork) (levels place : ℕ) (fork : Fork) → levels ≢ 0 → IsMapIn forks levels place
     → fork ≡ get_or forks place fork → IsForkOf forks levels place fork
 fork-of-map forks levels place fork above map read =
-    let deep : IsMapIn forks (suc (levels - 1)) place = subst (λ n. IsMapIn forks n place) (lower levels above) map in
+    let deep : IsMapIn forks (suc (levels - 1)) place = rw (lower levels above) at map in
     let there = slice_get_read forks (length forks) place fork refl deep.0 read in
     let parts = rw there at deep in
     record { above = above; there = there; zeros = parts.1; ones = parts.2 }
@@ -30,7 +30,7 @@ pub map-of-fork : {forks : List Fork} {levels place : ℕ} {fork : Fork} → IsF
 map-of-fork {forks = forks} {levels = levels} {place = place} {fork = fork} f =
     let deep : IsMapIn forks (suc (levels - 1)) place =
     rw f.there (slice_get_within forks place fork f.there, f.zeros, f.ones) in
-    subst (λ n. IsMapIn forks n place) (sym (lower levels f.above)) deep
+    rw (lower levels f.above) deep
 
 pub part-of-fork : {forks : List Fork} {levels place : ℕ} {fork : Fork} → IsForkOf forks levels place fork
     → (key : ℕ) → IsMapIn forks (levels - 1) (part fork key)
@@ -61,8 +61,8 @@ inserted-fork {old = old} {levels = levels} {fork = fork} f mid new first second
     record {
       above = f.above;
       there = there;
-      zeros = subst (λ (f : Fork). IsMapIn new below f.zero) (sym e) parts.0;
-      ones = subst (λ (f : Fork). IsMapIn new below f.one) (sym e) parts.1;
+      zeros = rw e parts.0;
+      ones = rw e parts.1;
     }
 
 -- two keys are the same where their lowest bits and all others are

@@ -235,8 +235,7 @@ pub links-inserted : (keys new : List (ℕ × Bor Name)) → AreLinks (links_in 
 links-inserted keys new are path word inside e = by (list_any (is_key path word.now) keys) refl
   where
     by : (b : Bool) → list_any (is_key path word.now) keys ≡ b → AreLinks (links_in new)
-    by true any = subst (λ ks. AreLinks (links_in ks))
-        (sym (e ∙ ap (λ b. if b then keys else keys ++ (path, word) ∷ []) any)) are
+    by true any = rw (e ∙ ap (λ b. if b then keys else keys ++ (path, word) ∷ []) any) are
     by false any =
         subst AreLinks (sym (ap links_in (e ∙ ap (λ b. if b then keys else keys ++ (path, word) ∷ []) any)
         ∙ map-append named_by keys ((path, word) ∷ [])))

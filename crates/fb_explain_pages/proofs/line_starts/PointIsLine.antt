@@ -1,7 +1,7 @@
 -- Where an offset parts the starts of lines, there are as many of them as line feeds before the offset.
 use Rattle.std.proofs.Common.{ℕ, zero, suc, ◌≡◌, ◌+◌, ◌<◌, ◌≤◌, Bool, true, false, cond, List, [], ◌∷◌, length, take}
 use Rattle.std.proofs.Common.{count_by, get_or}
-use Rattle.std.proofs.Common.{refl, sym, ◌∙◌, subst, arith, leb, nat_eq}
+use Rattle.std.proofs.Common.{refl, ◌∙◌, arith, leb, nat_eq}
 use Rattle.std.proofs.lemmas.Bool.{leb-true, leb-false}
 use Rattle.std.proofs.lemmas.Bool.Decides.{nat_tests}
 use Rattle.std.proofs.lemmas.List.Sums.{sum_by-cons, sum_by-take-drop}
@@ -106,7 +106,7 @@ pub line_of_point : (text : List ℕ) (offset i : ℕ) (starts : List ℕ) → s
     → 1 + i ≡ line_at text offset
 line_of_point text offset i starts same within parts =
     let rises : IsNonDecreasingBy (λ start. start) starts =
-    subst (λ s. IsNonDecreasingBy (λ start. start) s) (sym same) (rising text 0) in
+    rw same (rising text 0) in
     let point = parts rises in
     let seen : Parts (0 + offset) starts i = record {
       front = λ k d low. let more = leb-true (get_or starts k d) offset (point.0 k d (omega arith) low) in
@@ -114,6 +114,6 @@ line_of_point text offset i starts same within parts =
       back = λ k d high under. let more = leb-false (get_or starts k d) offset (point.1 k d high under) in
           omega (arith, more);
     } in
-    let there = feeds text 0 offset i (subst (λ s. i ≤ length s) same within)
-    (subst (λ s. Parts (0 + offset) s i) same seen) in
+    let there = feeds text 0 offset i (rw (← same) within)
+    (rw (← same) seen) in
     let equal = before_is text offset in omega (arith, there, equal)

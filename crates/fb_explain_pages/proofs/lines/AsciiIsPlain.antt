@@ -1,6 +1,6 @@
 -- A text of printable ASCII with at most 120 characters before each line feed is a page when it is ended.
 use Rattle.std.proofs.Common.{ℕ, zero, suc, ◌≡◌, ◌+◌, ◌-◌, ◌<◌, ◌++◌, ◌⊎◌, inl, inr, true, List, [], ◌∷◌, chars, refl}
-use Rattle.std.proofs.Common.{sym, ap, ◌∙◌, arith, append-nil, append_assoc, subst, slice_index}
+use Rattle.std.proofs.Common.{sym, ap, ◌∙◌, arith, append-nil, append_assoc, slice_index}
 use Rattle.std.specs.Str.{IsAscii}
 use Rattle.std.proofs.lemmas.Bool.Decides.{nat_tests}
 use Rattle.std.proofs.lemmas.Str.{chars-IsAscii}
@@ -20,7 +20,7 @@ printed-cases left byte bytes h = grind (arith, nat_tests)
 
 with_text : (a b : List ℕ) (n : ℕ) → a ≡ b → IsWritten (record { text = a; columns = n })
     → (m : ℕ) × IsWritten (record { text = b; columns = m })
-with_text a b n e h = (n, subst (λ t. IsWritten (record { text = t; columns = n })) e h)
+with_text a b n e h = (n, rw (← e) h)
 
 printed-added : (bytes : List ℕ) (left : ℕ) (w : Written) → IsWritten w → w.columns + left ≡ 120
     → is_printed left bytes ≡ true

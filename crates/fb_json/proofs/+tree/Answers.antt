@@ -1,5 +1,5 @@
 use Rattle.std.proofs.Common.{◌≡◌, ◌∙◌, ◌++◌, ◌∷◌, ◌≤◌, [], refl, sym, ap, Err, length, map}
-use Rattle.std.proofs.Common.{Option, Some, option_map, subst, ℕ, arith}
+use Rattle.std.proofs.Common.{Some, option_map, arith}
 use Rattle.std.proofs.lemmas.Result.{err_from_is_err_and}
 use Rattle.std.proofs.lemmas.Grind.{common_steps}
 use Rattle.std.proofs.lemmas.List.{length-map, map_push}
@@ -15,8 +15,7 @@ use Rattle.fb_json.specs.declared.faults.JsonFault.TheVariants.{MissingMember}
 use Rattle.fb_json.specs.declared.step.Step.TheVariants.{Slot, Field, Element}
 use Rattle.fb_json.specs.FaultPaths.{entry_spot, field_spot, slot_spot}
 use Rattle.fb_json.specs.FaultPaths.{bare_spot, tree_spot, IsFirstAt, IsFirstIn, ToSlot, ToField, ToElement}
-use Rattle.fb_json.specs.Outcome.{Fails}
-use Rattle.fb_json.specs.Meant.{as_member, look, meant, slot_place, entry_meant, part_meant}
+use Rattle.fb_json.specs.Meant.{look, meant, slot_place, entry_meant, part_meant}
 use Rattle.fb_json.specs.SlotMembers.{looked_up, places, AreMembersOf}
 use Rattle.fb_json.proofs.members.MapFindsTheMembers.{found_by_map, found_some, found_none}
 use Rattle.fb_json.proofs.slots.MemberAtItsSlot.{looked_up_in}
@@ -292,9 +291,8 @@ entries::member-returns-in_err-value-clause-gives t c =
     let p = err_from_is_err_and c.from_residual.result c.from_residual.ensures.1 in
     let is : Some c.in-Some.table.0 ≡ member_by_code L c.args.union.0 c.args.code =
     rw c.schema.ensures.schema at c.in-Some.ensures in
-    rw (p.1, p.2) (subst (λ (o : Option ℕ). Fails c.in_err-value.field-0.0
-    (as_member c.args.code o m c.args.place c.args.room.levels c.args.room.left)) is
-    (fails_by c.in_err-value.field-0.0 (m (One (Table c.in-Some.table)) c.args.place c.args.room.levels
+    rw (p.1, p.2) (rw (← is) (fails_by c.in_err-value.field-0.0
+    (m (One (Table c.in-Some.table)) c.args.place c.args.room.levels
     c.args.room.left) _ (λ h. rw h refl) c.in_err-value.ensures.gives))
 
 -- ---- structs

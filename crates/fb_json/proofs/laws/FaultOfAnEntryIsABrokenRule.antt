@@ -1,6 +1,6 @@
 -- A fault of an entry is a rule that it breaks.
 use Rattle.std.proofs.Common.{◌≡◌, ◌⊎◌, inl, inr, ℕ, zero, suc, ℤ, Bool, true, false, Option, Some, None}
-use Rattle.std.proofs.Common.{option_map, Err, refl, sym, subst, arith}
+use Rattle.std.proofs.Common.{option_map, Err, refl, subst, arith}
 use Rattle.serde_json.specs.Data.{Data}
 use Rattle.fb_schema.specs.declared.kinds.TypeId.{TypeId}
 use Rattle.fb_schema.specs.declared.kinds.Kind.TheVariants.{Scalar, Enum, Struct, Table, Union, Code, Text}
@@ -85,7 +85,7 @@ module _ (L : LaidSchema) (unknown : Bool) where
   unfolding union_meant
   union_broken s u zero None at levels left f one broken h =
       absent_broken s 0 (slot_of L.schema s).if_absent (slot_of L.schema s).required (One (Union u)) at left f
-      (subst (λ (k : Shape). HasNoCode k 0) (sym one) refl) refl h
+      (rw one refl) refl h
   union_broken s u (suc c) None at levels left f one broken h =
       subst (Entry s (suc c) None (One (Union u)) at) (err_inj {A = Option Datum × ℕ} (UnionMismatch at) f h)
       (inr (inl (refl, (u, one, (λ e. omega arith)))))
@@ -100,21 +100,21 @@ module _ (L : LaidSchema) (unknown : Bool) where
   used_broken s c o at levels left (One (Code u)) f is broken h = absurd (no_err _ f h)
   used_broken s c o at levels left (One (Union u)) f is broken h = union_broken s u c o at levels left f is broken h
   used_broken s c o at levels left (One (Scalar b)) f is broken h =
-      plain_broken s c (One (Scalar b)) o at levels left f (subst (λ (k : Shape). HasNoCode k c) (sym is) tt) refl
+      plain_broken s c (One (Scalar b)) o at levels left f (rw is tt) refl
       broken h
   used_broken s c o at levels left (One (Enum b)) f is broken h =
-      plain_broken s c (One (Enum b)) o at levels left f (subst (λ (k : Shape). HasNoCode k c) (sym is) tt) refl broken
+      plain_broken s c (One (Enum b)) o at levels left f (rw is tt) refl broken
       h
   used_broken s c o at levels left (One (Struct b)) f is broken h =
-      plain_broken s c (One (Struct b)) o at levels left f (subst (λ (k : Shape). HasNoCode k c) (sym is) tt) refl
+      plain_broken s c (One (Struct b)) o at levels left f (rw is tt) refl
       broken h
   used_broken s c o at levels left (One (Table b)) f is broken h =
-      plain_broken s c (One (Table b)) o at levels left f (subst (λ (k : Shape). HasNoCode k c) (sym is) tt) refl broken
+      plain_broken s c (One (Table b)) o at levels left f (rw is tt) refl broken
       h
   used_broken s c o at levels left (One Text) f is broken h =
-      plain_broken s c (One Text) o at levels left f (subst (λ (k : Shape). HasNoCode k c) (sym is) tt) refl broken h
+      plain_broken s c (One Text) o at levels left f (rw is tt) refl broken h
   used_broken s c o at levels left (Many b) f is broken h =
-      plain_broken s c (Many b) o at levels left f (subst (λ (k : Shape). HasNoCode k c) (sym is) tt) refl broken h
+      plain_broken s c (Many b) o at levels left f (rw is tt) refl broken h
 
   pub told_at : (o : Option Data) (u : ℕ) (at : Place) (f : JsonFault)
       → code_in L.schema u at (option_map (with_meaning L unknown) o) ≡ Err f

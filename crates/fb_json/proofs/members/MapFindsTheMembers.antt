@@ -1,6 +1,6 @@
 -- A look-up in an object's map is one in its members.
 use Rattle.std.proofs.Common.{◌≡◌, ◌∙◌, ℕ, List, Option, Some, None, option_map, String, BTreeMap, Global, Bor, Bool}
-use Rattle.std.proofs.Common.{Ordering, Equal, nat_cmp, ap, sym, subst, refl}
+use Rattle.std.proofs.Common.{Ordering, Equal, nat_cmp, ap, sym, refl}
 use Rattle.std.specs.BTreeMap.{get_by_text}
 use Rattle.std.specs.Ordering.{match_ordering}
 use Rattle.std.specs.Cmp.Lexicographic.{slice_cmp}
@@ -50,16 +50,13 @@ module _ (L : LaidSchema) (unknown : Bool) (name asked : List ℕ) (m : BTreeMap
   pub found_some : (tree : Bor Value) → asked ≡ name → option_map (λ v. v.now) r ≡ get_by_text m asked → r ≡ Some tree
       → look L unknown (members_view m.entries) name ≡ Some (with_meaning L unknown (view tree.now))
   found_some tree same h is =
-      subst (λ (n : List ℕ). look L unknown (members_view m.entries) n ≡ Some (with_meaning L unknown (view tree.now)))
-      same
-      (looked_by_map L unknown asked m r h
+      rw (← same) (looked_by_map L unknown asked m r h
       ∙ ap (λ (o : Option (Bor Value)). option_map (with_meaning L unknown) (option_map (λ v. view v.now) o)) is)
 
   pub found_none : asked ≡ name → option_map (λ v. v.now) r ≡ get_by_text m asked → r ≡ None
       → look L unknown (members_view m.entries) name ≡ None
   found_none same h is =
-      subst (λ (n : List ℕ). look L unknown (members_view m.entries) n ≡ None) same
-      (looked_by_map L unknown asked m r h
+      rw (← same) (looked_by_map L unknown asked m r h
       ∙ ap (λ (o : Option (Bor Value)). option_map (with_meaning L unknown) (option_map (λ v. view v.now) o)) is)
 
 pub found_in : (o : Option Data) (t : Data) → unless_null o ≡ Some t → o ≡ Some t

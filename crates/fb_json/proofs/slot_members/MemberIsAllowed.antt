@@ -1,5 +1,5 @@
 -- Whether each name is known, one member after the other.
-use Rattle.std.proofs.Common.{◌≡◌, ◌∙◌, Bool, true, false, ◌||◌, ◌&&◌, ℕ, Option, refl, ap, subst}
+use Rattle.std.proofs.Common.{◌≡◌, ◌∙◌, Bool, true, false, ◌||◌, ◌&&◌, ℕ, Option, refl, ap}
 use Rattle.serde_json.specs.Data.{Data, Members, member, no_members}
 use Rattle.fb_schema.specs.Schema.{Name, DeclaredField, DeclaredSchema, body_at}
 use Rattle.fb_schema.specs.Found.{field_named}
@@ -26,12 +26,12 @@ module _ (S seen : DeclaredSchema) (t : ℕ) (name asked : Name) (d : Data) (ms 
         ≡ (unknown || names_known (body_at S t) ms)
     unfolding names_known
     allowed_next allowed = next unknown (is_used (field_named (body_at S t) name)) (names_known (body_at S t) ms)
-        (subst (λ (x : Option DeclaredField). (unknown || is_used x) ≡ true) found allowed)
+        (rw (← found) allowed)
 
     pub not_allowed : (unknown || is_used o) ≡ false → (unknown || names_known (body_at S t) (member name d ms)) ≡ false
     unfolding names_known
     not_allowed unknown_name = none unknown (is_used (field_named (body_at S t) name)) (names_known (body_at S t) ms)
-        (subst (λ (x : Option DeclaredField). (unknown || is_used x) ≡ false) found unknown_name)
+        (rw (← found) unknown_name)
 
 pub none_left : (S : DeclaredSchema) (t : ℕ) (unknown : Bool) → (unknown || names_known (body_at S t) no_members) ≡ true
 unfolding names_known

@@ -31,7 +31,7 @@ found_there {X} p (y ∷ ys) x e = by (p y) refl e (found_there p ys x)
     by : (b : Bool) → p y ≡ b → cond b (Some y) (find p ys) ≡ Some x
         → (find p ys ≡ Some x → (j : ℕ) × (slice_get ys j ≡ Some x) × (p x ≡ true))
         → (j : ℕ) × (slice_get (y ∷ ys) j ≡ Some x) × (p x ≡ true)
-    by true passes is later = let same : y ≡ x = cc in (0, is, subst (λ (z : X). p z ≡ true) same passes)
+    by true passes is later = let same : y ≡ x = cc in (0, is, rw (← same) passes)
     by false fails is later = let there = later is in (suc there.0, there.1, there.2)
 
 named_in_body : (S : DeclaredSchema) (t : ℕ) (body : DeclaredBody) → IsBody S t body → (name : Name)
@@ -40,7 +40,7 @@ named_in_body : (S : DeclaredSchema) (t : ℕ) (body : DeclaredBody) → IsBody 
 named_in_body S t (table_body fs) is name g f k found there at =
     let place = found_there (λ h. bytes_eq name h.name) fs g found in
     let same : k ≡ place.0 = at ∙ is.slots place.0 g place.1 in
-    let here : slice_get fs place.0 ≡ Some f = subst (λ (n : ℕ). slice_get fs n ≡ Some f) same there in
+    let here : slice_get fs place.0 ≡ Some f = rw (← same) there in
     let both : Some f ≡ Some g = sym here ∙ place.1 in
     let one : f ≡ g = cc in
     ap (λ (h : DeclaredField). h.name) one ∙ sym ((bytes_eq-Decides name g.name).0 place.2)
@@ -157,7 +157,7 @@ next_put S seen t declared m es e rest asked o trees same_schema same_name answe
     answer ∙ (ap (λ (s : DeclaredSchema). field_named (body_at s t) asked) same_schema
     ∙ ap (field_named (body_at S t)) same_name) in
     let before : ArePutSoFar (slots_in (body_at S t)) trees ms (member name (view e.1) (members_view rest)) =
-    subst (λ (l : List Entry). ArePutSoFar (slots_in (body_at S t)) trees ms (members_view l)) steps so_far in
+    rw steps at so_far in
     let one : get string_cmp m e.0 ≡ Some e.1 =
     All-head (λ x. get string_cmp m x.0 ≡ Some x.1) e rest (subst (AreFound m) steps found) in
     let here : get_member name ms ≡ Some (view e.1) = sym (view-lookup name m.entries) ∙ ap (option_map view) one in

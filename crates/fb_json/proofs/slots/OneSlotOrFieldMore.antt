@@ -1,7 +1,7 @@
 -- One slot, field or element after the other, as a loop does.
 use Rattle.std.proofs.Common.{◌≡◌, ◌∙◌, ℕ, suc, ◌+◌, ◌<◌, ◌≤◌, List, [], ◌∷◌, ◌++◌, length, map, drop, get_or, Bool}
 use Rattle.std.proofs.Common.{◌⊎◌, inl, inr, Option, Some, option_map, slice_get, Result, Ok, Err, refl, ap, sym}
-use Rattle.std.proofs.Common.{subst, add-one}
+use Rattle.std.proofs.Common.{add-one}
 use Rattle.std.proofs.Math.Seq.{drop-cons}
 use Rattle.std.proofs.lemmas.List.{drop_all, append_assoc, append-nil}
 use Rattle.std.proofs.lemmas.Option.{slice_get-map, slice_get-get_or}
@@ -97,8 +97,7 @@ module _ (L : LaidSchema) (look : Look) (t : ℕ) (slots : List FieldInfo) (k : 
     unfolding parts_meant
     parts_next at stands rest d found =
         let given : part_meant (look (field_seen f).name) f.shape (slot_place t k) levels left ≡ Ok (d, rest) =
-        subst (λ (p : Place). part_meant (look (field_seen f).name) f.shape p levels left ≡ Ok (d, rest)) stands
-        found in
+        rw (← stands) found in
         rw (here, given) (put_front front d (parts_meant look t (map field_seen (drop (k + 1) slots)) (k + 1) levels
         rest))
 
@@ -108,8 +107,7 @@ module _ (L : LaidSchema) (look : Look) (t : ℕ) (slots : List FieldInfo) (k : 
     unfolding parts_meant
     parts_ungiven at stands fault found =
         let given : part_meant (look (field_seen f).name) f.shape (slot_place t k) levels left ≡ Err fault =
-        subst (λ (p : Place). part_meant (look (field_seen f).name) f.shape p levels left ≡ Err fault) stands
-        found in
+        rw (← stands) found in
         rw (here, given) refl
 
 pub slots_end : (L : LaidSchema) (look : Look) (t : ℕ) (slots : List FieldInfo) (k : ℕ) (front : List (Option Datum))

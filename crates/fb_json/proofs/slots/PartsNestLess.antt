@@ -1,6 +1,6 @@
 -- The arrays and objects in a tree: its parts have fewer, so that what reads them ends.
 use Rattle.std.proofs.Common.{◌≡◌, ℕ, zero, suc, ◌+◌, ◌<◌, ◌≤◌, max, List, [], ◌∷◌, length, get_or, Option, Some, None}
-use Rattle.std.proofs.Common.{Bor, Ordering, Less, Equal, Greater, nat_cmp, refl, subst, arith, slice_get, inl, inr}
+use Rattle.std.proofs.Common.{Bor, Ordering, Less, Equal, Greater, nat_cmp, refl, arith, slice_get, inl, inr}
 use Rattle.std.specs.Ordering.{match_ordering}
 use Rattle.std.specs.Cmp.Lexicographic.{slice_cmp}
 use Rattle.std.proofs.lemmas.Option.{slice_get_cases, slice_get_within}
@@ -59,7 +59,7 @@ found_nested : (o : Ordering) (e d : Data) (found : Option Data) (more : ℕ)
 found_nested Less e d found more h is = omega (arith, h is)
 found_nested Equal e d found more h is =
     let same : e ≡ d = cc in
-    subst (λ (x : Data). nested x ≤ nested e + more) same (omega arith)
+    rw (← same) (omega arith)
 found_nested Greater e d found more h is = omega (arith, h is)
 
 pub member_nested : (k : List ℕ) (ms : Members) (d : Data) → get_member k ms ≡ Some d → nested d ≤ members_nested ms

@@ -1,5 +1,5 @@
 -- A table fails where its slots do, and otherwise is what they give.
-use Rattle.std.proofs.Common.{◌≡◌, ◌<◌, ◌≤◌, ◌-◌, ◌||◌, ℕ, zero, suc, Bool, List, Option, Ok, Err, refl, subst, arith}
+use Rattle.std.proofs.Common.{◌≡◌, ◌<◌, ◌≤◌, ◌-◌, ◌||◌, ℕ, zero, suc, Bool, List, Option, Ok, Err, refl, arith}
 use Rattle.serde_json.specs.Data.{Members}
 use Rattle.fb_schema.specs.Schema.{body_at, slots_in}
 use Rattle.fb_layout.specs.Laid.{LaidSchema}
@@ -20,8 +20,7 @@ table_fails L unknown ms look t at zero left fault some more known fails = absur
 table_fails L unknown ms look t at (suc levels) left fault some more known fails =
     let one_less : suc levels - 1 ≡ levels = omega arith in
     let slots : slots_meant L look t (slots_in (body_at L.schema t)) 0 0 levels (left - 1) ≡ Err fault =
-    subst (λ (n : ℕ). slots_meant L look t (slots_in (body_at L.schema t)) 0 0 n (left - 1) ≡ Err fault) one_less
-    fails in
+    rw (← one_less) fails in
     rw (spends 1 at left more, known, slots) refl
 
 pub table_gives : (L : LaidSchema) (unknown : Bool) (ms : Members) (look : Look) (t : ℕ) (at : Place)
@@ -34,8 +33,7 @@ table_gives L unknown ms look t at zero left es rest some more known given = abs
 table_gives L unknown ms look t at (suc levels) left es rest some more known given =
     let one_less : suc levels - 1 ≡ levels = omega arith in
     let slots : slots_meant L look t (slots_in (body_at L.schema t)) 0 0 levels (left - 1) ≡ Ok (es, rest) =
-    subst (λ (n : ℕ). slots_meant L look t (slots_in (body_at L.schema t)) 0 0 n (left - 1) ≡ Ok (es, rest)) one_less
-    given in
+    rw (← one_less) given in
     rw (spends 1 at left more, known, slots) refl
 
 -- before its slots a table fails for a member that no slot in use has

@@ -8,7 +8,7 @@ use Rattle.serde_json.specs.Data.{Data, string, array, object, Items, no_items, 
 use Rattle.serde_json.specs.Data.{no_members, member}
 use Rattle.serde_json.specs.Find.{get_member}
 use Rattle.serde_json.specs.View.{view, view_step, items_of, members_of}
-use Rattle.serde_json.specs.declared.value.Value.{Value, ind-Value, roll-Value, fold-roll-Value, map-Value}
+use Rattle.serde_json.specs.declared.value.Value.{Value, ind-Value, fold-roll-Value, map-Value}
 use Rattle.serde_json.specs.declared.value.Value.TheOpen.{Value-F}
 use Rattle.fb_schema.specs.declared.kinds.Kind.{Kind}
 use Rattle.fb_schema.specs.declared.kinds.Kind.TheVariants.{Scalar, Enum, Struct, Table, Union, Code, Text}
@@ -64,8 +64,7 @@ module _ {X : Type 0} (get : X → Value) (has : (x : X) → TreeHasUtf8 (view (
 pub tree_utf8 : (t : Value) → TreeHasUtf8 (view t)
 tree_utf8 t =
     ind-Value (λ (w : Value). TreeHasUtf8 (view w))
-    (λ x y e. subst (λ (z : Value-F Value). TreeHasUtf8 (view (roll-Value z))) e
-    (rw fold-roll-Value (level (λ c. c.0) (λ c. c.1) y))) t
+    (λ x y e. rw (← e) (rw fold-roll-Value (level (λ c. c.0) (λ c. c.1) y))) t
 
 -- ---- what a tree means
 

@@ -1,10 +1,10 @@
 -- The texts of a `Value` are UTF-8, since each is a `String`.
-use Rattle.std.proofs.Common.{◌≡◌, List, [], ◌∷◌, Option, None, Some, map, IsUtf8, subst, refl}
+use Rattle.std.proofs.Common.{◌≡◌, List, [], ◌∷◌, Option, None, Some, map, IsUtf8, refl}
 use Rattle.std.proofs.lemmas.Str.{IsUtf8-string_bytes}
 use Rattle.fb_value.specs.Datum.{Datum, a_text, a_vector, a_struct, a_table, a_member, Parts}
 use Rattle.fb_value.specs.Datum.{no_parts, more_parts, SlotEntries, no_entries, absent_entry, present_entry}
 use Rattle.fb_value.specs.View.{view, view_step, parts_in, entries_in}
-use Rattle.fb_value.specs.declared.values.Value.{Value, ind-Value, roll-Value, fold-roll-Value, map-Value}
+use Rattle.fb_value.specs.declared.values.Value.{Value, ind-Value, fold-roll-Value, map-Value}
 use Rattle.fb_value.specs.declared.values.Value.TheOpen.{Value-F}
 
 abbrev mutual
@@ -50,5 +50,4 @@ module _ {X : Type 0} (get : X → Value) (has : (x : X) → HasUtf8 (view (get 
 pub value_utf8 : (v : Value) → HasUtf8 (view v)
 value_utf8 v =
     ind-Value (λ (w : Value). HasUtf8 (view w))
-    (λ x y e. subst (λ (z : Value-F Value). HasUtf8 (view (roll-Value z))) e
-    (rw fold-roll-Value (level (λ c. c.0) (λ c. c.1) y))) v
+    (λ x y e. rw (← e) (rw fold-roll-Value (level (λ c. c.0) (λ c. c.1) y))) v

@@ -1,6 +1,6 @@
 -- The path of a part that is refused is one of the whole behind its step.
 use Rattle.std.proofs.Common.{◌≡◌, ◌∙◌, ℕ, zero, suc, ◌+◌, ◌-◌, ◌<◌, ◌≤◌, ◌||◌, List, [], ◌∷◌, map, length, take}
-use Rattle.std.proofs.Common.{get_or, Bool, Option, Ok, Err, refl, ap, sym, subst, arith}
+use Rattle.std.proofs.Common.{get_or, Bool, Option, Ok, Err, refl, ap, arith}
 use Rattle.std.proofs.lemmas.Bool.{le-ltb, lt-ltb}
 use Rattle.serde_json.specs.Data.{array, object, Members}
 use Rattle.serde_json.specs.View.{view, items_view}
@@ -153,7 +153,7 @@ vector_path L unknown kind at es levels left few fault steps path =
     let front : spent (1 + count (items_view es)) at left ≡ Ok rest =
     rw (counted es) (spent_all (1 + length es) at left n ∙ ap (λ (m : ℕ). Ok m) same) in
     through L unknown (tree_spot (array (items_view es)) (Many kind) at levels left) rest front fault steps
-    (subst (λ ds. IsFirstIn L unknown (ToElement L unknown kind at ds levels rest) steps fault) (sym (viewed es)) path)
+    (rw (← (viewed es)) at path)
 
 pub in_vector : (L : LaidSchema) (unknown : Bool) (kind : Kind) (at : Place) (es : List Json) (levels left : ℕ)
     (fault : JsonFault) (old new : Option (List Step)) → length es < left
@@ -212,8 +212,7 @@ module _ (L : LaidSchema) (unknown : Bool) (ms : Members) (t : TypeId) (at : Pla
     table_path slots are known fault steps path =
         through L unknown (tree_spot (object ms) (One (Table t)) at levels left) (left - 1)
         (table_known levels left deep some ∙ rw known refl) fault steps
-        (subst (λ (fs : List DeclaredField). IsFirstIn L unknown (ToSlot L (look L unknown ms) t fs (levels - 1)
-        (left - 1)) steps fault) are path)
+        (rw are at path)
 
     pub in_table : (slots : List DeclaredField) (fault : JsonFault) (old new : Option (List Step))
         → slots ≡ slots_in (body_at L.schema t.0)

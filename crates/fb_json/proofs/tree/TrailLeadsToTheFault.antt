@@ -44,20 +44,20 @@ pub goes : (start old mid new : Option (List Step)) (IsBelow Is : IsPath) (step 
     → ((steps : List Step) → IsBelow steps fault → Is (step ∷ steps) fault) → given ≢ Memory → Adds start new Is given
 goes start old mid new IsBelow Is step fault given same (inl memory) below path kept = absurd (kept memory)
 goes start old mid new IsBelow Is step fault given same (inr is) below path kept =
-    let found = below (subst (λ (f : JsonFault). f ≢ Memory) is.0 kept) in
+    let found = below (rw (← is.0) kept) in
     rw (← same) (
       step ∷ found.0,
       in_front old mid new step found.0 found.1 is.1,
-      subst (λ (f : JsonFault). Is (step ∷ found.0) f) (sym is.0) (path found.0 found.2),
+      rw is.0 (path found.0 found.2),
     )
 
 -- what is given is the fault, unless there was no memory for a step
 pub fails_behind : {X Y Pushed : Type 0} (fault given : JsonFault) (part : Result X JsonFault)
     (whole : Result Y JsonFault) → IsBehind fault given Pushed → (part ≡ Err fault → whole ≡ Err fault)
     → Fails fault part → Fails given whole
-fails_behind fault given part whole (inl memory) same h = subst (λ (f : JsonFault). Fails f whole) (sym memory) tt
+fails_behind fault given part whole (inl memory) same h = rw memory tt
 fails_behind fault given part whole (inr is) same h =
-    subst (λ (f : JsonFault). Fails f whole) (sym is.0) (fails_by fault part whole same h)
+    rw is.0 (fails_by fault part whole same h)
 
 unless_memory : {P : Type 0} (f : JsonFault) → (f ≡ Memory) ⊎ P → f ≢ Memory → P
 unless_memory f (inl memory) kept = absurd (kept memory)

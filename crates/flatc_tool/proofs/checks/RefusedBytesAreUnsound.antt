@@ -1,10 +1,10 @@
 -- What a refusal of a check excludes.
-use Rattle.std.proofs.Common.{◌≡◌, List, ℕ, Bool, Option, None, Some, subst}
+use Rattle.std.proofs.Common.{◌≡◌, List, ℕ, Bool, Option, None, Some}
 use Rattle.fb_layout.specs.Laid.{LaidSchema}
 use Rattle.fb_value.specs.declared.faults.ReadFault.{ReadFault}
 use Rattle.fb_value.specs.Bounds.{Bounds}
 use Rattle.fb_value.specs.Num.{Bytes}
-use Rattle.fb_value.specs.Holds.{Holds, Refuses}
+use Rattle.fb_value.specs.Holds.{Refuses}
 use Rattle.fb_schema_text.specs.declared.schema_layouts.SchemaTextFault.{SchemaTextFault}
 use Rattle.flatc_tool.specs.LayerLaws.{LayerLaws}
 use Rattle.fb_schema_text.specs.SchemaTexts.{IsAccepted, IsRefused, IsWant}
@@ -29,11 +29,11 @@ pub bytes_unsound : (laws : LayerLaws) (schema : List ℕ) (b : Bytes) (most : B
     (f : ReadFault) → IsAccepted schema L → Refuses L most raw b f → ¬ IsSound schema (Some b) most raw
 bytes_unsound laws schema b most raw L f accepted refused sound =
     let same = same_accepted laws.schema schema sound.0 L sound.1 accepted in
-    refused.1 sound.2 (subst (λ (K : LaidSchema). Holds K most raw b sound.2) same sound.3)
+    refused.1 sound.2 (rw (← same) sound.3)
 
 -- and nothing is sound where these are the bytes
 pub some_unsound : (laws : LayerLaws) (schema : List ℕ) (bytes : Option Bytes) (b : Bytes) (most : Bounds) (raw : Bool)
     (L : LaidSchema) (f : ReadFault) → bytes ≡ Some b → IsAccepted schema L → Refuses L most raw b f
     → ¬ IsSound schema bytes most raw
 some_unsound laws schema bytes b most raw L f is accepted refused sound =
-    bytes_unsound laws schema b most raw L f accepted refused (subst (λ o. IsSound schema o most raw) is sound)
+    bytes_unsound laws schema b most raw L f accepted refused (rw is at sound)

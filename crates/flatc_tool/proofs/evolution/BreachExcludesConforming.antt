@@ -1,5 +1,5 @@
 -- Where a breach stands, the new schema doesn't conform.
-use Rattle.std.proofs.Common.{List, ℕ, subst}
+use Rattle.std.proofs.Common.{List, ℕ}
 use Rattle.fb_layout.specs.Laid.{LaidSchema}
 use Rattle.fb_conform.specs.declared.breaches.Breach.{Breach}
 use Rattle.fb_conform.specs.Conforms.{Conforms}
@@ -13,9 +13,8 @@ use Rattle.fb_schema_text.proofs.SchemaTextHasOneLayout.{same_accepted}
 pub conforms_at : (laws : LayerLaws) (old new : List ℕ) (A B : LaidSchema) → IsAccepted old A → IsAccepted new B
     → TextsConform old new → Conforms A B
 conforms_at laws old new A B was is texts =
-    let one = subst (λ (L : LaidSchema). Conforms L texts.1)
-    (same_accepted laws.schema old texts.0 A texts.2 was) texts.4 in
-    subst (λ (L : LaidSchema). Conforms A L) (same_accepted laws.schema new texts.1 B texts.3 is) one
+    let one = rw (same_accepted laws.schema old texts.0 A texts.2 was) at texts.4 in
+    rw (← (same_accepted laws.schema new texts.1 B texts.3 is)) one
 
 pub breach_excludes : (laws : LayerLaws) (old new : List ℕ) (A B : LaidSchema) (b : Breach) → IsAccepted old A
     → IsAccepted new B → IsFirst A B b → TextsConform old new → ⊥

@@ -1,6 +1,6 @@
 -- The first of all moved names is at the front of their list.
 use Rattle.std.proofs.Common.{◌≡◌, ℕ, zero, suc, ◌<◌, inl, inr, ◌↔◌, List, [], ◌∷◌, length, get_or, AllPairs, Contains}
-use Rattle.std.proofs.Common.{Some, None, slice_get, refl, subst, arith}
+use Rattle.std.proofs.Common.{Some, None, slice_get, refl, arith}
 use Rattle.fb_layout.specs.Laid.{LaidSchema}
 use Rattle.fb_conform.specs.declared.names.MovedName.{MovedName}
 use Rattle.fb_conform.specs.Names.{IsMoved, IsBefore, IsFirstMoved}
@@ -19,18 +19,18 @@ module _ (A B : LaidSchema) where
   first_moved [] m all order e = absurd cc
   first_moved (x ∷ xs) m all order e =
       let same : x ≡ m = cc in
-      subst (λ (z : MovedName). IsFirstMoved A B z) same
-      (record { moved = (all x).0 (0, omega arith, refl); first = λ n before moved. none n before ((all n).1 moved) })
+      rw (← same) (record { moved = (all x).0 (0, omega arith, refl); first = λ n before moved. none n before
+      ((all n).1 moved) })
     where
       none : (n : MovedName) → IsBefore n x → Contains (x ∷ xs) n → ⊥
       none n before there = by there.0 there.1 there.2
         where
           by : (k : ℕ) → k < length (x ∷ xs) → get_or (x ∷ xs) k n ≡ n → ⊥
           by zero within same =
-              let here = subst (λ (z : MovedName). IsBefore n z) same before in not_both n n here here
+              let here = rw same at before in not_both n n here here
           by (suc k) within same =
               not_both n x before
-              (subst (λ (z : MovedName). IsBefore x z) same (order 0 (suc k) n (omega arith) within))
+              (rw (← same) (order 0 (suc k) n (omega arith) within))
 
   pub none_moved : (xs : List MovedName) → ((n : MovedName) → Contains xs n ↔ IsMoved A B n)
       → slice_get xs 0 ≡ None → (m : MovedName) → IsMoved A B m → ⊥

@@ -1,5 +1,5 @@
 -- What holds of the tool's answers together.
-use Rattle.std.proofs.Common.{◌≡◌, ℕ, List, Bool, true, false, Option, None, Some, Result, Ok, Err, ap, ◌∙◌, subst}
+use Rattle.std.proofs.Common.{◌≡◌, ℕ, List, Bool, true, false, Option, None, Some, Result, Ok, Err, ap, ◌∙◌}
 use Rattle.fb_layout.specs.Laid.{LaidSchema}
 use Rattle.fb_value.specs.declared.faults.ReadFault.{ReadFault}
 use Rattle.fb_value.specs.Bounds.{Bounds}
@@ -17,7 +17,7 @@ use Rattle.fb_conform.specs.Conforms.{Conforms}
 use Rattle.fb_conform.specs.Carry.{carry}
 use Rattle.flatc_tool.specs.LayerLaws.{LayerLaws}
 use Rattle.fb_schema_text.specs.SchemaTexts.{IsAccepted}
-use Rattle.flatc_tool.specs.Jobs.{JsonMeans, IsBinaryOf, IsBinary, IsTextOf, IsText, TextRefused, IsNotMemory}
+use Rattle.flatc_tool.specs.Jobs.{JsonMeans, IsBinaryOf, IsBinary, IsText, TextRefused, IsNotMemory}
 use Rattle.flatc_tool.specs.Checks.{CheckRefused}
 use Rattle.flatc_tool.specs.Prints.{PrintRefused}
 use Rattle.flatc_tool.specs.Evolution.{TextsConform}
@@ -40,7 +40,7 @@ module _ (laws : LayerLaws) (schema : List ℕ) (b : Bytes) (most : Bounds) (raw
   one_text : (defaults : Bool) (text : List ℕ) → IsText schema b most raw defaults text → text ≡ json_text L defaults v
   one_text defaults text is =
       let same = same_accepted laws.schema schema is.layout L is.accepted accepted in
-      let here = subst (λ (K : LaidSchema). IsTextOf K b most raw defaults text) same is.has in
+      let here = rw same at is.has in
       let one = laws.one_value _ _ L most b here.value v here.holds holds in
       here.spelled ∙ ap (λ (w : Datum). json_text L defaults w) one
 
@@ -76,17 +76,16 @@ module _ (laws : LayerLaws) (schema json : List ℕ) (most : Bounds) (unknown : 
     (made : IsBinary schema json most unknown b) (L : LaidSchema) (accepted : IsAccepted schema L) (v : Datum)
     (means : JsonMeans L most unknown json v) where
   here : IsBinaryOf L json most unknown b
-  here = subst (λ (K : LaidSchema). IsBinaryOf K json most unknown b)
-      (same_accepted laws.schema schema made.layout L made.accepted accepted) made.has
+  here = rw (← (same_accepted laws.schema schema made.layout L made.accepted accepted)) made.has
 
   value : here.value ≡ v
   value = same_value laws L most unknown json here.value v here.means means
 
   pub held : (raw : Bool) → Holds L most raw b v
-  held raw = subst (λ (w : Datum). Holds L most raw b w) value (here.holds raw)
+  held raw = rw (← value) (here.holds raw)
 
   pub fitting : FitsRoot L v
-  fitting = subst (λ (w : Datum). FitsRoot L w) value here.fits
+  fitting = rw (← value) here.fits
 
   pub in_use : OnlyOld L b
   in_use = here.old_slots
@@ -130,15 +129,13 @@ module _ (laws : LayerLaws) (schema : List ℕ) (b : Bytes) (most : Bounds) (raw
     (accepted : IsAccepted schema L) (none : (v : Datum) → ¬ Holds L most raw b v) where
   none_under : (K : LaidSchema) → IsAccepted schema K → (v : Datum) → Holds K most raw b v → ⊥
   none_under K other v holds =
-      none v (subst (λ (M : LaidSchema). Holds M most raw b v)
-      (same_accepted laws.schema schema K L other accepted) holds)
+      none v (rw (← (same_accepted laws.schema schema K L other accepted)) holds)
 
   module _ (fault : ReadFault) (least : IsLeastFault L most raw b fault) where
     same_fault : (f : ReadFault) (K : LaidSchema) → IsAccepted schema K → IsLeastFault K most raw b f
         → Read f ≡ Read fault
     same_fault f K other first =
-        let there = subst (λ (M : LaidSchema). IsLeastFault M most raw b f)
-        (same_accepted laws.schema schema K L other accepted) first in
+        let there = rw (same_accepted laws.schema schema K L other accepted) at first in
         ap Read (laws.one_least_fault _ _ L most b f fault there least)
 
     answered : (f : ToolFault) → TextRefused schema b most raw f → IsNotMemory f → f ≡ Read fault

@@ -1,9 +1,8 @@
 -- What schema texts that conform one by one give.
-use Rattle.std.proofs.Common.{false, ◌≡◌, ℕ, List, [], ◌∷◌, sym, ap, ◌∙◌, subst}
+use Rattle.std.proofs.Common.{false, ◌≡◌, ℕ, List, [], ◌∷◌, sym, ap, ◌∙◌}
 use Rattle.fb_layout.specs.Laid.{LaidSchema}
 use Rattle.fb_value.specs.Datum.{Datum}
 use Rattle.fb_value.specs.Fits.{FitsRoot}
-use Rattle.fb_value.specs.Holds.{Holds}
 use Rattle.fb_conform.specs.Conforms.{Conforms}
 use Rattle.fb_conform.specs.Carry.{carry}
 use Rattle.flatc_tool.specs.LayerLaws.{LayerLaws}
@@ -44,25 +43,23 @@ module _ (laws : LayerLaws) (A : LaidSchema) (first : List ℕ) (accepted : IsAc
   at_once : (text : List ℕ) (B : LaidSchema) → IsAccepted text B → Conforms A B → (later : List (List ℕ))
       → ConformInTurn text later → CarriedInTurn B (carry A B v) later K w → AtOnce
   at_once text B is conforms [] turn carried =
-      let there = subst (λ (L : LaidSchema). IsAccepted text L) carried.0 is in
-      let last = subst (λ (L : LaidSchema). Conforms A L) carried.0 conforms in
+      let there = rw carried.0 at is in
+      let last = rw carried.0 at conforms in
       (text, there, last, sym carried.1 ∙ ap (λ L. carry A L v) carried.0)
   at_once text B is conforms (next ∷ later) turn carried =
       let C : LaidSchema = carried.0 in
       let then = conforms_at laws text next B C is carried.1 turn.0 in
       let both = laws.conforms_on A B C accepted.made is.made conforms then in
       let one = laws.carries_on A B C v accepted.made is.made carried.1.made conforms then fits in
-      at_once next C carried.1 both later turn.1 (subst (λ (d : Datum). CarriedInTurn C d later K w) one carried.2)
+      at_once next C carried.1 both later turn.1 (rw (← one) carried.2)
 
 pub chains_carry_shown : LayerLaws → ChainsCarry
 chains_carry_shown laws first json [] most unknown b made turn A is v means K w carried raw =
     let here = held laws first json most unknown b made A is v means raw in
-    subst (λ (d : Datum). Holds K most raw b d) carried.1
-    (subst (λ (L : LaidSchema). Holds L most raw b v) carried.0 here)
+    rw (← carried.1) (rw (← carried.0) here)
 chains_carry_shown laws first json (next ∷ later) most unknown b made turn A is v means K w carried raw =
     let B : LaidSchema = carried.0 in
     let conforms = conforms_at laws first next A B is carried.1 turn.0 in
     let once = at_once laws A first is v (fitting laws first json most unknown b made A is v means) K w next B carried.1
     conforms later turn.1 carried.2 in
-    subst (λ (d : Datum). Holds K most raw b d) (sym once.3)
-    (carried_on laws first json most unknown b made A is v means raw K once.0 once.1 once.2)
+    rw once.3 (carried_on laws first json most unknown b made A is v means raw K once.0 once.1 once.2)

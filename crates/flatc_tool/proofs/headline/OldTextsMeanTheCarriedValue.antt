@@ -1,15 +1,10 @@
 -- What JSON texts of an old schema text are under a new one that keeps its names.
-use Rattle.std.proofs.Common.{ℕ, List, false, subst}
-use Rattle.serde_json.specs.Data.{Data}
+use Rattle.std.proofs.Common.{ℕ, List, subst}
 use Rattle.fb_layout.specs.Laid.{LaidSchema}
-use Rattle.fb_value.specs.Datum.{Datum}
-use Rattle.fb_value.specs.Holds.{Holds}
-use Rattle.fb_json.specs.Means.{Means}
 use Rattle.fb_conform.specs.Conforms.{Conforms}
 use Rattle.fb_conform.specs.Names.{KeepsNames}
 use Rattle.flatc_tool.specs.LayerLaws.{LayerLaws}
 use Rattle.fb_schema_text.specs.SchemaTexts.{IsAccepted}
-use Rattle.flatc_tool.specs.Jobs.{IsBinaryOf}
 use Rattle.flatc_tool.specs.Evolution.{TextsKeepNames}
 use Rattle.flatc_tool.specs.Names.{OldTextsAreRead, OldTextsAreCarried}
 use Rattle.flatc_tool.proofs.buffers.RefusalExcludesABuffer.{same_tree}
@@ -21,7 +16,7 @@ pub kept_at : (laws : LayerLaws) (old new : List ℕ) (A B : LaidSchema) → IsA
 kept_at laws old new A B was is texts =
     let one = subst (λ (L : LaidSchema). Conforms L texts.1 × KeepsNames L texts.1)
     (same_accepted laws.schema old texts.0 A texts.2 was) (texts.4, texts.5) in
-    subst (λ (L : LaidSchema). Conforms A L × KeepsNames A L) (same_accepted laws.schema new texts.1 B texts.3 is) one
+    rw (← (same_accepted laws.schema new texts.1 B texts.3 is)) one
 
 pub old_texts_are_read_shown : LayerLaws → OldTextsAreRead
 old_texts_are_read_shown laws old new json most texts A B was is t tree v means stay =
@@ -31,9 +26,8 @@ old_texts_are_read_shown laws old new json most texts A B was is t tree v means 
 pub old_texts_are_carried_shown : LayerLaws → OldTextsAreCarried
 old_texts_are_carried_shown laws old new json most b made texts A B was is v means raw =
     let both = kept_at laws old new A B was is texts in
-    let here = subst (λ (K : LaidSchema). IsBinaryOf K json most false b)
-    (same_accepted laws.schema new made.layout B made.accepted is) made.has in
+    let here = rw (same_accepted laws.schema new made.layout B made.accepted is) at made.has in
     let tree = same_tree json here.means.0 means.0 here.means.1 means.1 in
-    let under = subst (λ (t : Data). Means B most false t here.value) tree here.means.2 in
+    let under = rw tree at here.means.2 in
     let one = laws.means_carried A B most means.0 v here.value was.made is.made both.0 both.1 means.2 under in
-    subst (λ (w : Datum). Holds B most raw b w) one (here.holds raw)
+    rw (← one) (here.holds raw)

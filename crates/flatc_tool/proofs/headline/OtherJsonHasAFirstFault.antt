@@ -1,5 +1,5 @@
 -- What is refused of JSON that means nothing under a schema text.
-use Rattle.std.proofs.Common.{◌≡◌, ℕ, List, Bool, Ok, Err, refl, sym, ◌∙◌, subst, arith}
+use Rattle.std.proofs.Common.{◌≡◌, ℕ, List, Bool, Ok, Err, refl, sym, ◌∙◌, arith}
 use Rattle.serde_json.specs.Data.{Data}
 use Rattle.fb_schema.specs.declared.kinds.Kind.TheVariants.{Table}
 use Rattle.fb_schema.specs.declared.kinds.Shape.TheVariants.{One}
@@ -32,9 +32,8 @@ module _ (laws : LayerLaws) (schema json : List ℕ) (most : Bounds) (unknown : 
     -- it means nothing under any layout of the schema text
     none_under : (K : LaidSchema) → IsAccepted schema K → (v : Datum) → JsonMeans K most unknown json v → ⊥
     none_under K other v means =
-        let here = subst (λ (M : LaidSchema). JsonMeans M most unknown json v)
-        (same_accepted laws.schema schema K L other accepted) means in
-        none v (subst (λ (u : Data). Means L most unknown u v) (same_tree json here.0 t here.1 tree) here.2)
+        let here = rw (same_accepted laws.schema schema K L other accepted) at means in
+        none v (rw (← (same_tree json here.0 t here.1 tree)) here.2)
 
     no_buffer : (b : Bytes) → IsBinary schema json most unknown b → ⊥
     no_buffer b made = none_under made.layout made.accepted made.has.value made.has.means
@@ -43,9 +42,8 @@ module _ (laws : LayerLaws) (schema json : List ℕ) (most : Bounds) (unknown : 
       same_fault : (f : JsonFault) (K : LaidSchema) → IsAccepted schema K → (u : Data) → IsTree json u
           → IsFirst K most unknown u f → Json f ≡ Json fault
       same_fault f K other u read found =
-          let here = subst (λ (M : LaidSchema). IsFirst M most unknown u f)
-          (same_accepted laws.schema schema K L other accepted) found in
-          let there = subst (λ (d : Data). IsFirst L most unknown d f) (same_tree json u t read tree) here in
+          let here = rw (same_accepted laws.schema schema K L other accepted) at found in
+          let there = rw (same_tree json u t read tree) at here in
           let both = sym there ∙ first in cc
 
       refused : (f : ToolFault) → BinaryRefused schema json most unknown f → IsNotMemory f → f ≡ Json fault

@@ -1,5 +1,5 @@
 -- What the layers of printing say together.
-use Rattle.std.proofs.Common.{◌≡◌, ℕ, ◌<◌, List, Bool, true, Option, Result, Ok, Err, All, refl, ap, subst}
+use Rattle.std.proofs.Common.{◌≡◌, ℕ, ◌<◌, List, Bool, true, Option, Result, Ok, Err, All, refl, ap}
 use Rattle.fb_layout.specs.Laid.{LaidSchema}
 use Rattle.fb_layout.specs.WellMade.{IsWellMade}
 use Rattle.fb_value.specs.Bounds.{Bounds}
@@ -31,11 +31,8 @@ pub at_layout : (spacing : Spacing) (L K : LaidSchema) (table : ℕ) (defaults :
     → IsPrinted (type_place table) v (spaced_text spacing K defaults v) start known r
     → IsPrinted (type_place L.schema.root) v (spaced_text spacing L defaults v) start known r
 at_layout spacing L K table defaults v start known r layout root printed =
-    let here = subst (λ (t : ℕ). IsPrinted (type_place t) v (spaced_text spacing K defaults v) start known r) root
-    printed in
-    subst (λ (M : LaidSchema). IsPrinted (type_place L.schema.root) v (spaced_text spacing M defaults v) start known r)
-    layout
-    here
+    let here = rw root at printed in
+    rw layout at here
 
 module _ (laws : LayerLaws) (compact prefixed : Bool) (b : Bytes) (most : Bounds) (raw defaults : Bool) (L : LaidSchema)
     (v : Datum) (holds : HoldsFramed prefixed L most raw b v) (start known : Option (List ℕ)) where

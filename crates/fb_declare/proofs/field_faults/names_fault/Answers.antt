@@ -41,7 +41,7 @@ returns c = λ before met.
     × AreMet c.meet-2.new.self (before ++ ns) in
     let union : option_map (λ x. x.union) c.resolved.inside.code ≡ union_in r = grind rules in
     let alone : c.match-host.code_again ≡ false → c.match-host.met ≡ c.args.met.now → Told (n ∷ []) = λ none same.
-    let last = rw text at (c.in_ok-again.ensures before (subst (λ s. AreMet s before) (sym same) met)) in
+    let last = rw text at (c.in_ok-again.ensures before (rw same met)) in
     (rw (c.earlier.ensures, c.when.ensures, c.when-2.ensures, none, last.0, place, one at before n) refl, last.1) in
     elim c.match-host.branch [
       | in-Table-Some+in_ok-code_again-in-Table-Some w ↦
@@ -50,7 +50,7 @@ returns c = λ before met.
           let code : w.as_str.result.now ≡ m = grind rules in
           let first = rw code at (w.in_ok-code_again-in-Table-Some.ensures before met) in
           let last = rw text at (c.in_ok-again.ensures (before ++ m ∷ [])
-          (subst (λ s. AreMet s (before ++ m ∷ [])) (sym w.met-is) first.1)) in
+          (rw w.met-is first.1)) in
           subst Told (sym (ap (λ h. names_of_field h r) x.is-0
           ∙ names_by r (Some x.code.union) (sym union ∙ ap (option_map (λ x. x.union)) x.is-1))) (
             rw (

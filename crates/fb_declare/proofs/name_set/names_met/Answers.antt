@@ -19,5 +19,4 @@ pub returns : goal.returns
 returns c =
     let names = c.args.names.now in
     let i = c.loop-name.name-index in
-    subst (λ ns. AreMet c.loop-name.met (map (λ n. n.now) ns))
-    (take_all i names (omega (arith, c.loop-name-test.false))) c.loop-name.invariant
+    rw (← (take_all i names (omega (arith, c.loop-name-test.false)))) c.loop-name.invariant

@@ -22,13 +22,11 @@ loop-read-preserved c =
       left = λ t r e. subst AreBuildable split c.loop-read.invariant.left (suc t) r e;
       so_far = λ later zip. subst (AllZip IsType c.args.resolved.items)
           (sym (ap (λ ts. ts ++ later) pushed ∙ append_assoc types (type ∷ []) later))
-          (c.loop-read.invariant.so_far (type ∷ later) (subst (λ rs. AllZip IsType rs (type ∷ later)) (sym split)
-          (c.in_ok-type_of.ensures, zip)));
+          (c.loop-read.invariant.so_far (type ∷ later) (rw split (c.in_ok-type_of.ensures, zip)));
     }
 
 pub returns : goal.returns
 returns c =
     let left : length c.loop-read.read-iterator.rest.items ≡ 0 = search (rules, c.in-None.ensures.steps.0) in
     subst (AllZip IsType c.args.resolved.items) (append-nil (map type_seen c.loop-read.made.items))
-    (c.loop-read.invariant.so_far [] (subst (λ rs. AllZip IsType rs [])
-    (sym (nil_from_length c.loop-read.read-iterator.rest.items left)) tt))
+    (c.loop-read.invariant.so_far [] (rw (nil_from_length c.loop-read.read-iterator.rest.items left) tt))

@@ -1,9 +1,9 @@
-use Rattle.std.proofs.Common.{◌∙◌, ap, subst, sym, Vec, Global}
+use Rattle.std.proofs.Common.{◌∙◌, ap, sym, Vec, Global}
 use Rattle.serde_json.specs.View.{view as tree_view}
 use Rattle.fb_schema.specs.Schema.{DeclaredSchema}
 use Rattle.fb_value.specs.View.{view}
 use Rattle.fb_json.specs.declared.step.Step.{Step}
-use Rattle.fb_json.specs.FaultPaths.{IsFirstAt, LeadsToFirst, Spot, tree_spot}
+use Rattle.fb_json.specs.FaultPaths.{LeadsToFirst, tree_spot}
 use Rattle.fb_json.proofs.root.RootMeaningDecides.{at_root, from_root, means_root}
 use Rattle.fb_json.proofs.tree.TrailLeadsToTheFault.{fault_given, kept_steps}
 use Rattle.fb_json.proofs.paths.fault_path.Goals as goal
@@ -29,11 +29,10 @@ returns-in_default-fault c =
     (c.root-owner.ensures ∙ ap (λ (s : DeclaredSchema). s.root) c.schema.ensures.schema) c.most_depth.ensures.exact
     c.most_cells.ensures t) ∙ fault_given c.in-Err.fault _ c.in-Err.ensures.gives kept in
     let found = c.in-Err.ensures.trail kept in
-    let path = subst (λ (x : Spot). IsFirstAt L c.args.unknown x found.0 c.in-Err.fault)
-    (from_root c.args.layout.now c.args.limits c.args.unknown c.root-owner.result
+    let path = rw (from_root c.args.layout.now c.args.limits c.args.unknown c.root-owner.result
     c.most_depth.result c.most_cells.result
     (c.root-owner.ensures ∙ ap (λ (s : DeclaredSchema). s.root) c.schema.ensures.schema) c.most_depth.ensures.exact
-    c.most_cells.ensures (tree_spot t)) found.2 in
+    c.most_cells.ensures (tree_spot t)) at found.2 in
     kept_steps _ (λ (v : Vec Step Global). v.items) c.into_steps.result c.new-trail.result c.value.new.trail
     (LeadsToFirst L c.args.limits c.args.unknown t) c.new-trail.ensures c.into_steps.ensures found.0 found.1
     (c.in-Err.fault, first, path)

@@ -1,13 +1,10 @@
-use Rattle.std.proofs.Common.{◌≡◌, ◌∙◌, ◌⊎◌, inr, ap, sym, subst, Result, ℕ}
+use Rattle.std.proofs.Common.{◌≡◌, ◌∙◌, ◌⊎◌, inr, ap, sym}
 use Rattle.fb_schema.specs.Schema.{DeclaredSchema}
 use Rattle.serde_json.specs.View.{view as tree_view, members_view}
-use Rattle.fb_value.specs.Datum.{Datum}
 use Rattle.fb_value.specs.View.{view}
-use Rattle.fb_json.specs.declared.faults.JsonFault.{JsonFault}
 use Rattle.fb_json.specs.declared.faults.JsonFault.TheVariants.{WrongShape, Memory}
 use Rattle.fb_json.specs.Means.{Means}
 use Rattle.fb_json.specs.Meant.{type_place}
-use Rattle.fb_json.specs.Outcome.{Fails}
 use Rattle.fb_json.specs.Refuses.{IsFirst}
 use Rattle.fb_json.proofs.root.RootMeaningDecides.{means_root, none_means, or_memory, refused_root}
 use Rattle.fb_json.proofs.root.RootMeaningDecides.{root_object, root_other, may_lack}
@@ -30,11 +27,11 @@ means c = means_root c.args.layout.now c.args.limits c.args.unknown (tree_view c
 
 first : (c : In-Err) → (c.in-Err.fault ≡ Memory)
     ⊎ IsFirst c.args.layout.now c.args.limits c.args.unknown (tree_view c.args.tree.now) c.in-Err.fault
-first c = failed c.in-Err.fault _ (subst (λ (r : Result (Datum × ℕ) JsonFault). Fails c.in-Err.fault r)
-    (root_object c.args.layout.now c.args.limits c.args.unknown c.root-root.result c.most_depth.result
+first c = failed c.in-Err.fault _
+  (rw (← (root_object c.args.layout.now c.args.limits c.args.unknown c.root-root.result c.most_depth.result
     c.most_cells.result (c.root-root.ensures ∙ ap (λ (s : DeclaredSchema). s.root) c.schema.ensures.schema)
     c.most_depth.ensures.exact c.most_cells.ensures (tree_view c.args.tree.now)
-    (members_view c.in-Some.members.now.entries) c.in-Some.ensures) c.in-Err.ensures.gives)
+    (members_view c.in-Some.members.now.entries) c.in-Some.ensures)) c.in-Err.ensures.gives)
 
 pub returns-in-Ok-clause-means : goal.returns-in-Ok-clause-means
 returns-in-Ok-clause-means c = means c

@@ -1,7 +1,7 @@
-use Rattle.std.proofs.Common.{rules, ◌∙◌, [], ℕ, get_or, Option, subst, arith}
+use Rattle.std.proofs.Common.{rules, ◌∙◌, [], get_or, arith}
 use Rattle.fb_scopes.specs.PathTree.{paths}
 use Rattle.fb_scopes.specs.NamedTypes.{noted_at}
-use Rattle.fb_scopes.proofs.innermost.TypeIsNotedForEachUse.{Noting, noting_first, noting_more, outward_of}
+use Rattle.fb_scopes.proofs.innermost.TypeIsNotedForEachUse.{noting_first, noting_more, outward_of}
 use Rattle.fb_scopes.proofs.innermost.note_type.Goals as goal
 
 pub loop-next-init : goal.loop-next-init
@@ -19,8 +19,7 @@ loop-next-preserved c =
     let name = c.in-Some.name in
     let before = c.loop-next.noted in
     let room = c.loop-next.invariant.room in
-    let noting = subst (λ (o : Option (ℕ × ℕ)). Noting ps ks (get_or ps c.args.full_name []) c.args.number
-    (noted_at c.args.noted.now) (noted_at before) o) c.in-Some.is c.loop-next.invariant.noting in
+    let noting = rw c.in-Some.is at c.loop-next.invariant.noting in
     let out = outward_of ps ks path name c.outward-next.result c.outward-next.ensures.name c.outward-next.ensures.path
     noting.ahead.0 c.outward-next.ensures.same c.outward-next.ensures.shorter c.outward-next.ensures.last in
     let kept = c.in_ok-note_use.ensures in

@@ -1,4 +1,4 @@
-use Rattle.std.proofs.Common.{◌≡◌, ◌≢◌, ◌<◌, ◌-◌, ◌/◌, ◌^◌, ◌==◌, ◌∙◌, ℕ, if◌then◌else◌, suc, ap, subst, arith}
+use Rattle.std.proofs.Common.{◌≡◌, ◌≢◌, ◌<◌, ◌-◌, ◌/◌, ◌^◌, ◌==◌, ◌∙◌, ℕ, if◌then◌else◌, suc, ap, arith}
 use Rattle.std.proofs.Math.Nat.{two-pow-succ}
 use Rattle.std.proofs.lemmas.Result.{IfOk-weaker}
 use Rattle.fb_scopes.specs.Maps.{found_in}
@@ -8,7 +8,7 @@ use Rattle.fb_scopes.proofs.maps.+insert_in.Goals as goal
 half-below : (levels key : ℕ) → key < 2 ^ levels → levels ≢ 0 → key / 2 < 2 ^ (levels - 1)
 half-below levels key h above =
     let lower : levels ≡ suc (levels - 1) = omega arith in
-    let deep : key < 2 ^ suc (levels - 1) = subst (λ n. key < 2 ^ n) lower h in
+    let deep : key < 2 ^ suc (levels - 1) = rw (← lower) h in
     omega (arith, two-pow-succ (levels - 1), deep)
 
 pub insert_in-requires : goal.insert_in-requires

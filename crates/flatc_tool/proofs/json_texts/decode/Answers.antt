@@ -1,6 +1,4 @@
-use Rattle.std.proofs.Common.{Some, sym, subst}
-use Rattle.flatc_tool.specs.Jobs.{TextRefusedFramed}
-use Rattle.fb_faults.specs.declared.faults.ToolFault.{ToolFault}
+use Rattle.std.proofs.Common.{Some}
 use Rattle.flatc_tool.proofs.json_texts.PrintedIsTheJsonText.{text_refused}
 use Rattle.flatc_tool.proofs.json_texts.decode.Goals as goal
 
@@ -11,6 +9,4 @@ returns-in-Err-clause-refused c =
     c.args.options.now.raw_binary c.args.options.now.defaults_json
     (Some c.over-out.result.inner.items) (Some c.decode_to.new.out.inner.items) c.in-Err.fault
     c.in-Err.ensures.refused in
-    subst (λ (f : ToolFault). TextRefusedFramed c.args.options.now.size_prefixed c.args.layout.now c.args.bytes.now
-    c.args.options.now.limits
-    c.args.options.now.raw_binary f) (sym c.text_fault.ensures) refused
+    rw c.text_fault.ensures refused

@@ -1,4 +1,4 @@
-use Rattle.std.proofs.Common.{ℕ, ◌≡◌, ◌≤◌, ◌<◌, ◌-◌, ◌^◌, ◌++◌, ◌∷◌, [], ◌∙◌, List, Some, slice_get, ap, subst, arith}
+use Rattle.std.proofs.Common.{ℕ, ◌≡◌, ◌≤◌, ◌<◌, ◌-◌, ◌^◌, ◌++◌, ◌∷◌, [], ◌∙◌, List, Some, slice_get, ap, arith}
 use Rattle.std.proofs.lemmas.Nat.{leading_length}
 use Rattle.std.specs.Int.Count.{count_leading_zeros}
 use Rattle.fb_scopes.specs.declared.maps.Fork.{Fork}
@@ -10,7 +10,7 @@ room : (keys last : ℕ) → last ≡ keys - 1 → last < 2 ^ 64 → keys ≤ 2 
 room keys last e h =
     let length = leading_length 64 last h in
     let same : length.0 ≡ 64 - count_leading_zeros 64 last = omega (arith, length.1) in
-    subst (λ n. keys ≤ 2 ^ n) same (omega (arith, length.2))
+    rw (← same) (omega (arith, length.2))
 
 first : (before after : List Fork) → before ≡ []
     → after ≡ before ++ empty_fork ∷ [] → slice_get after 0 ≡ Some empty_fork
