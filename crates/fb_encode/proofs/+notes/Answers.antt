@@ -1,23 +1,20 @@
-use Rattle.std.proofs.Common.{◌≡◌, ◌∙◌, ◌++◌, ◌∷◌, ◌<◌, [], None, refl, sym, ap, subst, length, map}
+use Rattle.std.proofs.Common.{◌≡◌, ◌∙◌, ◌++◌, ◌∷◌, ◌<◌, [], None, refl, sym, ap, length, map}
 use Rattle.std.proofs.Common.{arith, rules}
-use Rattle.std.proofs.Common.{option_map, ◌-◌, IfOk}
+use Rattle.std.proofs.Common.{option_map, ◌-◌}
 use Rattle.std.proofs.lemmas.List.{length-map}
 use Rattle.std.proofs.lemmas.Result.{err_from_is_err_and}
 use Rattle.serde_json.specs.View.{view as tree_view, members_view}
 use Rattle.fb_schema.specs.Seen.{field_seen}
 use Rattle.fb_schema.specs.declared.kinds.Kind.TheVariants.{Table}
 use Rattle.fb_schema.specs.declared.kinds.Shape.TheVariants.{One}
-use Rattle.fb_layout.specs.Laid.{LaidSchema, one_of, slot_of, stored_kind, stored_shape, text_kind}
+use Rattle.fb_layout.specs.Laid.{slot_of, stored_kind, stored_shape}
 use Rattle.fb_layout.specs.Seen.{slot_seen}
 use Rattle.fb_layout.proofs.sizes.AlignmentsArePowersOfTwo.{slot_below}
 use Rattle.fb_value.specs.Datum.{a_number, a_vector}
 use Rattle.fb_value.specs.Room.{vector_room}
-use Rattle.fb_value.specs.View.{view, parts_in}
+use Rattle.fb_value.specs.View.{parts_in}
 use Rattle.fb_tape.specs.OpenFields.{reference_field}
-use Rattle.fb_json.specs.declared.faults.Place.{Place}
-use Rattle.fb_json.specs.Leaves.{text_meant}
-use Rattle.fb_json.specs.Meant.{look, meant, slot_place, used_meant}
-use Rattle.fb_json.specs.Outcome.{Gives}
+use Rattle.fb_json.specs.Meant.{look, meant, slot_place}
 use Rattle.fb_json.specs.SlotMembers.{AreMembersOf, looked_up, tree_seen}
 use Rattle.fb_json.proofs.slots.MemberAtItsSlot.{looked_up_at, read_at}
 use Rattle.fb_json.proofs.slots.OneSlotOrFieldMore.{fails_by, fails_is, slot_at}
@@ -39,7 +36,7 @@ use Rattle.fb_encode.proofs.parts.ArrayIsNoted.{array_given, array_refused, if_e
 use Rattle.fb_encode.proofs.parts.TreesByTheirKind.{no_table_by, no_vector_by, table_by, text_by}
 use Rattle.fb_encode.proofs.tables.SlotsAreNoted.{all_given, entry_by, next_noted, no_cell, none_noted, open_table}
 use Rattle.fb_encode.proofs.tables.SlotsAreNoted.{slot_there, slots_long, table_noted, too_deep, ungiven, untold}
-use Rattle.fb_encode.specs.TreesNoted.{IsNoted, entry_given}
+use Rattle.fb_encode.specs.TreesNoted.{entry_given}
 use Rattle.fb_encode.proofs.+notes.Goals as goal
 
 -- ---- slots
@@ -155,9 +152,7 @@ entries::note_slot-returns-in_default-clause-noted t c =
     (slot_place slot.owner.0 slot.number) slot.code c.args.levels c.args.left)
     (rw (c.in_default.is, c.if-slot.false) refl)
     c.args.noting.now.tape c.args.noting.now.opened c.requires.whole c.without.result
-    (subst (λ (p : Place). Gives (λ x. (option_map view x.0, x.1)) c.without.result (used_meant L
-    (field_seen slot.field.now) slot.code None p c.args.levels c.args.left slot.field.now.shape)) c.place.ensures
-    (c.without.ensures L c.args.levels)))
+    (rw (← c.place.ensures) (c.without.ensures L c.args.levels)))
 
 pub entries::note_slot-returns-then-is_null-clause-noted : goal.entries::note_slot-returns-then-is_null-clause-noted
 entries::note_slot-returns-then-is_null-clause-noted t c =
@@ -170,9 +165,7 @@ entries::note_slot-returns-then-is_null-clause-noted t c =
     (slot_place slot.owner.0 slot.number) slot.code c.args.levels c.args.left)
     (rw (c.in-Some.is, c.if-slot.false, null) refl)
     c.args.noting.now.tape c.args.noting.now.opened c.requires.whole c.without-then-is_null.result
-    (subst (λ (p : Place). Gives (λ x. (option_map view x.0, x.1)) c.without-then-is_null.result (used_meant L
-    (field_seen slot.field.now) slot.code None p c.args.levels c.args.left slot.field.now.shape))
-    c.place-then-is_null.ensures (c.without-then-is_null.ensures L c.args.levels)))
+    (rw (← c.place-then-is_null.ensures) (c.without-then-is_null.ensures L c.args.levels)))
 
 -- ---- vectors
 
@@ -286,9 +279,7 @@ parts::note_target-returns-in-Text-clause-noted t c =
       c.in-Text.is,
       text_by c.args.source.layout.now c.args.source.unknown c.args.place c.args.levels c.args.left
           (tree_view c.args.tree.now),
-    ) (subst (λ (M : LaidSchema). IfOk c.note_text.result (IsNoted M (one_of text_kind)
-    (text_meant (tree_view c.args.tree.now) c.args.place c.args.left) c.args.noting.now.tape
-    c.note_text.new.noting.tape)) c.requires.layout c.note_text.ensures.noted)
+    ) (rw (← c.requires.layout) c.note_text.ensures.noted)
 
 pub parts::note_target-returns-in-Text-clause-refused : goal.parts::note_target-returns-in-Text-clause-refused
 parts::note_target-returns-in-Text-clause-refused t c =

@@ -3,7 +3,7 @@ use Rattle.std.proofs.Common.{map, length, option_map, refl}
 use Rattle.serde_json.specs.Data.{array, no_items, item, object}
 use Rattle.serde_json.specs.View.{items_view, view as tree_view}
 use Rattle.fb_layout.specs.Laid.{stored_kind, slot_of}
-use Rattle.fb_json.specs.Meant.{items_meant, look, meant, slot_place}
+use Rattle.fb_json.specs.Meant.{look, meant, slot_place}
 use Rattle.fb_json.specs.Outcome.{spent}
 use Rattle.fb_build.proofs.noted.PartsAreAdded.{adds_none}
 use Rattle.fb_json.proofs.slots.OneSlotOrFieldMore.{counted, fails_by, slot_at}
@@ -15,7 +15,6 @@ use Rattle.fb_encode.proofs.vectors.RunsAreNoted.{all_whole, none_noted, one_mor
 use Rattle.fb_encode.proofs.vectors.RunsAreRead.{run_of_element, run_of_trees, run_within}
 use Rattle.fb_encode.proofs.vectors.VectorIsNoted.{Refers, all_noted, runs_read, vector_fails, vector_noted}
 use Rattle.fb_encode.proofs.vectors.ElementsFollow.{targets_then}
-use Rattle.fb_encode.specs.TextsRead.{IsRunNoted}
 use Rattle.fb_encode.specs.TreesNoted.{AddsTargets}
 use Rattle.std.proofs.lemmas.List.{length-map}
 use Rattle.fb_schema.specs.Seen.{field_seen}
@@ -68,10 +67,7 @@ vectors::note_run-returns-clause-noted t c =
       items_view trees,
       is,
       more ∙ ap (λ (n : ℕ). c.args.found.count + n) (sym long),
-      subst (λ (n : ℕ). IsRunNoted L (stored_kind L.schema elements.kind)
-          (λ rest. items_meant L c.args.source.unknown (items_view trees) elements.kind elements.place elements.levels
-          rest) n c.args.walk.now.noting.tape c.note_trees.new.noting.tape c.args.found.left now.left) (sym long)
-          noted,
+      rw long noted,
     )) c.note_trees.ensures.noted c.note_trees.ensures.counted
 
 pub vectors::note_runs-loop-run-init : goal.vectors::note_runs-loop-run-init

@@ -1,6 +1,6 @@
 -- A vector of numbers or structs is begun, its elements are added, and it is closed.
 use Rattle.std.proofs.Common.{◌≡◌, ◌∙◌, ◌+◌, ◌≤◌, ◌++◌, ◌∷◌, [], ℕ, List, false, length}
-use Rattle.std.proofs.Common.{refl, sym, ap, arith, subst, append_assoc}
+use Rattle.std.proofs.Common.{refl, sym, ap, arith, append_assoc}
 use Rattle.fb_schema.specs.declared.kinds.Kind.{Kind}
 use Rattle.fb_layout.specs.Laid.{LaidSchema, StoredKind, one_of, stored_kind, vector_of}
 use Rattle.fb_value.specs.Datum.{Datum, a_vector}
@@ -20,8 +20,7 @@ use Rattle.fb_encode.specs.TreesNoted.{AddsInline, AreElementsAdded, IsNoted, ve
 -- no element
 pub inline_none : (L : LaidSchema) (kind : StoredKind) (a : Taped) → AddsInline L kind a a []
 inline_none L kind a = record {
-  unfinished = λ count before h. subst (λ (ds : List Datum). IsUnfinished L kind count ds a.unfinished)
-      (sym (append-none before)) h;
+  unfinished = λ count before h. rw (append-none before) h;
   waits = λ others w. w;
   room = refl;
   layout = refl;
@@ -35,8 +34,8 @@ inline_none L kind a = record {
 pub inline_then : (L : LaidSchema) (kind : StoredKind) (a b c : Taped) (xs ys : List Datum) → AddsInline L kind a b xs
     → AddsInline L kind b c ys → AddsInline L kind a c (xs ++ ys)
 inline_then L kind a b c xs ys first second = record {
-  unfinished = λ count before h. subst (λ (ds : List Datum). IsUnfinished L kind count ds c.unfinished)
-      (append_assoc before xs ys) (second.unfinished count (before ++ xs) (first.unfinished count before h));
+  unfinished = λ count before h. rw (← (append_assoc before xs ys))
+  (second.unfinished count (before ++ xs) (first.unfinished count before h));
   waits = λ others w. second.waits others (first.waits others w);
   room = second.room ∙ first.room;
   layout = second.layout ∙ first.layout;

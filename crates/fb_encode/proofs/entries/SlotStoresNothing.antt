@@ -214,4 +214,4 @@ module _ (L : LaidSchema) (f : DeclaredField) where
         → Gives (λ x. (option_map view x.0, x.1)) r (used_meant L f c None at levels left f.shape)
         → IfErr (left_of r) (λ e. Fails e given)
     absent_refused (Ok x) h = tt
-    absent_refused (Err e) h = subst (λ (g : Counted (Option Datum)). Fails e g) (sym is) h
+    absent_refused (Err e) h = rw is h

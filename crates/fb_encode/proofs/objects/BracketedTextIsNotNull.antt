@@ -2,7 +2,7 @@
 use Rattle.std.proofs.Common.{◌≡◌, ◌≢◌, ◌∙◌, ◌<◌, ◌+◌, ℕ, zero, suc, List, [], ◌∷◌, ◌++◌, Option, None, Some, length}
 use Rattle.std.proofs.Common.{take, drop}
 use Rattle.std.proofs.Common.{get_or, option_and_then, option_map, Bool, true, ◌==◌, ◌⊎◌, inl, inr, refl, ap, sym}
-use Rattle.std.proofs.Common.{subst, arith, take-append-drop}
+use Rattle.std.proofs.Common.{arith, take-append-drop}
 use Rattle.std.proofs.Math.Seq.{drop-cons}
 use Rattle.std.specs.List.{list_all}
 use Rattle.std.proofs.lemmas.Bool.{and_parts, eqb-true, or_cases}
@@ -18,13 +18,13 @@ use Rattle.fb_pieces.specs.Reads.{read_at}
 blank_or : (x c : ℕ) (b : Bool) → class c ≡ space → (b ≡ true → class x ≡ space)
     → (b ≡ true) ⊎ ((x == c) ≡ true) → class x ≡ space
 blank_or x c b is rest (inl e) = rest e
-blank_or x c b is rest (inr e) = subst (λ y. class y ≡ space) (sym (eqb-true x c e)) is
+blank_or x c b is rest (inr e) = rw (eqb-true x c e) is
 
 blank_class : (x : ℕ) → is_space x ≡ true → class x ≡ space
 blank_class x h =
     blank_or x 13 _ refl
     (λ h. blank_or x 10 _ refl
-    (λ h. blank_or x 9 _ refl (λ h. subst (λ y. class y ≡ space) (sym (eqb-true x 32 h)) refl) (or_cases _ _ h))
+    (λ h. blank_or x 9 _ refl (λ h. rw (eqb-true x 32 h) refl) (or_cases _ _ h))
     (or_cases _ _ h)) (or_cases _ _ h)
 
 blanks_before : (blanks text : List ℕ) → AreBlanks blanks → lex between (blanks ++ text) ≡ lex between text

@@ -1,7 +1,7 @@
 -- The text at a slot is that of the member which a look-up of its name finds.
 use Rattle.std.proofs.Common.{◌≡◌, ◌∙◌, ◌+◌, ◌≤◌, ◌<◌, ℕ, Bool, true, false, List, Option, None, Some, IfSome, length}
 use Rattle.std.proofs.Common.{get_or, option_map, slice_get, Ordering, Less, Equal, Greater, nat_cmp, refl, sym, ap}
-use Rattle.std.proofs.Common.{◌==◌, subst, arith}
+use Rattle.std.proofs.Common.{◌==◌, arith}
 use Rattle.std.specs.Ordering.{match_ordering}
 use Rattle.std.specs.Cmp.Lexicographic.{slice_cmp}
 use Rattle.std.proofs.lemmas.Bool.{eqb-false, eqb-true}
@@ -64,7 +64,7 @@ module _ (texts : List (Option Excerpt)) (k : ℕ) (o : Option Excerpt) (within 
           let same : j ≡ k = eqb-true j k is in
           let both : Some o ≡ Some (Some e) = sym there ∙ (ap (slice_get texts) (sym same) ∙ at) in
           let it : o ≡ Some e = cc in
-          subst (λ (p : Option Excerpt). IfSome p (λ e. IsRead e.brackets e.text.now)) it here
+          rw it at here
       by false is =
           let apart = eqb-false j k is in
           before j e (omega (arith, low, apart)) at

@@ -1,5 +1,5 @@
 -- A text in brackets: its bytes, and what is read of it without them.
-use Rattle.std.proofs.Common.{◌≡◌, ◌∙◌, ◌+◌, ◌-◌, ◌≤◌, ◌++◌, ◌∷◌, [], ℕ, zero, suc, List, Some, refl, sym, ap, subst}
+use Rattle.std.proofs.Common.{◌≡◌, ◌∙◌, ◌+◌, ◌-◌, ◌≤◌, ◌++◌, ◌∷◌, [], ℕ, zero, suc, List, Some, refl, sym, ap}
 use Rattle.std.proofs.Common.{length, get_or, replicate, append_assoc, arith, IsUtf8}
 use Rattle.std.proofs.lemmas.List.{append-nil, replicate_more}
 use Rattle.simdutf8.proofs.StepsLemmas.{IsUtf8-after_ascii, IsUtf8-append_ascii, IsAscii-replicate}
@@ -42,8 +42,7 @@ pub read_without : TextIsReadWithoutBrackets → (brackets : ℕ) (text : List �
     → read (in_brackets (127 - brackets) text) ≡ Some (in_arrays (127 - brackets) t) → read_at brackets text ≡ Some t
 read_without law brackets text t low is =
     let all : 127 ≡ (127 - brackets) + brackets = omega arith in
-    law brackets (127 - brackets) text t (subst (λ (n : ℕ). read_at n (in_brackets (127 - brackets) text)
-    ≡ Some (in_arrays (127 - brackets) t)) all is)
+    law brackets (127 - brackets) text t (rw (← all) is)
 
 -- one array more, within those that are there
 pub arrays_more : (n : ℕ) (d : Data) → in_arrays (n + 1) d ≡ in_arrays n (array (item d no_items))

@@ -1,6 +1,6 @@
 -- A slot that the look-up of a name finds has that name, and no other slot has it.
 use Rattle.std.proofs.Common.{◌≡◌, ◌∙◌, ℕ, suc, Bool, true, false, List, [], ◌∷◌, map, find, position, slice_get}
-use Rattle.std.proofs.Common.{Option, Some, None, option_map, cond, bytes_eq, refl, ap, sym, subst}
+use Rattle.std.proofs.Common.{Option, Some, None, option_map, cond, bytes_eq, refl, ap, sym}
 use Rattle.std.specs.Option.{option_and_then}
 use Rattle.std.proofs.lemmas.Option.{slice_get-map}
 use Rattle.std.proofs.lemmas.Slice.Eq.{bytes_eq-Decides}
@@ -52,7 +52,7 @@ found_there {X} p (y ∷ ys) x e = by (p y) refl e (found_there p ys x)
     by : (b : Bool) → p y ≡ b → cond b (Some y) (find p ys) ≡ Some x
         → (find p ys ≡ Some x → (j : ℕ) × (slice_get ys j ≡ Some x) × (p x ≡ true))
         → (j : ℕ) × (slice_get (y ∷ ys) j ≡ Some x) × (p x ≡ true)
-    by true passes is later = let same : y ≡ x = cc in (0, is, subst (λ (z : X). p z ≡ true) same passes)
+    by true passes is later = let same : y ≡ x = cc in (0, is, rw (← same) passes)
     by false fails is later = let there = later is in (suc there.0, there.1, there.2)
 
 named_in_body : (S : DeclaredSchema) (t : ℕ) (body : DeclaredBody) → IsBody S t body → (name : Name)
@@ -64,7 +64,7 @@ named_in_body S t (union_body members) is name g f k found there at = absurd cc
 named_in_body S t (table_body fs) is name g f k found there at =
     let place = found_there (λ h. bytes_eq name h.name) fs g found in
     let same : k ≡ place.0 = at ∙ is.slots place.0 g place.1 in
-    let here : slice_get fs place.0 ≡ Some f = subst (λ (n : ℕ). slice_get fs n ≡ Some f) same there in
+    let here : slice_get fs place.0 ≡ Some f = rw (← same) there in
     let both : Some f ≡ Some g = sym here ∙ place.1 in
     let one : f ≡ g = cc in
     ap (λ (h : DeclaredField). h.name) one ∙ sym ((bytes_eq-Decides name g.name).0 place.2)

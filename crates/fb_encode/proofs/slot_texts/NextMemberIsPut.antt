@@ -1,7 +1,7 @@
 -- The next member of a text is put at its slot.
 use Rattle.std.proofs.Common.{◌≡◌, ◌∙◌, ◌+◌, ◌<◌, ◌||◌, ◌++◌, ◌∷◌, [], ℕ, List, Bool, Option, Result, Err, IfSome}
 use Rattle.std.proofs.Common.{length}
-use Rattle.std.proofs.Common.{get_or, map, take, if◌then◌else◌, ap, sym, subst}
+use Rattle.std.proofs.Common.{get_or, map, take, if◌then◌else◌, ap, sym}
 use Rattle.std.proofs.lemmas.List.{map-append, take_more}
 use Rattle.serde_json.specs.Data.{string}
 use Rattle.fb_schema.specs.Schema.{DeclaredField, DeclaredSchema, body_at}
@@ -39,8 +39,7 @@ module _ (S : DeclaredSchema) (t : ℕ) (declared : IsDeclared S) (unknown : Boo
   named_here : IsReadAs brackets (member_texts text (get_or members i d)).0
       (string (name_read brackets (member_texts text (get_or members i d)).0))
   named_here =
-      subst (λ (n : List ℕ). IsReadAs brackets n (string (name_read brackets n))) name_is
-      (subst (λ (b : ℕ). IsReadAs b name.text.now (string (name_read b name.text.now))) name_in named)
+      rw (← name_is) (rw (← name_in) named)
 
   found_here : o ≡ field_named (body_at S t) (name_read brackets (member_texts text (get_or members i d)).0)
   found_here =
@@ -56,8 +55,6 @@ module _ (S : DeclaredSchema) (t : ℕ) (declared : IsDeclared S) (unknown : Boo
       → ArePutSoFar S t unknown brackets (texts_with texts o value)
       (if unknown || is_used o then known else Err (UnknownMember (type_place t))) (texts_before text members (i + 1))
   next_put over =
-      subst (λ (ms : List (List ℕ × List ℕ)). ArePutSoFar S t unknown brackets (texts_with texts o value)
-      (if unknown || is_used o then known else Err (UnknownMember (type_place t))) ms)
-      (members_more text members i d within)
+      rw (← (members_more text members i d within))
       (one_more S t declared unknown brackets texts known (texts_before text members i) so_far
       (member_texts text (get_or members i d)) value value_is value_in named_here o found_here over)

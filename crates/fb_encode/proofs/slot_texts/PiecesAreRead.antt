@@ -1,5 +1,5 @@
 -- What a text is read as is what it is named to be.
-use Rattle.std.proofs.Common.{◌≡◌, ◌∙◌, ◌-◌, ◌≤◌, ℕ, List, String, Global, Some, IsUtf8, ap, sym, subst, unwrap_or}
+use Rattle.std.proofs.Common.{◌≡◌, ◌∙◌, ◌-◌, ◌≤◌, ℕ, List, String, Global, Some, IsUtf8, ap, unwrap_or}
 use Rattle.std.proofs.Common.{string_bytes, rules}
 use Rattle.serde_json.specs.Data.{Data, null, string}
 use Rattle.serde_json.specs.Read.{read}
@@ -25,7 +25,7 @@ module _ (law : TextIsReadWithoutBrackets) (brackets : ℕ) (text : List ℕ) (l
 
   pub string_is_read : (s : String Global) → inner ≡ a_string s → IsReadAs brackets text (string (string_bytes s))
   string_is_read s same =
-      subst (λ (d : Data). IsReadAs brackets text d) (ap tree_view same ∙ string_seen s) inner_is_read
+      rw (← (ap tree_view same ∙ string_seen s)) inner_is_read
 
 pub name_is : (brackets : ℕ) (text s : List ℕ) → IsReadAs brackets text (string s) → name_read brackets text ≡ s
 unfolding name_read
@@ -34,7 +34,7 @@ name_is brackets text s is = ap bytes_in is.read
 pub name_is_read : (brackets : ℕ) (text s : List ℕ) → IsReadAs brackets text (string s)
     → IsReadAs brackets text (string (name_read brackets text))
 name_is_read brackets text s is =
-    subst (λ (n : List ℕ). IsReadAs brackets text (string n)) (sym (name_is brackets text s is)) is
+    rw (name_is brackets text s is) is
 
 pub tree_is : (brackets : ℕ) (text : List ℕ) (t : Data) → IsReadAs brackets text t → tree_read brackets text ≡ t
 unfolding tree_read
@@ -43,4 +43,4 @@ tree_is brackets text t is = ap (λ o. unwrap_or o null) is.read
 pub tree_is_read : (brackets : ℕ) (text : List ℕ) → IsRead brackets text
     → IsReadAs brackets text (tree_read brackets text)
 tree_is_read brackets text (t, is) =
-    subst (λ (d : Data). IsReadAs brackets text d) (sym (tree_is brackets text t is)) is
+    rw (tree_is brackets text t is) is

@@ -103,13 +103,13 @@ module _ (texts : List (Option Excerpt)) (e : Excerpt) where
     at_slot : (slot : ℕ) → P e → AllTexts texts → IfSome (get_or texts slot (Some e)) P
     at_slot slot here all = elim (slice_get_cases texts slot).1 [
       | inl there ↦ one there.0 (get_or_from_slice_get texts slot there.0 (Some e) there.2) there.2
-      | inr past ↦ subst (λ (o : Option Excerpt). IfSome o P) (sym (nowhere_else texts slot (Some e) past.0)) here
+      | inr past ↦ rw (nowhere_else texts slot (Some e) past.0) here
     ]
       where
         one : (x : Option Excerpt) → get_or texts slot (Some e) ≡ x → slice_get texts slot ≡ Some x
             → IfSome (get_or texts slot (Some e)) P
-        one None is there = subst (λ (o : Option Excerpt). IfSome o P) (sym is) tt
-        one (Some x) is there = subst (λ (o : Option Excerpt). IfSome o P) (sym is) (all slot x there)
+        one None is there = rw is tt
+        one (Some x) is there = rw is (all slot x there)
 
     -- what holds of all texts holds of the one that no slot has
     pub of_text_over : (o : Option DeclaredField) → P e → AllTexts texts → IfSome (text_over texts o e) P
@@ -159,7 +159,7 @@ module _ (texts : List (Option Excerpt)) (e : Excerpt) where
             let same : k ≡ g.slot = eqb-true k g.slot is in
             let here : get_or texts g.slot (Some e) ≡ Some x =
             get_or_from_slice_get texts g.slot (Some x) (Some e) (ap (slice_get texts) (sym same) ∙ there) in
-            subst (λ (o : Option Excerpt). IfSome o P) here over
+            rw here at over
         before over all k x false is there =
             all k x (put_elsewhere texts g.slot k (Some e) (eqb-false k g.slot is) ∙ there)
 
@@ -178,7 +178,7 @@ module _ (texts : List (Option Excerpt)) (e : Excerpt) where
         by true over all = over
         by false over all = elim (slice_get_cases texts g.slot).1 [
           | inl there ↦ all g.slot e (put_here texts g.slot (Some e) there.1)
-          | inr past ↦ subst (λ (o : Option Excerpt). IfSome o P) (nowhere_else texts g.slot (Some e) past.0) over
+          | inr past ↦ rw (nowhere_else texts g.slot (Some e) past.0) at over
         ]
 
 -- ---- one member more
@@ -285,7 +285,7 @@ module _ (S : DeclaredSchema) (t : ℕ) (declared : IsDeclared S) (unknown : Boo
         All-append (λ m. IsRead brackets m.1) ms (m ∷ [])
         (so_far.values (of_texts_before texts e (λ x. IsRead x.brackets x.text.now) o over read))
         (All-cons (λ m. IsRead brackets m.1) m []
-        (subst (IsRead brackets) text_is (subst (λ (b : ℕ). IsRead b e.text.now) brackets_is this))
+        (subst (IsRead brackets) text_is (rw (← brackets_is) this))
         (All-nil (λ m. IsRead brackets m.1)));
     known_is =
         ap (λ (r : Result (Unit {0}) JsonFault). if unknown || is_used o then r else Err (UnknownMember (type_place t)))

@@ -1,7 +1,7 @@
 -- The slots of a table are noted one after the other.
 use Rattle.std.proofs.Common.{◌≡◌, ◌+◌, ◌≤◌, ◌<◌, ◌++◌, ◌∷◌, [], ◌∙◌, ℕ, zero, suc, List, Option, None, Some, Ok}
 use Rattle.std.proofs.Common.{Err}
-use Rattle.std.proofs.Common.{length, map, drop, get_or, slice_get, Bor, Bool, true, refl, sym, ap, subst, arith}
+use Rattle.std.proofs.Common.{length, map, drop, get_or, slice_get, Bor, Bool, true, refl, sym, ap, arith}
 use Rattle.std.proofs.Math.Seq.{drop-append_seam}
 use Rattle.std.proofs.lemmas.List.{append_assoc, append-nil, length-map}
 use Rattle.std.proofs.lemmas.Option.{slice_get-map}
@@ -175,11 +175,7 @@ module _ (L : LaidSchema) (look : Look) (t : ℕ) (slots : List FieldInfo) (k co
       fits = (refl, all_fitting.0);
       whole = all_fitting.1;
       adds = record {
-        waits = λ others w. (subst (λ (N : LaidSchema). IsOpenTable N t (drop (length before) now) inv.entries
-            → Waits b (others ++ entries_apart (slots_of N t) inv.entries) → Waits c (others ++ (record {
-              target = table_part t;
-              value = a_table t (entries_in inv.entries);
-            } ∷ []))) laid (closed others inv.entries)) open_table (inv.adds.waits others w);
+        waits = λ others w. (rw laid at (closed others inv.entries)) open_table (inv.adds.waits others w);
         sum = omega (arith, inv.adds.sum, room);
         layout = same ∙ inv.adds.layout;
         whole = finished;

@@ -17,7 +17,7 @@ use Rattle.fb_value.specs.View.{entries_in}
 use Rattle.fb_value.proofs.types.NestingIsBoundedByDepth.{root_fits}
 use Rattle.fb_tape.specs.Tapes.{Taped, Waits}
 use Rattle.fb_json.specs.Laws.{OnlyWhatIsMeant}
-use Rattle.fb_json.specs.Means.{Means, MeansAs}
+use Rattle.fb_json.specs.Means.{Means}
 use Rattle.fb_json.specs.Meant.{meant, type_place}
 use Rattle.fb_json.specs.Refuses.{root_meant}
 use Rattle.fb_build.specs.NotedRoots.{NotesRoot}
@@ -65,7 +65,7 @@ module _ (L : LaidSchema) (most : Bounds) (unknown : Bool) (t : Data) (root leve
         let waits = h.adds.waits [] none in
         let root_is : root ≡ b.layout.schema.root = is ∙ sym (ap (λ (M : LaidSchema). M.schema.root) same) in
         let named : Waits b (record { target = table_part root; value = a_table root (entries_in table.0) } ∷ []) =
-        subst (λ (d : Datum). Waits b (record { target = table_part root; value = d } ∷ [])) table.1 waits in
+        rw (← table.1) waits in
         record {
           entries = table.0;
           layout = same;
@@ -86,7 +86,7 @@ module _ (L : LaidSchema) (most : Bounds) (unknown : Bool) (t : Data) (root leve
     root_means law =
         let good = law L unknown t (One (Table (record { 0 = root }))) (type_place root) levels left (h.value, rest)
         h.given_is in (
-          subst (λ (n : ℕ). MeansAs L unknown t (One (Table (record { 0 = n }))) h.value) is good.0,
+          rw is at good.0,
           omega (arith, good.2, deep),
           omega (arith, good.1, many),
         )
@@ -96,5 +96,5 @@ module _ (L : LaidSchema) (most : Bounds) (unknown : Bool) (t : Data) (root leve
       value = h.value;
       noted = root_notes;
       means = root_means law;
-      fits = (root_fits L h.value made).1 (subst (λ (n : ℕ). Fits L (one_of (table_kind n)) h.value) is h.fits);
+      fits = (root_fits L h.value made).1 (rw is at h.fits);
     }

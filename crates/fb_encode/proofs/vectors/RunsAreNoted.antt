@@ -1,7 +1,7 @@
 -- The runs of a vector's elements are noted one after the other.
 use Rattle.std.proofs.Common.{◌≡◌, ◌∙◌, ◌+◌, ◌-◌, ◌<◌, ◌++◌, ◌∷◌, [], ℕ, zero, suc, Bool, List, Result, Ok, Err, OnOk}
 use Rattle.std.proofs.Common.{length}
-use Rattle.std.proofs.Common.{map, take, get_or, refl, sym, ap, subst, arith, IsUtf8}
+use Rattle.std.proofs.Common.{map, take, get_or, refl, sym, ap, arith, IsUtf8}
 use Rattle.std.proofs.lemmas.List.{map-append, take_more}
 use Rattle.std.proofs.lemmas.List.Elements.{All-append}
 use Rattle.std.specs.List.{All}
@@ -80,9 +80,8 @@ module _ (L : LaidSchema) (AddsAll : Taped → Taped → List Datum → Type 0) 
       → AreElementsAddedOr L (stored_kind L.schema kind) AddsAll
       (given_of L unknown kind at levels (append ds es) start) (m + n) a c now
   run_then turn ds es m n a b c (Err f) now fails same =
-      subst (λ (r : Result ℕ JsonFault). AreElementsAddedOr L (stored_kind L.schema kind) AddsAll
-      (given_of L unknown kind at levels (append ds es) start) (m + n) a c r) (sym same)
-      (fails_by f (given_of L unknown kind at levels ds start) (given_of L unknown kind at levels (append ds es) start)
+      rw same (fails_by f (given_of L unknown kind at levels ds start)
+      (given_of L unknown kind at levels (append ds es) start)
       (fault_then L unknown kind at levels ds es start f) fails)
   run_then turn ds es m n a b c (Ok left) now h more =
       added_then L (stored_kind L.schema kind) AddsAll turn (given_of L unknown kind at levels ds start)
@@ -106,19 +105,13 @@ module _ (L : LaidSchema) (AddsAll : Taped → Taped → List Datum → Type 0) 
       ap count whole ∙ count-append (joined h.items) es in
       record {
         items = h.items ++ (es ∷ []);
-        read = subst (λ (xs : List (List ℕ)). ReadRuns (brackets - 1) xs (h.items ++ (es ∷ []))) (sym turned)
-            (runs_more (brackets - 1) (map (run_text text) (take i runs)) h.items e es h.read
+        read = rw turned (runs_more (brackets - 1) (map (run_text text) (take i runs)) h.items e es h.read
             (reads_run brackets e es some is));
-        utf8 = subst (λ (xs : List (List ℕ)). All IsUtf8 xs) (sym turned)
-            (All-append IsUtf8 (map (run_text text) (take i runs)) (e ∷ []) h.utf8
+        utf8 = rw turned (All-append IsUtf8 (map (run_text text) (take i runs)) (e ∷ []) h.utf8
             (one_utf8 e (utf8_of_run brackets e es is)));
         count_is = adds ∙ ap (λ (n : ℕ). n + count es) h.count_is ∙ sym sum;
-        noted = subst (λ (ds : Items). AreElementsAddedOr L (stored_kind L.schema kind) AddsAll
-            (given_of L unknown kind at levels ds start) (count ds) a c now) (sym whole)
-            (subst (λ (n : ℕ). AreElementsAddedOr L (stored_kind L.schema kind) AddsAll
-            (given_of L unknown kind at levels (append (joined h.items) es) start) n a c now)
-            (sym (count-append (joined h.items) es))
-            (run_then turn (joined h.items) es (count (joined h.items)) (count es) a b c found now h.noted more));
+        noted = rw whole (rw (count-append (joined h.items) es)
+        (run_then turn (joined h.items) es (count (joined h.items)) (count es) a b c found now h.noted more));
       }
 
 -- the tape that they are on

@@ -1,6 +1,6 @@
 -- What is read of a run of a vector's elements, and of all runs.
 use Rattle.std.proofs.Common.{◌≡◌, ◌∙◌, ◌+◌, ◌-◌, ◌≤◌, ◌<◌, ◌++◌, ◌∷◌, [], ℕ, zero, suc, List, Some, length}
-use Rattle.std.proofs.Common.{sym, ap, subst, get_or, arith, IsUtf8}
+use Rattle.std.proofs.Common.{sym, ap, get_or, arith, IsUtf8}
 use Rattle.std.proofs.lemmas.Option.{slice_get_within}
 use Rattle.simdutf8.proofs.StepsLemmas.{IsUtf8-after_ascii, IsUtf8-append_ascii, IsAscii-replicate}
 use Rattle.serde_json.specs.Data.{Data, array, Items, no_items, item}
@@ -13,7 +13,6 @@ use Rattle.fb_pieces.specs.ArrayOfRuns.{ReadsRun, ReadRuns}
 use Rattle.fb_pieces.specs.CutTexts.{AreRunsOf}
 use Rattle.fb_pieces.specs.InBrackets.{TextIsReadWithoutBrackets, in_arrays, in_brackets}
 use Rattle.fb_pieces.specs.ReadByPieces.{IsCutIntoRuns}
-use Rattle.fb_pieces.specs.Reads.{read_at}
 use Rattle.fb_pieces.specs.Texts.{array_text}
 use Rattle.fb_encode.proofs.reader.TextInBrackets.{brackets_more, read_without}
 use Rattle.fb_encode.specs.TextsRead.{IsReadAs, IsRunReadAs}
@@ -37,8 +36,7 @@ run_of_element law brackets e t some h =
     let same : suc (brackets - 1) ≡ brackets = omega arith in
     record {
       utf8 = utf8_between e h.utf8;
-      read = subst (λ (n : ℕ). read_at n (array_text e []) ≡ Some (array (item t no_items))) same
-          (law (brackets - 1) e [] (item t no_items) (h.read, tt));
+      read = rw (← same) (law (brackets - 1) e [] (item t no_items) (h.read, tt));
     }
 
 -- a run whose elements are read at once
@@ -62,7 +60,7 @@ reads_run brackets e (item d ds) some h =
     let same : brackets ≡ suc (brackets - 1) = omega arith in
     record {
       some = λ none. (let bad : item d ds ≡ no_items = none in cc);
-      read = subst (λ (n : ℕ). read_at n (array_text e []) ≡ Some (array (item d ds))) same h.read;
+      read = rw (← same) h.read;
     }
 
 -- one run more

@@ -1,6 +1,6 @@
 -- A vector whose runs are read and noted is read and noted.
-use Rattle.std.proofs.Common.{◌≡◌, ◌∙◌, ◌+◌, ◌-◌, ◌≤◌, ◌<◌, ◌++◌, ◌∷◌, [], ℕ, suc, Bool, List, Some, Result, Ok, Err}
-use Rattle.std.proofs.Common.{length, false, map, take, refl, sym, ap, subst, arith, IsUtf8}
+use Rattle.std.proofs.Common.{◌≡◌, ◌∙◌, ◌+◌, ◌-◌, ◌≤◌, ◌<◌, ◌++◌, ◌∷◌, [], ℕ, suc, Bool, List, Result, Ok, Err}
+use Rattle.std.proofs.Common.{length, false, map, take, refl, sym, ap, arith, IsUtf8}
 use Rattle.std.proofs.lemmas.List.{take_all}
 use Rattle.std.specs.List.{All}
 use Rattle.serde_json.specs.Data.{array, Items}
@@ -17,7 +17,7 @@ use Rattle.fb_tape.specs.Tapes.{Taped, Waits}
 use Rattle.fb_json.specs.declared.faults.JsonFault.{JsonFault}
 use Rattle.fb_json.specs.declared.faults.Place.{Place}
 use Rattle.fb_json.specs.Meant.{count, items_meant, meant, vector_meant}
-use Rattle.fb_json.specs.Outcome.{◌>>=◌, Counted, Fails, spent}
+use Rattle.fb_json.specs.Outcome.{◌>>=◌, Counted, spent}
 use Rattle.fb_build.specs.Fields.{IsElement, is_reference}
 use Rattle.fb_build.specs.Items.{ItemsKnown}
 use Rattle.fb_build.proofs.noted.OneMoreFits.{counted, elements_fit}
@@ -27,13 +27,12 @@ use Rattle.fb_pieces.specs.ArrayOfRuns.{ReadRuns, joined}
 use Rattle.fb_pieces.specs.CutTexts.{run_text}
 use Rattle.fb_pieces.specs.CutTextsAreUtf8.{CutArrayIsUtf8}
 use Rattle.fb_pieces.specs.ReadByPieces.{CutArrayIsRead, IsCutIntoRuns}
-use Rattle.fb_pieces.specs.Reads.{read_at}
 use Rattle.fb_encode.proofs.elements.InlineVectorIsNoted.{Begins, Closes, inline_vector_noted}
 use Rattle.fb_encode.proofs.parts.ArrayIsNoted.{bound, vector_refused}
 use Rattle.fb_encode.proofs.vectors.ElementsFollow.{given_of}
 use Rattle.fb_encode.proofs.vectors.RunsAreNoted.{AreRunsNoted}
 use Rattle.fb_encode.specs.TextsRead.{IsNotedOr, IsReadAs}
-use Rattle.fb_encode.specs.TreesNoted.{AddsInline, AddsTargets, AreElementsAdded, IsNoted, vector_given}
+use Rattle.fb_encode.specs.TreesNoted.{AddsInline, AddsTargets, IsNoted, vector_given}
 
 all_bound : (s : Result ℕ JsonFault) (items : ℕ → Counted (List Datum))
     → (s >>= λ left. items left >>= λ xs. Ok (a_vector (parts_in xs.0), xs.1))
@@ -51,8 +50,7 @@ read_of brackets text (run ∷ runs) rs law utf8_law cut some elements read utf8
     let same : suc (brackets - 1) ≡ brackets = omega arith in
     record {
       utf8 = utf8_law text run runs cut utf8;
-      read = subst (λ (n : ℕ). read_at n text ≡ Some (array (joined rs))) same
-          (law (brackets - 1) text run runs rs cut read);
+      read = rw (← same) (law (brackets - 1) text run runs rs cut read);
     }
 
 -- under a layout, a vector of so many references waits in the place of what its elements name
@@ -98,8 +96,7 @@ module _ (L : LaidSchema) (AddsAll : Taped → Taped → List Datum → Type 0) 
       (meant L unknown (array (joined h.items)) (Many kind) at levels left) c d found
   vector_fails c d f (Ok n) is h = cc
   vector_fails c d f (Err g) is h =
-      subst (λ (r : Counted Datum). Fails g r)
-      (sym (array_meant L unknown kind at levels left total (joined h.items) h.count_is))
+      rw (array_meant L unknown kind at levels left total (joined h.items) h.count_is)
       (vector_refused (given_of L unknown kind at levels (joined h.items) (spent (1 + total) at left)) g h.noted)
 
 module _ (L : LaidSchema) (unknown : Bool) (kind : Kind) (at : Place) (levels left brackets : ℕ) (text : List ℕ)
@@ -139,7 +136,6 @@ module _ (L : LaidSchema) (unknown : Bool) (kind : Kind) (at : Place) (levels le
   inline_noted before inline begins closes h =
       let k = stored_kind L.schema kind in
       let given = given_of L unknown kind at levels (joined h.items) (spent (1 + total) at left) in
-      let noted = subst (λ (n : ℕ). AreElementsAdded L k (AddsInline L k) given n a b rest) (sym h.count_is) h.noted in
-      subst (λ (r : Counted Datum). IsNoted L (vector_of k) r before c rest)
-      (sym (array_meant L unknown kind at levels left total (joined h.items) h.count_is))
+      let noted = rw (← h.count_is) at h.noted in
+      rw (← (array_meant L unknown kind at levels left total (joined h.items) h.count_is)) at
       (inline_vector_noted L kind given total before a b c rest element inline begins noted closes)

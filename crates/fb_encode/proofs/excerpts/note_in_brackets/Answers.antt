@@ -1,7 +1,6 @@
-use Rattle.std.proofs.Common.{◌∙◌, ℕ, Some, Result, ap, sym, subst}
+use Rattle.std.proofs.Common.{◌∙◌, Some, ap}
 use Rattle.serde_json.specs.View.{view as tree_view}
 use Rattle.fb_layout.specs.Laid.{stored_shape}
-use Rattle.fb_json.specs.declared.faults.JsonFault.{JsonFault}
 use Rattle.fb_json.specs.Meant.{meant}
 use Rattle.fb_encode.proofs.excerpts.NotedOrRefused.{if_ok_then, noted_or}
 use Rattle.fb_encode.proofs.reader.TextInBrackets.{read_without}
@@ -28,6 +27,5 @@ returns-clause-noted c =
     if_ok_then c.unless_memory.result _ _ (λ r same. (
       t,
       as_tree,
-      subst (λ (x : Result ℕ JsonFault). IsNotedOr L shape
-          given a b x) (sym same) found,
+      rw same found,
     )) c.unless_memory.ensures

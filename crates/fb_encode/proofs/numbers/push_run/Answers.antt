@@ -1,13 +1,10 @@
-use Rattle.std.proofs.Common.{◌∙◌, ◌+◌, ℕ, Some, ap, sym, subst}
+use Rattle.std.proofs.Common.{◌∙◌, ◌+◌, ℕ, Some, ap, sym}
 use Rattle.serde_json.specs.View.{items_view}
 use Rattle.fb_layout.specs.Laid.{stored_kind}
-use Rattle.fb_json.specs.Meant.{items_meant}
 use Rattle.fb_json.proofs.slots.OneSlotOrFieldMore.{counted}
 use Rattle.fb_pieces.specs.CutTexts.{run_text}
 use Rattle.fb_encode.proofs.excerpts.NotedOrRefused.{if_ok_both}
 use Rattle.fb_encode.proofs.vectors.RunsAreRead.{run_of_trees}
-use Rattle.fb_encode.specs.TextsRead.{IsRunAdded}
-use Rattle.fb_encode.specs.TreesNoted.{AddsInline}
 use Rattle.fb_encode.proofs.numbers.push_run.Goals as goal
 
 pub returns-clause-added : goal.returns-clause-added
@@ -25,7 +22,5 @@ returns-clause-added c =
       items_view trees,
       is,
       more ∙ ap (λ (n : ℕ). c.args.found.count + n) (sym long),
-      subst (λ (n : ℕ). IsRunAdded L kind (AddsInline L kind)
-          (λ rest. items_meant L c.args.source.unknown (items_view trees) elements.kind elements.place elements.levels
-          rest) n c.args.walk.now.noting.tape c.push_trees.new.tape c.args.found.left now.left) (sym long) added,
+      rw long added,
     )) c.push_trees.ensures.added c.push_trees.ensures.counted

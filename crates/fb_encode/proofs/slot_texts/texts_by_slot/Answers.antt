@@ -1,14 +1,11 @@
-use Rattle.std.proofs.Common.{◌≡◌, ◌≤◌, ◌∙◌, ◌+◌, ◌-◌, ℕ, List, ap, sym, subst, arith, length, map, false, Option}
+use Rattle.std.proofs.Common.{◌≡◌, ◌≤◌, ◌∙◌, ◌+◌, ◌-◌, ℕ, ap, sym, arith, length, false, Option}
 use Rattle.std.proofs.Common.{IfSome, None, Some}
 use Rattle.std.proofs.Common.{option_copied, option_map}
 use Rattle.std.proofs.lemmas.List.{length-map, take_all}
 use Rattle.fb_schema.specs.Schema.{body_at, slots_in}
 use Rattle.fb_schema.specs.Seen.{field_seen}
 use Rattle.fb_pieces.specs.declared.cut.Member.{Member}
-use Rattle.fb_pieces.specs.CutTexts.{member_texts}
 use Rattle.fb_encode.specs.declared.reader.Excerpt.{Excerpt}
-use Rattle.fb_encode.specs.MembersRead.{AreNamesRead, AreValuesRead}
-use Rattle.fb_encode.specs.TextsRead.{IsRead}
 use Rattle.fb_encode.proofs.slot_texts.TextsAreAtTheirSlots.{none_put}
 use Rattle.fb_encode.proofs.slot_texts.MembersAreInTheText.{member_within}
 use Rattle.fb_encode.proofs.slot_texts.NextMemberIsPut.{next_in_brackets, next_put}
@@ -55,8 +52,7 @@ pub loop-member-preserved : goal.loop-member-preserved
 loop-member-preserved c =
     let S = c.args.source.layout.now.schema in
     let t = c.args.owner.0 in
-    let over = subst (λ (o : Option Excerpt). IfSome o (λ e. IsRead e.brackets e.text.now))
-    c.put_text-over.ensures.over c.in_ok-pass_by_text.ensures in
+    let over = rw c.put_text-over.ensures.over at c.in_ok-pass_by_text.ensures in
     rw (c.put_text-over.ensures.texts, c.known_with-known.ensures)
     (next_put S t c.schema-schema.ensures.made.declared c.args.source.unknown
     (c.args.excerpt.brackets - 1) c.loop-member.texts.items c.loop-member.known c.args.excerpt.text.now
@@ -68,11 +64,9 @@ loop-member-preserved c =
 pub returns-clause-names : goal.returns-clause-names
 returns-clause-names c =
     let all = take_all c.loop-member.member-index c.args.members.now (omega (arith, c.loop-member-test.false)) in
-    subst (λ (ms : List Member). AreNamesRead (c.args.excerpt.brackets - 1)
-    (map (member_texts c.args.excerpt.text.now) ms)) all c.loop-member.invariant.names
+    rw (← all) c.loop-member.invariant.names
 
 pub returns-clause-values : goal.returns-clause-values
 returns-clause-values c read =
     let all = take_all c.loop-member.member-index c.args.members.now (omega (arith, c.loop-member-test.false)) in
-    subst (λ (ms : List Member). AreValuesRead (c.args.excerpt.brackets - 1)
-    (map (member_texts c.args.excerpt.text.now) ms)) all (c.loop-member.invariant.values read)
+    rw (← all) (c.loop-member.invariant.values read)

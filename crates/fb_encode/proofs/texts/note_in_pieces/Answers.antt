@@ -1,7 +1,5 @@
-use Rattle.std.proofs.Common.{◌∙◌, ap, subst}
+use Rattle.std.proofs.Common.{◌∙◌, ap}
 use Rattle.fb_schema.specs.Schema.{DeclaredSchema}
-use Rattle.fb_value.specs.Datum.{Datum}
-use Rattle.fb_json.specs.Outcome.{Counted, Fails}
 use Rattle.fb_encode.proofs.trees.RootIsNoted.{at_root, root_noted}
 use Rattle.fb_encode.proofs.texts.FirstFaultIsRefused.{text_refused}
 use Rattle.fb_encode.proofs.texts.note_in_pieces.Goals as goal
@@ -28,4 +26,4 @@ returns-in-Ok-Err-clause-refused c =
     c.most_cells-cells.result root c.most_depth-levels.ensures.exact c.most_cells-cells.ensures in
     rw c.first_fault.ensures (text_refused L c.args.limits c.args.source.unknown c.args.json.now found.0 found.1
     c.first_fault_refuses.ensures c.in-Ok-Err.fault
-    (subst (λ (r : Counted Datum). Fails c.in-Ok-Err.fault r) same found.2))
+    (rw (← same) found.2))
