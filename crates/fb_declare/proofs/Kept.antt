@@ -122,7 +122,7 @@ root_kept : (o : Outline) (S : DeclaredSchema) → Gives o S → (root : Option 
     → Some S.root ≡ table_of (meaning_of_root o.types root) → Names is_table S S.root
 root_kept o S g None e = cc
 root_kept o S g (Some r) e = rw (← e) at
-  (table_named S (meaning_of o.types r.scope r.name.bytes) (means_in o S g r.scope r.name.bytes) (ap is_none (sym e)))
+    (table_named S (meaning_of o.types r.scope r.name.bytes) (means_in o S g r.scope r.name.bytes) (ap is_none (sym e)))
 
 -- ---- bodies
 

@@ -61,7 +61,7 @@ covered_shown L m front s e v lies tight inline one root made =
       made = made;
       shared = rw places (equal_further front s (tables_vtables s (parts_in_tail L s X e v)) one);
       tables = rw (← behind) (each_at_moved L (from_end s m) (λ a p. true) s b k (omega (arith, whole)) bytes
-      (λ a p low is. refl)
+          (λ a p low is. refl)
           (λ t p. IsTightInTail L s t p) (λ t p. IsTightTable L b t p)
           (λ t p slots known. (tight_further_on L s b k bytes t p slots known).tight) (part_place X)
           (length s - e) v lies.lies tight);

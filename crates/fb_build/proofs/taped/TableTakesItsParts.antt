@@ -171,7 +171,7 @@ module _ (L : LaidSchema) (vtables : List Bytes) (fields : ℕ) (align : Alignme
     known = known.known;
     noted = m.lays.noted;
     references = rw (spread_references L fs xs es fit known.known.long es_long) at
-    (in_order L fs xs targets (laying_order L fs xs) notes bytes m.lays.noted);
+        (in_order L fs xs targets (laying_order L fs xs) notes bytes m.lays.noted);
     align_is = m.lays.align_is;
     each = spread_long fs xs es known.known.long;
     state = spread_state L a.most a.bytes fs m.lays.entries es fit there;

@@ -35,7 +35,7 @@ pub inline_then : (L : LaidSchema) (kind : StoredKind) (a b c : Taped) (xs ys : 
     → AddsInline L kind b c ys → AddsInline L kind a c (xs ++ ys)
 inline_then L kind a b c xs ys first second = record {
   unfinished = λ count before h. rw (← (append_assoc before xs ys))
-  (second.unfinished count (before ++ xs) (first.unfinished count before h));
+      (second.unfinished count (before ++ xs) (first.unfinished count before h));
   waits = λ others w. second.waits others (first.waits others w);
   room = second.room ∙ first.room;
   layout = second.layout ∙ first.layout;

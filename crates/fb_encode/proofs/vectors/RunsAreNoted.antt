@@ -111,7 +111,7 @@ module _ (L : LaidSchema) (AddsAll : Taped → Taped → List Datum → Type 0) 
             (one_utf8 e (utf8_of_run brackets e es is)));
         count_is = adds ∙ ap (λ (n : ℕ). n + count es) h.count_is ∙ sym sum;
         noted = rw whole (rw (count-append (joined h.items) es)
-        (run_then turn (joined h.items) es (count (joined h.items)) (count es) a b c found now h.noted more));
+            (run_then turn (joined h.items) es (count (joined h.items)) (count es) a b c found now h.noted more));
       }
 
 -- the tape that they are on

@@ -1,5 +1,6 @@
 -- Fields are left whose alignment is below one that was noted, half of it at most.
-use Rattle.std.proofs.Common.{◌≡◌, ◌≤◌, ◌<◌, ◌+◌, ◌-◌, ◌^◌, ◌/◌, ◌++◌, ◌⊎◌, inl, inr, ℕ, zero, suc, List, [], ◌∷◌, length}
+use Rattle.std.proofs.Common.{◌≡◌, ◌≤◌, ◌<◌, ◌+◌, ◌-◌, ◌^◌, ◌/◌, ◌++◌, ◌⊎◌, inl, inr, ℕ, zero, suc, List}
+use Rattle.std.proofs.Common.{[], ◌∷◌, length}
 use Rattle.std.proofs.Common.{length-append, map, flat_map, max, refl, sym, ap, arith}
 use Rattle.std.proofs.Math.Pow.{pow-lt, pow_mono}
 use Rattle.std.proofs.lemmas.List.{length-map}
@@ -105,7 +106,8 @@ falls_next align size opens notes new_notes notes_before bytes new_bytes bytes_b
     new_vtable vtable_before h notes_are bytes_are laid_are vtable_is long = record {
       exponent = h.exponent;
       align_is = rw h.align_is (halved h.exponent);
-      noting = several_noted size (at_align align opens) (fields_below h.exponent opens) (in_order opens) _ _ _ _ _ _ _ _
+      noting = several_noted size (at_align align opens) (fields_below h.exponent opens) (in_order opens) _ _ _ _ _ _ _
+          _
           _ _ _ _ notes_are bytes_are laid_are vtable_is long h.noting;
     }
 

@@ -40,7 +40,7 @@ front_shown L m front s sort e d h =
     record {
       within = omega (arith, h.within, whole);
       lies = rw (← at) (at_moved L (from_end s m) (from_end (front ++ s) m) s (front ++ s) (length front)
-      (omega (arith, whole))
+          (omega (arith, whole))
           (λ i. get_or-append-add front s i 0) (λ a p low is. same a p whole is) sort (length s - e) d h.lies);
     }
   where

@@ -19,8 +19,11 @@ module _ (A B : LaidSchema) where
   first_moved [] m all order e = absurd cc
   first_moved (x ∷ xs) m all order e =
       let same : x ≡ m = cc in
-      rw (← same) (record { moved = (all x).0 (0, omega arith, refl); first = λ n before moved. none n before
-      ((all n).1 moved) })
+      rw (← same) (record {
+        moved = (all x).0 (0, omega arith, refl);
+        first = λ n before moved. none n before
+            ((all n).1 moved);
+      })
     where
       none : (n : MovedName) → IsBefore n x → Contains (x ∷ xs) n → ⊥
       none n before there = by there.0 there.1 there.2

@@ -28,7 +28,7 @@ means c = means_root c.args.layout.now c.args.limits c.args.unknown (tree_view c
 first : (c : In-Err) → (c.in-Err.fault ≡ Memory)
     ⊎ IsFirst c.args.layout.now c.args.limits c.args.unknown (tree_view c.args.tree.now) c.in-Err.fault
 first c = failed c.in-Err.fault _
-  (rw (← (root_object c.args.layout.now c.args.limits c.args.unknown c.root-root.result c.most_depth.result
+    (rw (← (root_object c.args.layout.now c.args.limits c.args.unknown c.root-root.result c.most_depth.result
     c.most_cells.result (c.root-root.ensures ∙ ap (λ (s : DeclaredSchema). s.root) c.schema.ensures.schema)
     c.most_depth.ensures.exact c.most_cells.ensures (tree_view c.args.tree.now)
     (members_view c.in-Some.members.now.entries) c.in-Some.ensures)) c.in-Err.ensures.gives)

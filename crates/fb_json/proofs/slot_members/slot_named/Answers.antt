@@ -21,17 +21,20 @@ module _ (p : DeclaredField → Bool) (slots : List FieldInfo) (k : ℕ) (slot :
 
 pub loop-slot-preserved : goal.loop-slot-preserved
 loop-slot-preserved c =
-    let fails = ap (bytes_eq c.args.name.now) (sym c.as_str.ensures.value) ∙ (sym c.is_same.ensures ∙ c.if-is_same.false) in
+    let fails = ap (bytes_eq c.args.name.now) (sym c.as_str.ensures.value) ∙
+    (sym c.is_same.ensures ∙ c.if-is_same.false) in
     c.loop-slot.invariant
     ∙ found_behind (λ f. bytes_eq c.args.name.now f.name) c.args.slots.now c.loop-slot.slot-index c.slot-item.result
     c.loop-slot-test.true c.slot-item.is fails
 
 pub returns-then-is_same : goal.returns-then-is_same
 returns-then-is_same c =
-    let passes = ap (bytes_eq c.args.name.now) (sym c.as_str.ensures.value) ∙ (sym c.is_same.ensures ∙ c.if-is_same.true) in
+    let passes = ap (bytes_eq c.args.name.now) (sym c.as_str.ensures.value) ∙
+    (sym c.is_same.ensures ∙ c.if-is_same.true) in
     sym (c.loop-slot.invariant
     ∙ found_here (λ f. bytes_eq c.args.name.now f.name) c.args.slots.now c.loop-slot.slot-index c.slot-item.result
     c.loop-slot-test.true c.slot-item.is passes)
 
 pub returns : goal.returns
-returns c = sym (c.loop-slot.invariant ∙ rw (drop_all c.loop-slot.slot-index c.args.slots.now c.loop-slot-test.false) refl)
+returns c = sym (c.loop-slot.invariant ∙ rw (drop_all c.loop-slot.slot-index c.args.slots.now c.loop-slot-test.false)
+    refl)

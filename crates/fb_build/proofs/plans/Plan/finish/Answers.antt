@@ -16,12 +16,12 @@ returns-clause-holds c most raw deep small =
 
 pub returns-clause-old_slots : goal.returns-clause-old_slots
 returns-clause-old_slots c = rw (← (ap (λ p. p.layout) c.self.view_is))
-  (rw c.self.invariant.bare at c.finish.ensures.old_slots)
+    (rw c.self.invariant.bare at c.finish.ensures.old_slots)
 
 pub returns-clause-covered : goal.returns-clause-covered
 returns-clause-covered c = rw (← (ap (λ p. p.layout) c.self.view_is))
-  (rw c.self.invariant.bare at c.finish.ensures.covered)
+    (rw c.self.invariant.bare at c.finish.ensures.covered)
 
 pub returns-clause-aligned : goal.returns-clause-aligned
 returns-clause-aligned c = rw (← (ap (λ p. p.layout) c.self.view_is))
-  (rw c.self.invariant.bare at c.finish.ensures.aligned)
+    (rw c.self.invariant.bare at c.finish.ensures.aligned)

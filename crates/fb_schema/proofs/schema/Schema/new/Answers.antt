@@ -24,7 +24,7 @@ invariant_of-result c =
       keyed = c.key_of_types-key.ensures ∙ ap (λ (l : List TypeInfo). key_of_types (map type_seen l))
           c.as_slice.ensures.value;
       full = rw (← (full_names c.args.types.items c.as_slice-2.result.now c.as_slice-2.ensures.value))
-      c.in_ok-full_names.ensures;
+          c.in_ok-full_names.ensures;
       names = lent_indexes (λ index t. IndexesNames index (inner_names t.body)) c.in_ok-inner_names.inner_names.items
           c.args.types.items c.as_slice-3.result.now c.as_slice-3.ensures.value c.in_ok-inner_names.ensures;
       numbers = lent_indexes (λ index t. IndexesNumbers index (inner_numbers t.body))

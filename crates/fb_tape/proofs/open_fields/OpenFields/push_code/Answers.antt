@@ -15,13 +15,16 @@ empty = record { schema = record { types = []; root = 0; identifier = None }; st
 pub invariant_of-self-2 : goal.invariant_of-self-2
 invariant_of-self-2 c =
     inline_inside empty (scalar_kind U8) _ c.self.inside.bytes.items c.push_number.new.bytes.items
-    c.self.inside.fields.items c.push_reserved.new.self.items _ c.self.invariant (c.in_ok-push_number.ensures.adds empty)
+    c.self.inside.fields.items c.push_reserved.new.self.items _ c.self.invariant
+    (c.in_ok-push_number.ensures.adds empty)
     (rw c.reserve.ensures.items at c.push_reserved.ensures.items) refl (omega (arith, c.len-first.ensures))
 
 pub returns-clause-adds : goal.returns-clause-adds
 returns-clause-adds c L =
     let same = same_wide U8 (pos c.args.code) (omega (arith, ints), omega (arith, ints)) in
-    rw (← c.self.view_is) (inline_field_added L c.args.slot (scalar_kind U8) (a_number (pos c.args.code)) c.self.inside.bytes.items
+    rw (← c.self.view_is) (inline_field_added L c.args.slot (scalar_kind U8) (a_number (pos c.args.code))
+    c.self.inside.bytes.items
     c.push_number.new.bytes.items c.self.inside.fields.items c.push_reserved.new.self.items _ c.self.invariant
-    (rw (c.from.ensures, same) at c.in_ok-push_number.ensures.adds L) (rw c.reserve.ensures.items at c.push_reserved.ensures.items) refl refl refl
+    (rw (c.from.ensures, same) at c.in_ok-push_number.ensures.adds L)
+    (rw c.reserve.ensures.items at c.push_reserved.ensures.items) refl refl refl
     (omega (arith, c.len-first.ensures)))

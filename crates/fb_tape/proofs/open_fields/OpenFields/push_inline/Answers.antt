@@ -38,7 +38,9 @@ invariant_of-self-2 c =
 
 pub returns-clause-adds : goal.returns-clause-adds
 returns-clause-adds c =
-    rw (← c.self.view_is) (inline_field_added c.args.layout.now c.args.slot (kind_seen c.args.layout.now c.args.kind) (view c.args.value.now)
+    rw (← c.self.view_is) (inline_field_added c.args.layout.now c.args.slot (kind_seen c.args.layout.now c.args.kind)
+    (view c.args.value.now)
     c.self.inside.bytes.items c.push_inline.new.bytes.items c.self.inside.fields.items c.push_reserved.new.self.items _
-    c.self.invariant c.in_ok-push_inline.ensures.adds (rw c.reserve.ensures.items at c.push_reserved.ensures.items) refl c.align_of.ensures
+    c.self.invariant c.in_ok-push_inline.ensures.adds (rw c.reserve.ensures.items at c.push_reserved.ensures.items)
+    refl c.align_of.ensures
     (ap (λ n. Inline n) c.size_of.ensures) (omega (arith, c.len-first.ensures)))

@@ -93,7 +93,8 @@ returns-clause-waits c others xs h waits =
     table_laid before after t c.in_ok-vtable.vtable c.of.result others xs opens
     (c.of.ensures ∙ c.in_ok-align.ensures.align) (record {
       layout = ap (λ (t : Taped). t.layout) seen;
-      ops = rw (← count, ← ap (λ (t : Taped). t.ops) seen) (rw c.reserve.ensures.items at c.push_reserved.ensures.items);
+      ops = rw (← count, ← ap (λ (t : Taped). t.ops) seen)
+          (rw c.reserve.ensures.items at c.push_reserved.ensures.items);
       notes = adds.notes_are
           ∙ ap (λ (ns : List NotedField). ns ++ notes_of (in_order opens)) (ap (λ (t : Taped). t.notes) seen);
       bytes = all_taken c.len-self-inside.result c.note_table.new.bytes.items
