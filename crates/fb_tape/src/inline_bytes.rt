@@ -81,7 +81,8 @@ fn push_zeros(bytes: &mut Vec<u8>, count: usize) -> Result<(), AllocError>
 }
 
 /// The basic type of a number's kind.
-fn scalar_base(layout: &Layout, kind: Kind) -> Option<Base>
+#[inline(always)]
+pub(crate) fn scalar_base(layout: &Layout, kind: Kind) -> Option<Base>
     ensures { result ≡ scalar_in (one_of (kind_seen layout.now kind)) }
 {
     match kind {
@@ -93,6 +94,7 @@ fn scalar_base(layout: &Layout, kind: Kind) -> Option<Base>
 }
 
 /// Adds the bytes of a number or a struct.
+#[inline(always)]
 #[cycle(inline)]
 pub(crate) fn push_inline(
     bytes: &mut Vec<u8>,
@@ -117,7 +119,7 @@ pub(crate) fn push_inline(
 
 /// Adds the fields of a struct, with the zeros in front of and behind them.
 #[cycle(inline)]
-fn push_struct(
+pub(crate) fn push_struct(
     bytes: &mut Vec<u8>,
     layout: &Layout,
     structure: TypeId,

@@ -1,22 +1,30 @@
 //! The stored fields of tables that aren't whole yet.
 ghost use Rattle.std.specs.Prelude.{ℕ, ◌≡◌, ◌≤◌, ◌<◌, ◌++◌, [], ◌∷◌, length, take, pos, OnOk, OnErr};
+ghost use Rattle.fb_schema.specs.WellDeclared.{InRange};
 ghost use Rattle.fb_schema.specs.declared.kinds.Base.TheVariants.{U8};
-ghost use Rattle.fb_layout.specs.Laid.{LaidSchema, one_of, scalar_kind};
+ghost use Rattle.fb_layout.specs.Laid.{LaidSchema, one_of, scalar_kind, struct_kind};
 ghost use Rattle.fb_layout.specs.Seen.{kind_seen};
-ghost use Rattle.fb_value.specs.Datum.{a_number};
+ghost use Rattle.fb_value.specs.Datum.{a_number, a_struct};
 ghost use Rattle.fb_value.specs.Fits.{Fits};
-ghost use Rattle.fb_value.specs.View.{view};
+ghost use Rattle.fb_value.specs.View.{view, parts_view};
 ghost use Rattle.fb_tape.specs.InlineBytes.{IsInline};
 ghost use Rattle.fb_tape.specs.OpenFields.{AddsInlineField, reference_field};
 ghost use Rattle.fb_tape.specs.OpenList.{AreBytesAt, IsFieldAt, own_size};
 
-use crate::inline_bytes::{push_inline, push_number};
+use crate::inline_bytes::{push_number, push_struct, scalar_base};
 use crate::ops::NotedField;
 use fb_layout::Layout;
-use fb_schema::{Base, Kind};
+use fb_schema::{Base, Kind, TypeId};
 use fb_value::Value;
 use std::alloc::{AllocError, Global};
 use std::marker::Model;
+
+// How many fields there is memory for at first: the open tables of a short text mostly have no more. Else the list
+// would grow many times for it.
+const FIRST_FIELDS: usize = 32;
+
+// the same for their bytes
+const FIRST_BYTES: usize = 128;
 
 /// A field, whose bytes are among those of all open fields.
 #[derive(Clone, Copy)]
@@ -68,6 +76,14 @@ impl OpenFields {
         }
     }
 
+    /// Takes memory for a few fields.
+    pub fn reserve(&mut self) -> Result<(), AllocError>
+        ensures same { self.new ≡ self.old }
+    {
+        self.fields.reserve(FIRST_FIELDS)?;
+        self.bytes.reserve(FIRST_BYTES)
+    }
+
     /// How many fields there are.
     pub fn len(&self) -> usize
         ensures exact { result ≡ length self.now }
@@ -92,19 +108,31 @@ impl OpenFields {
             self.old self.new) }
         ensures kept { OnErr result (self.new ≡ self.old) }
     {
+        self.push_number(slot, Base::U8, i128::from(code))
+    }
+
+    /// Adds a number in a slot.
+    fn push_number(&mut self, slot: u16, base: Base, number: i128) -> Result<(), AllocError>
+        requires range { InRange base number }
+        ensures adds { (L : LaidSchema) → OnOk result (AddsInlineField L slot (scalar_kind base) (a_number number)
+            self.old self.new) }
+        ensures kept { OnErr result (self.new ≡ self.old) }
+    {
         self.fields.reserve(1)?;
         let first = self.bytes.len();
-        push_number(&mut self.bytes, Base::U8, i128::from(code))?;
+        push_number(&mut self.bytes, base, number)?;
+        let size = base.size();
         self.fields.push_reserved(OpenField {
             slot,
-            align: 1,
-            note: NotedField::Inline(1),
+            align: size,
+            note: NotedField::Inline(size),
             first,
         });
         Ok(())
     }
 
     /// Adds a number or a struct in a slot.
+    #[inline(always)]
     pub fn push_inline(
         &mut self,
         layout: &Layout,
@@ -118,10 +146,34 @@ impl OpenFields {
             self.old self.new) }
         ensures kept { OnErr result (self.new ≡ self.old) }
     {
+        match (value, scalar_base(layout, kind), kind) {
+            (Value::Number(number), Some(base), _) => self.push_number(slot, base, *number),
+            (Value::Fixed(parts), None, Kind::Struct(structure)) => {
+                self.push_struct(layout, slot, structure, parts)
+            }
+            _ => unreachable!(),
+        }
+    }
+
+    /// Adds a struct of these parts in a slot.
+    pub fn push_struct(
+        &mut self,
+        layout: &Layout,
+        slot: u16,
+        structure: TypeId,
+        parts: &[Value],
+    ) -> Result<(), AllocError>
+        requires inline { IsInline layout.now (struct_kind structure.0) }
+        requires fits { Fits layout.now (one_of (struct_kind structure.0)) (a_struct (parts_view parts.now)) }
+        ensures adds { OnOk result (AddsInlineField layout.now slot (struct_kind structure.0)
+            (a_struct (parts_view parts.now)) self.old self.new) }
+        ensures kept { OnErr result (self.new ≡ self.old) }
+    {
         let _schema = layout.schema(); // its contract: the layout is well made
         self.fields.reserve(1)?;
         let first = self.bytes.len();
-        push_inline(&mut self.bytes, layout, kind, value)?;
+        push_struct(&mut self.bytes, layout, structure, parts)?;
+        let kind = Kind::Struct(structure);
         self.fields.push_reserved(OpenField {
             slot,
             align: layout.align_of(kind) as u16,

@@ -3,16 +3,16 @@ ghost use Rattle.std.specs.Prelude.{ℕ, ◌≡◌, ◌≤◌, ◌<◌, ◌+◌,
 ghost use Rattle.std.specs.Prelude.{false, length, drop};
 ghost use Rattle.std.specs.Prelude.{slice_get, IsTrue, OnOk};
 ghost use Rattle.byteorder.specs.Endian.{little_bytes};
-ghost use Rattle.fb_layout.specs.Laid.{one_of, slots_of, align_of};
+ghost use Rattle.fb_layout.specs.Laid.{one_of, struct_kind, slots_of, align_of};
 ghost use Rattle.fb_layout.specs.Seen.{kind_seen};
 ghost use Rattle.fb_layout.specs.Widths.{greatest};
 ghost use Rattle.fb_value.specs.Counts.{entries_whole};
-ghost use Rattle.fb_value.specs.Datum.{Datum, a_text, a_vector, a_table};
+ghost use Rattle.fb_value.specs.Datum.{Datum, a_text, a_vector, a_struct, a_table};
 ghost use Rattle.fb_value.specs.Fits.{EntriesFit, Fits};
 ghost use Rattle.fb_value.specs.Places.{table_part, text_part, vector_part};
 ghost use Rattle.fb_value.specs.Room.{table_room, vector_room};
 ghost use Rattle.fb_value.specs.UpTo.{at_most_usize};
-ghost use Rattle.fb_value.specs.View.{view, parts_in, entries_in};
+ghost use Rattle.fb_value.specs.View.{view, parts_view, parts_in, entries_in};
 ghost use Rattle.fb_tape.specs.InlineBytes.{IsInline};
 ghost use Rattle.fb_tape.specs.KnownVtables.{EachHasOneNumber};
 ghost use Rattle.fb_tape.specs.NamedParts.{NamedPart, elements_apart, entries_apart};
@@ -21,7 +21,7 @@ ghost use Rattle.fb_tape.specs.StoredFields.{is_reference, ItemsKnown};
 ghost use Rattle.fb_tape.specs.Tapes.{IsUnfinished, Waits};
 ghost use Rattle.fb_tape.specs.declared.ops.Op.TheVariants.{Data};
 
-use crate::inline_bytes::{push_few, push_inline};
+use crate::inline_bytes::{push_few, push_inline, push_struct};
 use crate::known_vtables::KnownVtables;
 use crate::open_fields::OpenFields;
 use crate::ops::{Alignment, NotedField, Op};
@@ -38,6 +38,16 @@ const MOST_BYTES: usize = 2_147_483_647;
 
 // how many sizes there are in 32 bits
 const SIZES: usize = 4_294_967_296;
+
+// How many operations there is memory for at first: the tape of a short text mostly has no more. Else the list would
+// grow many times for it.
+const FIRST_OPS: usize = 32;
+
+// the same for fields
+const FIRST_FIELDS: usize = 64;
+
+// the same for bytes
+const FIRST_BYTES: usize = 512;
 
 /// What is to be laid of a value, operation by operation, in the order of laying: a part comes behind all that it
 /// refers to. Once the parts are too big for a buffer together nothing more is noted, and only their rooms are summed
@@ -89,6 +99,15 @@ impl<'l> Tape<'l> {
             offsets: Offsets::new(alloc),
             room: 0,
         }
+    }
+
+    /// Takes memory for the first parts.
+    pub fn reserve(&mut self) -> Result<(), AllocError>
+        ensures same { self.new ≡ self.old }
+    {
+        self.ops.reserve(FIRST_OPS)?;
+        self.fields.reserve(FIRST_FIELDS)?;
+        self.bytes.reserve(FIRST_BYTES)
     }
 
     /// The rooms of all parts together, 2^64 - 1 at most.
@@ -207,7 +226,16 @@ impl<'l> Tape<'l> {
         self.push_count(count)
     }
 
+    /// Whether no bytes of the vector that was begun are noted, since it is too big for a buffer.
+    #[inline(always)]
+    fn leaves_vector_out(&self) -> bool
+        ensures exact { IsTrue result ↔ (self.now.unfinished ≡ []) }
+    {
+        self.bytes.len() == self.finished
+    }
+
     /// Adds the next element of the vector that was begun.
+    #[inline(always)]
     pub fn push_element(&mut self, kind: Kind, value: &Value) -> Result<(), AllocError>
         requires inline { IsInline self.old.layout (kind_seen self.old.layout kind) }
         requires fits { Fits self.old.layout (one_of (kind_seen self.old.layout kind)) (view value.now) }
@@ -219,11 +247,28 @@ impl<'l> Tape<'l> {
         ensures room { OnOk result (self.new.room ≡ self.old.room) }
         ensures layout { self.new.layout ≡ self.old.layout }
     {
-        if self.bytes.len() == self.finished {
-            // The vector is too big for a buffer.
+        if self.leaves_vector_out() {
             return Ok(());
         }
         push_inline(&mut self.bytes, self.layout, kind, value)
+    }
+
+    /// Adds the next struct of the vector that was begun.
+    pub fn push_struct(&mut self, structure: TypeId, parts: &[Value]) -> Result<(), AllocError>
+        requires inline { IsInline self.old.layout (struct_kind structure.0) }
+        requires fits { Fits self.old.layout (one_of (struct_kind structure.0)) (a_struct (parts_view parts.now)) }
+        ensures waits { OnOk result ((ps : List NamedPart) → Waits self.old ps → Waits self.new ps) }
+        ensures adds { OnOk result ((count : ℕ) (ds : List Datum)
+            → IsUnfinished self.old.layout (struct_kind structure.0) count ds self.old.unfinished
+            → IsUnfinished self.old.layout (struct_kind structure.0) count
+            (ds ++ (a_struct (parts_view parts.now) ∷ [])) self.new.unfinished) }
+        ensures room { OnOk result (self.new.room ≡ self.old.room) }
+        ensures layout { self.new.layout ≡ self.old.layout }
+    {
+        if self.leaves_vector_out() {
+            return Ok(());
+        }
+        push_struct(&mut self.bytes, self.layout, structure, parts)
     }
 
     /// Notes that the vector whose elements came is laid.

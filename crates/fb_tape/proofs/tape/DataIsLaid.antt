@@ -1,8 +1,9 @@
 -- A text, or a vector of numbers or structs, is laid.
 use Rattle.std.proofs.Common.{ℕ, ◌+◌, ◌-◌, ◌*◌, ◌%◌, ◌^◌, ◌≡◌, ◌≤◌, ◌<◌, ◌++◌, ◌↔◌, IsTrue, inl, inr, max, false}
 use Rattle.std.proofs.Common.{List, [], ◌∷◌, length, refl, ap, sym, ◌∙◌, arith, append-nil, append_assoc}
-use Rattle.std.proofs.Common.{length-append, drop}
+use Rattle.std.proofs.Common.{length-append, drop, Result, OnOk}
 use Rattle.std.proofs.lemmas.List.{drop-append-le}
+use Rattle.std.proofs.lemmas.Result.{on_ok_weaker}
 use Rattle.std.specs.Str.{IsUtf8}
 use Rattle.byteorder.specs.Endian.{little_bytes}
 use Rattle.fb_layout.specs.Laid.{LaidSchema, StoredKind, one_of, size_of, align_of}
@@ -131,17 +132,28 @@ one_element_more L kind d own inline (first ∷ ds) bytes h = record {
   rest = one_element_more L kind d own inline ds h.behind h.rest;
 }
 
-pub element_added : (L : LaidSchema) (kind : StoredKind) (count : ℕ) (ds : List Datum) (d : Datum) (finished : ℕ)
+element_behind : (L : LaidSchema) (kind : StoredKind) (count : ℕ) (ds : List Datum) (d : Datum) (finished : ℕ)
     (before after : Bytes) → finished ≤ length before → AddsInline L kind d before after
     → IsUnfinished L kind count ds (drop finished before)
     → IsUnfinished L kind count (ds ++ (d ∷ [])) (drop finished after)
-element_added L kind count ds d finished before after within added h = record {
+element_behind L kind count ds d finished before after within added h = record {
   element_bytes = h.element_bytes ++ added.0;
   bytes_are = ap (drop finished) added.1 ∙ drop-append-le finished before added.0 within
       ∙ ap (λ (x : Bytes). x ++ added.0) h.bytes_are
       ∙ append_assoc (little_bytes 4 count) h.element_bytes added.0;
   stand = one_element_more L kind d added.0 added.2 ds h.element_bytes h.stand;
 }
+
+-- The tape t is held with these bytes, of which so many are finished.
+pub element_added : {T E : Type 0} (r : Result T E) (t : Taped) (L : LaidSchema) (kind : LaidSchema → StoredKind)
+    (d : Datum) (finished : ℕ) (before after : Bytes) → finished ≤ length before → L ≡ t.layout
+    → drop finished before ≡ t.unfinished → OnOk r (AddsInline L (kind L) d before after)
+    → OnOk r ((count : ℕ) (ds : List Datum) → IsUnfinished t.layout (kind t.layout) count ds t.unfinished
+    → IsUnfinished t.layout (kind t.layout) count (ds ++ (d ∷ [])) (drop finished after))
+element_added r t L kind d finished before after within same held added =
+    on_ok_weaker r (λ own count ds begun.
+    rw (← same) (element_behind L (kind L) count ds d finished before after within own (rw (← same, ← held) at begun)))
+    added
 
 pub vector_waits : (before after : Taped) (kind : StoredKind) (align : Alignment) (ds : List Datum) (own : Bytes)
     (ps : List NamedPart) → aligned_to align ≡ max 4 (align_of before.layout kind)

@@ -1,10 +1,11 @@
-use Rattle.std.proofs.Common.{◌≡◌, ◌-◌, length, slice_index, arith, rules}
+use Rattle.std.proofs.Common.{◌≡◌, ◌-◌, length, slice_index, OnOk, arith, rules}
 use Rattle.std.proofs.lemmas.Result.{on_ok_weaker}
 use Rattle.fb_layout.specs.Laid.{stored_kind, parts_of, struct_at, scalar_kind}
 use Rattle.fb_layout.specs.Seen.{kind_seen}
 use Rattle.fb_value.specs.declared.values.Value.{the_lemmas}
+use Rattle.fb_tape.specs.InlineBytes.{AddsInline}
 use Rattle.fb_tape.proofs.inline_bytes.BytesAreOnlyAdded.{then_only, some_only, inline_only}
-use Rattle.fb_tape.proofs.inline_bytes.InlineKindsAreNumbersOrStructs.{number_inline}
+use Rattle.fb_tape.proofs.inline_bytes.InlineKindsAreNumbersOrStructs.{number_seen}
 use Rattle.fb_tape.proofs.inline_bytes.StructFieldsAreAdded.{added_within, fields_only, offset_is}
 use Rattle.fb_tape.proofs.inline_bytes.StructFieldsAreAdded.{one_added, all_added}
 use Rattle.fb_tape.proofs.inline_bytes.StructsAreKnown.{struct_known, kind_found, part_fits_at, index_past}
@@ -13,9 +14,10 @@ use Rattle.fb_tape.proofs.inline_bytes.+inline.Goals as goal
 pub push_inline-returns-in-Number-Some-default-clause-adds : goal.push_inline-returns-in-Number-Some-default-clause-adds
 push_inline-returns-in-Number-Some-default-clause-adds t c =
     let arm = c.in-Number-Some-default in
-    number_inline c.push_number.result c.args.layout.now (kind_seen c.args.layout.now c.args.kind) arm.base
-    c.args.value.now arm.number c.args.bytes.now.items c.push_number.new.bytes.items c.requires.inline arm.ensures
-    arm.is-0 c.requires.fits (c.push_number.ensures.adds c.args.layout.now)
+    number_seen c.args.layout.now (kind_seen c.args.layout.now c.args.kind) arm.base c.args.value.now arm.number
+    (λ kind d. OnOk c.push_number.result
+    (AddsInline c.args.layout.now kind d c.args.bytes.now.items c.push_number.new.bytes.items))
+    c.requires.inline arm.ensures arm.is-0 c.requires.fits (c.push_number.ensures.adds c.args.layout.now)
 
 pub push_inline-returns-in-Number-Some-default-clause-kept : goal.push_inline-returns-in-Number-Some-default-clause-kept
 push_inline-returns-in-Number-Some-default-clause-kept t c =

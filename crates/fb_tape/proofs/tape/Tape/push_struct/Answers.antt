@@ -1,0 +1,14 @@
+use Rattle.std.proofs.Common.{ap}
+use Rattle.fb_layout.specs.Laid.{struct_kind}
+use Rattle.fb_value.specs.Datum.{a_struct}
+use Rattle.fb_value.specs.View.{parts_view}
+use Rattle.fb_tape.specs.Tapes.{Taped}
+use Rattle.fb_tape.proofs.tape.DataIsLaid.{element_added}
+use Rattle.fb_tape.proofs.tape.Tape.push_struct.Goals as goal
+
+pub returns-clause-adds : goal.returns-clause-adds
+returns-clause-adds c =
+    element_added c.push_struct.result c.args.self.now c.self.inside.layout.now (λ L. struct_kind c.args.structure.0)
+    (a_struct (parts_view c.args.parts.now)) c.self.inside.finished c.self.inside.bytes.items
+    c.push_struct.new.bytes.items c.self.invariant.within (ap (λ (t : Taped). t.layout) c.self.view_is)
+    (ap (λ (t : Taped). t.unfinished) c.self.view_is) c.push_struct.ensures.adds
