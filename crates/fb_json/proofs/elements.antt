@@ -1,3 +1,4 @@
 -- What the proofs of src/elements.rt use.
 pub mod NumberIsMeant
 pub mod ReadValueFitsItsPlace
+pub mod StructsAreObjects

@@ -1,2 +1,2 @@
 -- What the proofs of src/members.rt use.
-pub mod MapFindsTheMembers
+pub mod LookUpFindsMembers

@@ -1,12 +1,15 @@
-//! Elements of vectors, for who reads a vector element by element.
-ghost use Rattle.std.specs.Prelude.{◌≡◌, ℕ, true, IfOk, IfSome};
+//! Numbers and structs, for who reads a tree part by part.
+ghost use Rattle.std.specs.Prelude.{◌≡◌, ◌≢◌, ℕ, None, true, IfOk, IfSome, OnOk};
 ghost use Rattle.serde_json.specs.View.{view as tree_view};
+ghost use Rattle.fb_schema.specs.declared.kinds.Base.{Base};
+ghost use Rattle.fb_schema.specs.declared.kinds.Kind.TheVariants.{Struct};
 ghost use Rattle.fb_schema.specs.declared.kinds.Shape.TheVariants.{One};
-ghost use Rattle.fb_layout.specs.Laid.{stored_shape};
+ghost use Rattle.fb_layout.specs.Laid.{scalar_kind, stored_kind, stored_shape};
 ghost use Rattle.fb_value.specs.Counts.{is_whole};
-ghost use Rattle.fb_value.specs.Datum.{a_number};
+ghost use Rattle.fb_value.specs.Datum.{a_number, a_struct};
 ghost use Rattle.fb_value.specs.Fits.{Fits};
-ghost use Rattle.fb_value.specs.View.{view};
+ghost use Rattle.fb_value.specs.View.{parts_view};
+ghost use Rattle.fb_json.specs.FaultPaths.{front_of, rest_of, tree_spot};
 ghost use Rattle.fb_json.specs.Meant.{meant};
 ghost use Rattle.fb_json.specs.Outcome.{Gives};
 
@@ -14,32 +17,37 @@ use crate::faults::{JsonFault, Place};
 use crate::room::Room;
 use crate::scalars::{enum_of, scalar_of};
 use crate::source::Source;
+use crate::structs::struct_of;
 use crate::trail::Trail;
-use crate::tree::value;
-use fb_schema::{Kind, Shape};
+use fb_schema::{Kind, TypeId};
 use fb_value::Value;
 use serde_json::Value as Json;
 
-/// The value that a tree means as an element of a vector, and the cells that are left.
-pub fn element_of(
+/// The parts of the struct that a tree means are left in `parts`, and the cells that are left are returned.
+pub fn struct_parts(
     source: Source,
     tree: &Json,
-    kind: Kind,
+    owner: TypeId,
     place: Place,
     levels: u8,
     left: u32,
-) -> Result<(Value, u32), JsonFault>
-    ensures gives { Gives (λ x. (view x.0, x.1)) result
-        (meant source.entry.layout.now source.entry.unknown (tree_view tree.now)
-        (One kind) place levels left) }
+    parts: &mut Vec<Value>,
+) -> Result<u32, JsonFault>
+    ensures gives { Gives (λ rest. (a_struct (parts_view parts.new.items), rest)) result
+        (meant source.entry.layout.now source.entry.unknown (tree_view tree.now) (One (Struct owner))
+        place levels left) }
     ensures fits { let L = source.entry.layout.now in
-        IfOk result (λ x. Fits L (stored_shape L.schema (One kind)) (view x.0)) }
-    ensures whole { IfOk result (λ x. is_whole (view x.0) ≡ true) }
+        OnOk result (Fits L (stored_shape L.schema (One (Struct owner))) (a_struct (parts_view parts.new.items))) }
+    ensures whole { OnOk result (is_whole (a_struct (parts_view parts.new.items)) ≡ true) }
 {
     let _schema = source.layout.schema(); // its contract: what each enum names is in its range
+    parts.clear();
+    let Some(members) = tree.as_object() else {
+        return Err(JsonFault::WrongShape(place));
+    };
     let room = Room { levels, left };
-    let shape = Shape::One(kind);
-    value(source, &mut Trail::unkept(), tree, shape, place, room)
+    let left = struct_of(source, &mut Trail::unkept(), members, owner, room, parts)?;
+    Ok(left)
 }
 
 /// The number that a tree means as an element of a vector of numbers: `None` where the kind isn't one of numbers.
@@ -54,6 +62,11 @@ pub fn number_of(
         (meant source.entry.layout.now source.entry.unknown (tree_view tree.now) (One kind) place levels left)) }
     ensures fits { let L = source.entry.layout.now in IfSome result (λ read. IfOk read (λ n.
         Fits L (stored_shape L.schema (One kind)) (a_number n))) }
+    ensures none { result ≡ None → (base : Base)
+        → stored_kind source.entry.layout.now.schema kind ≢ scalar_kind base }
+    ensures front { let L = source.entry.layout.now in IfSome result (λ read. (levels left : ℕ)
+        → front_of L source.entry.unknown (tree_spot (tree_view tree.now) (One kind) place levels left)
+        ≡ rest_of (meant L source.entry.unknown (tree_view tree.now) (One kind) place levels left)) }
 {
     let _schema = source.layout.schema(); // its contract: what each enum names is in its range
     match kind {

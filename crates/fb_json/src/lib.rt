@@ -10,6 +10,7 @@ mod flags;
 mod laws;
 mod leaves;
 mod members;
+mod numbered_members;
 mod paths;
 mod room;
 mod root;
@@ -24,7 +25,7 @@ mod tree;
 
 pub use absent::{is_absent, is_null, without};
 pub use codes::code_of_slot;
-pub use elements::{element_of, number_of};
+pub use elements::{number_of, struct_parts};
 pub use faults::{JsonFault, Place};
 pub use flags::has_flags;
 pub use laws::{
@@ -34,6 +35,6 @@ pub use laws::{
 pub use leaves::text_of;
 pub use paths::fault_path;
 pub use root::value_of;
-pub use slot_members::{members_by_slot, places};
+pub use slot_members::{SlotMembers, members_by_slot};
 pub use source::Source;
 pub use step::Step;

@@ -1,73 +1,107 @@
-//! The members of a table by its slots.
-ghost use Rattle.std.specs.Prelude.{◌≡◌, ◌||◌, Bool, None, Some, bytes_eq, find, length, map, option_copied};
-ghost use Rattle.std.specs.Prelude.{option_map, replicate, set, IfOk};
+//! The members of a table by its slots, or of a struct by its fields.
+ghost use Rattle.std.specs.Prelude.{◌≡◌, ◌<◌, ◌||◌, [], Bool, None, Some, bytes_eq, find, length, map, option_copied};
+ghost use Rattle.std.specs.Prelude.{option_map, replicate, set, slice_get, IfOk};
 ghost use Rattle.serde_json.specs.View.{members_view};
-ghost use Rattle.fb_schema.specs.Schema.{body_at, slots_in};
+ghost use Rattle.fb_schema.specs.Schema.{body_at};
 ghost use Rattle.fb_schema.specs.Seen.{field_seen};
 ghost use Rattle.fb_schema.specs.Found.{field_named};
 ghost use Rattle.fb_layout.specs.Laid.{LaidSchema};
 ghost use Rattle.fb_json.specs.Meant.{if_known, look, names_known, type_place};
 ghost use Rattle.fb_json.specs.Outcome.{Gives};
-ghost use Rattle.fb_json.specs.SlotMembers.{AreMembersOf, looked_up, places};
+ghost use Rattle.fb_json.specs.SlotMembers.{AreFieldsOf, AreMembersOf};
 
 use crate::faults::{JsonFault, Place};
 use crate::members::is_allowed;
+use crate::numbered_members::NumberedMembers;
 use crate::source::Source;
 use fb_schema::{FieldInfo, Schema, TypeId};
 use serde_json::{Map, Value as Json};
 use std::alloc::{AllocError, Global};
+use std::marker::Model;
 
 /// The names of so many slots are looked through; more are found by their digests.
 const FEW: usize = 16;
 
-/// A place for each of some slots, with no member.
-fn no_members<'t>(alloc: Global, slots: usize) -> Result<Vec<Option<&'t Json>>, AllocError>
-    ensures { IfOk result (λ found. found.items ≡ replicate slots None) }
-{
-    vec![in alloc; None; slots]
-}
-
-/// Puts a member at its slot, where there is a place for it.
-fn put_among<'t>(found: &mut [Option<&'t Json>], slot: usize, tree: &'t Json)
-    ensures { found.new ≡ set found.old slot (Some tree.entry) }
-{
-    if slot < found.len() {
-        found[slot] = Some(tree);
-    }
-}
-
-/// Puts a member at its slot of so many, where there is a place for it.
-#[inline(always)]
-fn put<'t>(
-    few: &mut [Option<&'t Json>; 16],
-    many: &mut Vec<Option<&'t Json>>,
+/// The members of a table by its slots, or of a struct by its fields. Those of few slots stand in places that take no
+/// memory.
+#[derive(Drop)]
+pub struct SlotMembers<'t> {
     slots: usize,
-    slot: usize,
-    tree: &'t Json,
-)
-    ensures { places slots few.new many.new.items ≡ set (places slots few.old many.old.items) slot (Some tree.entry) }
-{
-    if slots > FEW {
-        put_among(many.as_mut_slice(), slot, tree);
-    } else if slot < slots {
-        let few = &mut few[..];
-        few[slot] = Some(tree);
-    }
+    // The places beyond the slots have no member.
+    few: [Option<&'t Json>; 16],
+    // Those of more slots.
+    many: NumberedMembers<'t>,
 }
 
-/// The places of so many slots: the first of a few, or many.
-#[inline(always)]
-pub fn places<'s, 't>(
-    few: &'s [Option<&'t Json>; 16],
-    many: &'s Vec<Option<&'t Json>>,
-    slots: usize,
-) -> &'s [Option<&'t Json>]
-    ensures { result.now ≡ places slots few.now many.now.items }
-{
-    if slots <= FEW {
-        &few[..slots]
-    } else {
-        many.as_slice()
+impl<'t> Model for SlotMembers<'t> {
+    ghost use Rattle.std.specs.Prelude.{List, Option};
+    ghost use Rattle.std.specs.Borrow.{Bor};
+    ghost use Rattle.std.specs.Coded.{codes};
+    ghost use Rattle.serde_json.specs.declared.value.Value.{Value as Tree};
+    ghost use Rattle.serde_json.specs.contracts.value.Value as json;
+    ghost use Rattle.fb_json.specs.SlotMembers.{by_slot, AreFew};
+
+    ghost Value = { List (Option (Bor Tree)) };
+
+    ghost coded = { Prim.hlevel (codes, json.the_row.coded) };
+
+    ghost view = { λ s. by_slot s.slots s.few s.many };
+
+    ghost invariant = { λ s. AreFew s.slots s.few };
+}
+
+impl<'t> SlotMembers<'t> {
+    /// No slots.
+    pub fn new(alloc: Global) -> SlotMembers<'t>
+        ensures none { result ≡ [] }
+    {
+        SlotMembers {
+            slots: 0,
+            few: [None; 16],
+            many: NumberedMembers::new(alloc),
+        }
+    }
+
+    /// The member of a slot, if it has one.
+    #[inline(always)]
+    pub fn get(&self, slot: usize) -> Option<&'t Json>
+        requires within { slot < length self.now }
+        ensures is { slice_get self.now slot ≡ Some result }
+    {
+        if self.slots <= FEW {
+            let few = &self.few[..];
+            return few[slot];
+        }
+        self.many.get(slot)
+    }
+
+    /// So many slots without a member; of more than a few, also memory for so many members.
+    fn clear(&mut self, alloc: Global, slots: usize, members: usize) -> Result<(), AllocError>
+        ensures { IfOk result (λ done. self.new ≡ replicate slots None) }
+    {
+        if self.slots != 0 {
+            self.few = [None; 16];
+        }
+        self.slots = slots;
+        if slots > FEW {
+            self.many.clear(alloc, slots, members)?;
+        }
+        Ok(())
+    }
+
+    /// Puts a member at its slot, where there is one.
+    #[inline(always)]
+    fn put(&mut self, slot: usize, tree: &'t Json) -> Result<(), AllocError>
+        ensures { IfOk result (λ done. self.new ≡ set self.old slot (Some tree.entry)) }
+    {
+        if self.slots > FEW {
+            return self.many.put(slot, tree);
+        }
+        if slot < self.slots {
+            let few = &mut self.few[..];
+            few[slot] = Some(tree);
+        }
+        Ok(())
     }
 }
 
@@ -102,7 +136,7 @@ fn slot_named<'s>(slots: &'s [FieldInfo], name: &str) -> Option<&'s FieldInfo>
     None
 }
 
-/// The field of a table that has a name. The names of few slots are looked through.
+/// The field of a table or struct that has a name. The names of few slots are looked through.
 #[inline(always)]
 fn field_of<'s>(
     schema: &'s Schema,
@@ -110,7 +144,7 @@ fn field_of<'s>(
     slots: &'s [FieldInfo],
     name: &str,
 ) -> Option<&'s FieldInfo>
-    requires { map field_seen slots.now ≡ slots_in (body_at schema.now owner.0) }
+    requires { AreFieldsOf (map field_seen slots.now) (body_at schema.now owner.0) }
     ensures { option_map field_seen (option_copied result)
         ≡ field_named (body_at schema.now owner.0) name.now }
 {
@@ -120,18 +154,18 @@ fn field_of<'s>(
     slot_named(slots, name)
 }
 
-/// Puts each member of a table at its slot, where each has the name of a field in use or any name is let through.
+/// Puts each member of a table or struct at its slot, where each has the name of a field in use or any name is let
+/// through.
 fn put_members<'t>(
     source: Source,
     owner: TypeId,
     slots: &[FieldInfo],
     members: &'t Map<String, Json>,
-    few: &mut [Option<&'t Json>; 16],
-    many: &mut Vec<Option<&'t Json>>,
+    found: &mut SlotMembers<'t>,
 ) -> Result<(), JsonFault>
-    requires slots { map field_seen slots.now ≡ slots_in (body_at source.layout.now.schema owner.0) }
-    requires empty { places (length slots.now) few.old many.old.items ≡ replicate (length slots.now) None }
-    ensures members { IfOk result (λ done. AreMembersOf (places (length slots.now) few.new many.new.items)
+    requires slots { AreFieldsOf (map field_seen slots.now) (body_at source.layout.now.schema owner.0) }
+    requires empty { found.old ≡ replicate (length slots.now) None }
+    ensures members { IfOk result (λ done. AreMembersOf found.new
         (map field_seen slots.now) (members_view members.now.entries)) }
     ensures known { let body = body_at source.entry.layout.now.schema owner.0 in
         Gives (λ done. tt) result (if_known
@@ -144,36 +178,32 @@ fn put_members<'t>(
         if !is_allowed(source.unknown, field) {
             return Err(JsonFault::UnknownMember(Place { owner, slot: None }));
         }
-        if let Some(field) = field {
-            put(few, many, slots.len(), field.slot as usize, tree);
-        }
+        let Some(field) = field else {
+            continue;
+        };
+        found.put(field.slot as usize, tree)?;
     }
     Ok(())
 }
 
-/// Finds the member of each slot of a table, where each member has the name of a field in use or any name is let
-/// through. Each member's name is looked up once, so that a slot without a member costs no search. Those of few slots
-/// are put into the places that are there for them, and take no memory.
+/// Finds the member of each slot of a table, or of each field of a struct, where each member has the name of a field in
+/// use or any name is let through. Each member's name is looked up once, so that a slot without a member costs no
+/// search. What was found before is forgotten.
 pub fn members_by_slot<'t>(
     source: Source,
     owner: TypeId,
     slots: &[FieldInfo],
     members: &'t Map<String, Json>,
-    few: &mut [Option<&'t Json>; 16],
-    many: &mut Vec<Option<&'t Json>>,
+    found: &mut SlotMembers<'t>,
 ) -> Result<(), JsonFault>
-    requires { map field_seen slots.now ≡ slots_in (body_at source.layout.now.schema owner.0) }
-    ensures members { IfOk result (λ done. AreMembersOf (places (length slots.now) few.new many.new.items)
+    requires { AreFieldsOf (map field_seen slots.now) (body_at source.layout.now.schema owner.0) }
+    ensures members { IfOk result (λ done. AreMembersOf found.new
         (map field_seen slots.now) (members_view members.now.entries)) }
     ensures known { let body = body_at source.entry.layout.now.schema owner.0 in
         Gives (λ done. tt) result (if_known
         (source.entry.unknown || names_known body (members_view members.now.entries))
         (type_place owner.0)) }
 {
-    if slots.len() > FEW {
-        *many = no_members(source.alloc, slots.len())?;
-        return put_members(source, owner, slots, members, few, many);
-    }
-    *few = [None; 16];
-    put_members(source, owner, slots, members, few, many)
+    found.clear(source.alloc, slots.len(), members.len())?;
+    put_members(source, owner, slots, members, found)
 }

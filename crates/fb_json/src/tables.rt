@@ -17,7 +17,7 @@ use crate::codes::code_of_slot;
 use crate::entries::entry;
 use crate::faults::{JsonFault, Place};
 use crate::room::Room;
-use crate::slot_members::{members_by_slot, places};
+use crate::slot_members::{SlotMembers, members_by_slot};
 use crate::source::Source;
 use crate::step::Step;
 use crate::trail::Trail;
@@ -51,15 +51,13 @@ pub(crate) fn table(
         return Err(JsonFault::TooManyCells(place));
     }
     let slots = source.layout.slots_of(owner);
-    let mut few = [None; 16];
-    let mut many = Vec::new(source.alloc);
-    members_by_slot(source, owner, slots, members, &mut few, &mut many)?;
-    let trees = places(&few, &many, slots.len());
+    let mut trees = SlotMembers::new(source.alloc);
+    members_by_slot(source, owner, slots, members, &mut trees)?;
     let room = Room {
         levels: room.levels - 1,
         left: room.left - 1,
     };
-    let (entries, left) = entries(source, trail, owner, slots, trees, room)?;
+    let (entries, left) = entries(source, trail, owner, slots, &trees, room)?;
     Ok((Value::Fields(owner, entries), left))
 }
 
@@ -70,7 +68,7 @@ fn entries(
     trail: &mut Trail,
     owner: TypeId,
     slots: &[FieldInfo],
-    trees: &[Option<&Json>],
+    trees: &SlotMembers<'_>,
     room: Room,
 ) -> Result<(Vec<Option<Value>>, u32), JsonFault>
     requires few { length slots.now ≤ 32765 }
@@ -93,7 +91,7 @@ fn entries(
             owner,
             slot: Some(k as u16),
         };
-        let tree = trees[k];
+        let tree = trees.get(k);
         if is_absent(slot, tree) {
             found.push_reserved(default_of(slot));
             continue;

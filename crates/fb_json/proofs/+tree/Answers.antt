@@ -1,5 +1,6 @@
-use Rattle.std.proofs.Common.{◌≡◌, ◌∙◌, ◌++◌, ◌∷◌, ◌≤◌, [], refl, sym, ap, Err, length, map}
-use Rattle.std.proofs.Common.{Some, option_map, arith}
+mod StructIsRead
+use Rattle.std.proofs.Common.{◌≡◌, ◌∙◌, ◌++◌, ◌∷◌, ◌≤◌, [], refl, sym, ap, length, map}
+use Rattle.std.proofs.Common.{Ok, Some, option_map, inl, arith}
 use Rattle.std.proofs.lemmas.Result.{err_from_is_err_and}
 use Rattle.std.proofs.lemmas.Grind.{common_steps}
 use Rattle.std.proofs.lemmas.List.{length-map, map_push}
@@ -11,23 +12,26 @@ use Rattle.fb_schema.specs.declared.kinds.Shape.TheVariants.{One}
 use Rattle.fb_layout.specs.Laid.{slot_of, member_by_code}
 use Rattle.fb_value.specs.Datum.{a_number}
 use Rattle.fb_value.specs.View.{view}
-use Rattle.fb_json.specs.declared.faults.JsonFault.TheVariants.{MissingMember}
-use Rattle.fb_json.specs.declared.step.Step.TheVariants.{Slot, Field, Element}
-use Rattle.fb_json.specs.FaultPaths.{entry_spot, field_spot, slot_spot}
-use Rattle.fb_json.specs.FaultPaths.{bare_spot, tree_spot, IsFirstAt, IsFirstIn, ToSlot, ToField, ToElement}
-use Rattle.fb_json.specs.Meant.{look, meant, slot_place, entry_meant, part_meant}
-use Rattle.fb_json.specs.SlotMembers.{looked_up, places, AreMembersOf}
-use Rattle.fb_json.proofs.members.MapFindsTheMembers.{found_by_map, found_some, found_none}
+use Rattle.fb_json.specs.declared.step.Step.TheVariants.{Slot, Element}
+use Rattle.fb_json.specs.FaultPaths.{entry_spot, slot_spot}
+use Rattle.fb_json.specs.FaultPaths.{tree_spot, IsFirstAt, IsFirstIn, ToSlot, ToElement}
+use Rattle.fb_json.specs.Meant.{look, meant, slot_place, entry_meant}
+use Rattle.fb_json.specs.SlotMembers.{looked_up}
 use Rattle.fb_json.proofs.slots.MemberAtItsSlot.{looked_up_in}
-use Rattle.fb_json.proofs.slots.PartsNestLess.{item_nested, member_nested, most_nested, slots_nested}
+use Rattle.fb_json.proofs.slots.PartsNestLess.{item_nested, slots_nested}
 use Rattle.fb_json.proofs.slots.PartsNestLess.{tree_within}
 use Rattle.fb_json.proofs.slots.OneSlotOrFieldMore.{fails_is, fails_by, slots_next, slots_untold}
-use Rattle.fb_json.proofs.slots.OneSlotOrFieldMore.{slots_ungiven, slots_end, parts_next, parts_ungiven, parts_end}
+use Rattle.fb_json.proofs.slots.OneSlotOrFieldMore.{slots_ungiven, slots_end}
 use Rattle.fb_json.proofs.slots.OneSlotOrFieldMore.{counted}
-use Rattle.fb_json.proofs.tree.PathGoesThroughParts.{to_slot, to_entry, slot_next, to_field, field_next, to_element}
+use Rattle.fb_json.proofs.slots.SlotsDecideTheTable.{table_fails}
+use Rattle.fb_json.proofs.tree.PathGoesThroughParts.{to_slot, to_entry, slot_next, to_element}
 use Rattle.fb_json.proofs.tree.PathGoesThroughParts.{element_next, in_vector, too_deep, too_many, unknown_in_table}
 use Rattle.fb_json.proofs.tree.PathGoesThroughParts.{full_vector, in_table}
 use Rattle.fb_json.proofs.tree.TrailLeadsToTheFault.{here, goes, fails_behind, fault_given}
+use Rattle.fb_json.proofs.+tree.Answers.StructIsRead.{fields_are_those, members_nest_less, trail_through_struct}
+use Rattle.fb_json.proofs.+tree.Answers.StructIsRead.{trail_of_struct, trail_of_refused_value, trail_of_value}
+use Rattle.fb_json.proofs.+tree.Answers.StructIsRead.{part_nests_less, refused_part_given, trail_to_refused_part}
+use Rattle.fb_json.proofs.+tree.Answers.StructIsRead.{one_part_more, all_parts_given}
 use Rattle.fb_json.proofs.+tree.Goals as goal
 
 -- ---- trees
@@ -85,17 +89,16 @@ tree::vector-returns-in_err-items-clause-trail t c =
 
 -- ---- tables
 
+pub tables::table-members_by_slot-requires : goal.tables::table-members_by_slot-requires
+tables::table-members_by_slot-requires t c = inl c.slots_of-slots.ensures.slots
+
 pub tables::table-entries-requires : goal.tables::table-entries-requires
 tables::table-entries-requires t c =
     let are = c.in_ok-members_by_slot.ensures.members in
     let slots = c.slots_of-slots.result.now in
-    let found = c.members_by_slot.new in
-    let less = slots_nested (places (length slots) found.few found.many.items) (map field_seen slots)
+    let less = slots_nested c.members_by_slot.new.found (map field_seen slots)
     (members_view c.args.members.now.entries) are in
-    let same = ap most_nested c.places-trees.ensures in
-    let all = ap length c.places-trees.ensures
-    ∙ (are.all ∙ length-map c.slots_of-slots.result.now field_seen) in
-    (omega (arith, less, same), (c.slots_of-slots.ensures.few, all))
+    (omega (arith, less), (c.slots_of-slots.ensures.few, are.all ∙ length-map slots field_seen))
 
 pub tables::table-returns-then-room-eq0-clause-trail : goal.tables::table-returns-then-room-eq0-clause-trail
 tables::table-returns-then-room-eq0-clause-trail t c =
@@ -119,18 +122,25 @@ tables::table-returns-in_err-members_by_slot-clause-trail t c =
 
 pub tables::table-returns-clause-trail : goal.tables::table-returns-clause-trail
 tables::table-returns-clause-trail t c =
+    c.in_ok-entries.ensures.trail (members_view c.args.members.now.entries) c.in_ok-members_by_slot.ensures.members
+
+pub tables::table-returns-in_err-entries-clause-gives : goal.tables::table-returns-in_err-entries-clause-gives
+tables::table-returns-in_err-entries-clause-gives t c =
+    let L = c.args.source.layout.now in
+    let unknown = c.args.source.unknown in
     let ms = members_view c.args.members.now.entries in
-    let slots = map field_seen c.slots_of-slots.result.now in
-    let are : AreMembersOf c.places-trees.result.now slots ms =
-    rw c.places-trees.ensures c.in_ok-members_by_slot.ensures.members in
-    c.in_ok-entries.ensures.trail ms are
+    let fault = c.in_err-entries.field-0.0 in
+    let p = err_from_is_err_and c.from_residual-in_err-entries.result c.from_residual-in_err-entries.ensures.1 in
+    let part = c.in_err-entries.ensures.gives ms c.in_ok-members_by_slot.ensures.members in
+    rw (p.1, p.2) (fails_by fault _ _ (λ h. table_fails L unknown ms (look L unknown ms) c.args.owner.0 c.args.place
+    c.args.room.levels c.args.room.left fault (omega arith) (omega arith) c.in_ok-members_by_slot.ensures.known
+    (rw c.slots_of-slots.ensures.slots at h)) part)
 
 pub tables::table-returns-in_err-entries-clause-trail : goal.tables::table-returns-in_err-entries-clause-trail
 tables::table-returns-in_err-entries-clause-trail t c =
     let ms = members_view c.args.members.now.entries in
     let slots = map field_seen c.slots_of-slots.result.now in
-    let are : AreMembersOf c.places-trees.result.now slots ms =
-    rw c.places-trees.ensures c.in_ok-members_by_slot.ensures.members in
+    let are = c.in_ok-members_by_slot.ensures.members in
     let p = err_from_is_err_and c.from_residual-in_err-entries.result c.from_residual-in_err-entries.ensures.1 in
     rw (p.1, p.2) (λ kept. in_table c.args.source.layout.now c.args.source.unknown ms c.args.owner c.args.place
     c.args.room.levels c.args.room.left (omega arith) (omega arith) slots c.in_err-entries.field-0.0 c.args.trail.now
@@ -139,7 +149,7 @@ tables::table-returns-in_err-entries-clause-trail t c =
 
 pub tables::entries-entry-requires : goal.tables::entries-entry-requires
 tables::entries-entry-requires t c =
-    let less = tree_within c.args.trees.now c.loop-k.k c.index-trees-k.result (omega arith) c.index-trees-k.is in
+    let less = tree_within c.args.trees.now c.loop-k.k c.get-tree.result c.get-tree.ensures.is in
     (omega (arith, less), tt)
 
 pub tables::entries-returns-in-Err-clause-gives : goal.tables::entries-returns-in-Err-clause-gives
@@ -148,7 +158,7 @@ tables::entries-returns-in-Err-clause-gives t c ms are =
     let unknown = c.args.source.unknown in
     let seen = look L unknown ms in
     let found = looked_up_in c.args.trees.now c.args.slots.now ms are c.loop-k.k c.index-slots-k.result
-    c.loop-k-test.true c.index-slots-k.is c.index-trees-k.result (omega arith) c.index-trees-k.is L unknown in
+    c.loop-k-test.true c.index-slots-k.is c.get-tree.result c.get-tree.ensures.is L unknown in
     let told = sym (c.in-Err.ensures seen found) in
     let whole = (c.loop-k.invariant.read ms are).0 ∙ slots_untold L seen c.args.owner.0 c.args.slots.now c.loop-k.k
     c.index-slots-k.result c.loop-k-test.true c.index-slots-k.is (map (option_map view) c.loop-k.found.items)
@@ -162,7 +172,7 @@ tables::entries-returns-in-Err-clause-trail t c ms are =
     let unknown = c.args.source.unknown in
     let seen = look L unknown ms in
     let found = looked_up_in c.args.trees.now c.args.slots.now ms are c.loop-k.k c.index-slots-k.result
-    c.loop-k-test.true c.index-slots-k.is c.index-trees-k.result (omega arith) c.index-trees-k.is L unknown in
+    c.loop-k-test.true c.index-slots-k.is c.get-tree.result c.get-tree.ensures.is L unknown in
     let told = sym (c.in-Err.ensures seen found) in
     goes c.args.trail.now c.loop-k.trail c.loop-k.trail c.behind.new.self
     (IsFirstAt L unknown (slot_spot L seen (field_seen c.index-slots-k.result) (slot_place c.args.owner.0 c.loop-k.k)
@@ -182,7 +192,7 @@ tables::entries-returns-in-Err-entry-clause-gives t c ms are =
     let unknown = c.args.source.unknown in
     let seen = look L unknown ms in
     let found = looked_up_in c.args.trees.now c.args.slots.now ms are c.loop-k.k c.index-slots-k.result
-    c.loop-k-test.true c.index-slots-k.is c.index-trees-k.result (omega arith) c.index-trees-k.is L unknown in
+    c.loop-k-test.true c.index-slots-k.is c.get-tree.result c.get-tree.ensures.is L unknown in
     let f = field_seen c.index-slots-k.result in
     let told = sym (c.in-Ok.ensures seen found) in
     fails_behind c.in-Err-entry.fault c.behind-in-Err-entry.result
@@ -199,7 +209,7 @@ tables::entries-returns-in-Err-entry-clause-trail t c ms are =
     let unknown = c.args.source.unknown in
     let seen = look L unknown ms in
     let found = looked_up_in c.args.trees.now c.args.slots.now ms are c.loop-k.k c.index-slots-k.result
-    c.loop-k-test.true c.index-slots-k.is c.index-trees-k.result (omega arith) c.index-trees-k.is L unknown in
+    c.loop-k-test.true c.index-slots-k.is c.get-tree.result c.get-tree.ensures.is L unknown in
     let f = field_seen c.index-slots-k.result in
     let told = sym (c.in-Ok.ensures seen found) in
     goes c.args.trail.now c.loop-k.trail c.entry.new.trail c.behind-in-Err-entry.new.self
@@ -227,7 +237,7 @@ tables::entries-loop-k-preserved-then-is_absent t c =
       read = λ ms are.
           let seen = look L unknown ms in
           let found = looked_up_in c.args.trees.now c.args.slots.now ms are c.loop-k.k c.index-slots-k.result
-          c.loop-k-test.true c.index-slots-k.is c.index-trees-k.result (omega arith) c.index-trees-k.is L unknown in
+          c.loop-k-test.true c.index-slots-k.is c.get-tree.result c.get-tree.ensures.is L unknown in
           let none = found ∙ ap (looked_up L unknown) (c.is_absent.ensures.none c.if-is_absent.true) in
           let told = c.is_absent.ensures.code L.schema seen place c.loop-k.code c.if-is_absent.true in
           let given = c.is_absent.ensures.entry L seen place c.loop-k.code c.args.room.levels c.loop-k.left
@@ -257,7 +267,7 @@ tables::entries-loop-k-preserved t c =
       read = λ ms are.
           let seen = look L unknown ms in
           let found = looked_up_in c.args.trees.now c.args.slots.now ms are c.loop-k.k c.index-slots-k.result
-          c.loop-k-test.true c.index-slots-k.is c.index-trees-k.result (omega arith) c.index-trees-k.is L unknown in
+          c.loop-k-test.true c.index-slots-k.is c.get-tree.result c.get-tree.ensures.is L unknown in
           let told = sym (c.in-Ok.ensures seen found) in
           let given = c.in-Ok-entry.ensures.gives seen found in
           let before = c.loop-k.invariant.read ms are in (
@@ -268,7 +278,7 @@ tables::entries-loop-k-preserved t c =
                 c.index-slots-k.is c.args.room.levels c.args.room.left c.loop-k.code c.loop-k.left before.1
                 c.in-Ok.told told entry c.in-Ok-entry.rest given,
           );
-      trail = c.in-Ok-entry.ensures.trail (λ name. looked_up L unknown c.index-trees-k.result) refl
+      trail = c.in-Ok-entry.ensures.trail (λ name. looked_up L unknown c.get-tree.result) refl
           ∙ c.loop-k.invariant.trail;
       filled = omega (arith, c.push_reserved-in-Ok-entry.ensures.len);
       room = omega (arith, c.push_reserved-in-Ok-entry.ensures.capacity);
@@ -297,88 +307,35 @@ entries::member-returns-in_err-value-clause-gives t c =
 
 -- ---- structs
 
+pub structs::struct_of-members_by_slot-requires : goal.structs::struct_of-members_by_slot-requires
+structs::struct_of-members_by_slot-requires = fields_are_those
+
+pub structs::struct_of-parts-requires : goal.structs::struct_of-parts-requires
+structs::struct_of-parts-requires = members_nest_less
+
+pub structs::struct_of-returns-in_err-left-clause-trail : goal.structs::struct_of-returns-in_err-left-clause-trail
+structs::struct_of-returns-in_err-left-clause-trail = trail_through_struct
+
+pub structs::struct_of-returns-clause-trail : goal.structs::struct_of-returns-clause-trail
+structs::struct_of-returns-clause-trail = trail_of_struct
+
+pub structs::structure-returns-in_err-left-clause-trail : goal.structs::structure-returns-in_err-left-clause-trail
+structs::structure-returns-in_err-left-clause-trail = trail_of_refused_value
+
+pub structs::structure-returns-clause-trail : goal.structs::structure-returns-clause-trail
+structs::structure-returns-clause-trail = trail_of_value
+
+pub structs::parts-part-requires : goal.structs::parts-part-requires
+structs::parts-part-requires = part_nests_less
+
 pub structs::parts-returns-in-Err-clause-gives : goal.structs::parts-returns-in-Err-clause-gives
-structs::parts-returns-in-Err-clause-gives t c =
-    let L = c.args.source.layout.now in
-    let unknown = c.args.source.unknown in
-    let seen = look L unknown (members_view c.args.members.now.entries) in
-    fails_behind c.in-Err.fault c.behind.result
-    (part_meant (seen (field_seen c.index-fields-k.result).name) c.index-fields-k.result.shape
-    (slot_place c.args.owner.0 c.loop-k.k) c.args.room.levels c.loop-k.left) _ c.behind.ensures.step
-    (λ h. c.loop-k.invariant.gives ∙ parts_ungiven L seen c.args.owner.0 c.args.fields.now c.loop-k.k
-    c.index-fields-k.result c.loop-k-test.true c.index-fields-k.is (map view c.loop-k.found.items) c.args.room.levels
-    c.loop-k.left (slot_place c.args.owner.0 c.loop-k.k) refl _ h) c.in-Err.ensures.gives
+structs::parts-returns-in-Err-clause-gives = refused_part_given
 
 pub structs::parts-returns-in-Err-clause-trail : goal.structs::parts-returns-in-Err-clause-trail
-structs::parts-returns-in-Err-clause-trail t c =
-    let L = c.args.source.layout.now in
-    let unknown = c.args.source.unknown in
-    let seen = look L unknown (members_view c.args.members.now.entries) in
-    goes c.args.trail.now c.loop-k.trail c.part.new.trail c.behind.new.self
-    (IsFirstAt L unknown (field_spot (seen (field_seen c.index-fields-k.result).name) c.index-fields-k.result.shape
-    (slot_place c.args.owner.0 c.loop-k.k) c.args.room.levels c.loop-k.left))
-    (IsFirstIn L unknown (ToField seen c.args.owner (map field_seen c.args.fields.now) c.args.room.levels
-    c.args.room.left)) (Field c.args.owner c.loop-k.k) c.in-Err.fault c.behind.result c.loop-k.invariant.trail
-    c.behind.ensures.step c.in-Err.ensures.trail
-    (λ steps. to_field L unknown seen c.args.owner c.args.fields.now c.loop-k.k c.index-fields-k.result
-    c.loop-k-test.true c.index-fields-k.is c.args.room.levels c.args.room.left c.loop-k.left
-    c.loop-k.invariant.before c.in-Err.fault steps)
+structs::parts-returns-in-Err-clause-trail = trail_to_refused_part
 
 pub structs::parts-loop-k-preserved : goal.structs::parts-loop-k-preserved
-structs::parts-loop-k-preserved t c =
-    let L = c.args.source.layout.now in
-    let unknown = c.args.source.unknown in
-    let seen = look L unknown (members_view c.args.members.now.entries) in
-    let e : map view c.push_reserved.new.self.items ≡ map view c.loop-k.found.items ++ view c.in-Ok.part ∷ [] =
-    rw c.push_reserved.ensures.items (map_push _ c.loop-k.found.items c.in-Ok.part) in
-    record {
-      gives = rw e (c.loop-k.invariant.gives ∙ parts_next L seen c.args.owner.0 c.args.fields.now c.loop-k.k
-          c.index-fields-k.result c.loop-k-test.true c.index-fields-k.is (map view c.loop-k.found.items)
-          c.args.room.levels c.loop-k.left (slot_place c.args.owner.0 c.loop-k.k) refl c.in-Ok.rest
-          (view c.in-Ok.part) c.in-Ok.ensures.gives);
-      before = field_next L unknown seen c.args.owner c.args.fields.now c.loop-k.k c.index-fields-k.result
-          c.loop-k-test.true c.index-fields-k.is c.args.room.levels c.args.room.left c.loop-k.left
-          c.loop-k.invariant.before (view c.in-Ok.part) c.in-Ok.rest c.in-Ok.ensures.gives;
-      trail = c.in-Ok.ensures.trail ∙ c.loop-k.invariant.trail;
-      filled = omega (arith, c.push_reserved.ensures.len);
-      room = omega (arith, c.push_reserved.ensures.capacity);
-    }
+structs::parts-loop-k-preserved = one_part_more
 
 pub structs::parts-returns-clause-gives : goal.structs::parts-returns-clause-gives
-structs::parts-returns-clause-gives t c =
-    let L = c.args.source.layout.now in
-    let unknown = c.args.source.unknown in
-    let seen = look L unknown (members_view c.args.members.now.entries) in
-    let past : length c.args.fields.now ≤ c.loop-k.k = omega arith in
-    c.loop-k.invariant.gives ∙ parts_end seen c.args.owner.0 c.args.fields.now c.loop-k.k
-    (map view c.loop-k.found.items) c.args.room.levels c.loop-k.left past
-
-pub structs::part-value-requires : goal.structs::part-value-requires
-structs::part-value-requires t c =
-    let found = found_by_map c.as_str.result.now c.args.members.now c.get.result c.get.ensures.value in
-    let there = ap (option_map (λ v. tree_view v.now)) c.in-Some.is in
-    let less = member_nested c.as_str.result.now (members_view c.args.members.now.entries)
-    (tree_view c.in-Some.tree.now) (sym found ∙ there) in
-    (omega (arith, less), tt)
-
-pub structs::part-returns-in-Some-clause-gives : goal.structs::part-returns-in-Some-clause-gives
-structs::part-returns-in-Some-clause-gives t c =
-    rw (found_some c.args.source.layout.now c.args.source.unknown _ _ c.args.members.now c.get.result c.in-Some.tree
-    c.as_str.ensures.value c.get.ensures.value c.in-Some.is) c.value.ensures.gives
-
-pub structs::part-returns-in-None-clause-gives : goal.structs::part-returns-in-None-clause-gives
-structs::part-returns-in-None-clause-gives t c =
-    rw (found_none c.args.source.layout.now c.args.source.unknown _ _ c.args.members.now c.get.result
-    c.as_str.ensures.value c.get.ensures.value c.in-None.is) refl
-
-pub structs::part-returns-in-Some-clause-trail : goal.structs::part-returns-in-Some-clause-trail
-structs::part-returns-in-Some-clause-trail t c =
-    rw (found_some c.args.source.layout.now c.args.source.unknown _ _ c.args.members.now c.get.result c.in-Some.tree
-    c.as_str.ensures.value c.get.ensures.value c.in-Some.is) c.value.ensures.trail
-
-pub structs::part-returns-in-None-clause-trail : goal.structs::part-returns-in-None-clause-trail
-structs::part-returns-in-None-clause-trail t c =
-    rw (found_none c.args.source.layout.now c.args.source.unknown _ _ c.args.members.now c.get.result
-    c.as_str.ensures.value c.get.ensures.value c.in-None.is) (λ kept. here c.args.source.layout.now
-    c.args.source.unknown (bare_spot (Err (MissingMember c.args.place))) (MissingMember c.args.place)
-    c.args.trail.now refl)
+structs::parts-returns-clause-gives = all_parts_given

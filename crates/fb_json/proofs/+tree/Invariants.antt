@@ -40,13 +40,13 @@ invariant-tables::entries-loop-k l = record {
 
 abbrev pub invariant-structs::parts-loop-k : goal.invariant-structs::parts-loop-k
 invariant-structs::parts-loop-k l = record {
-  gives : parts_meant (look l.source.layout.now l.source.unknown (members_view l.members.entries)) l.owner.0
-      (map field_seen l.fields) 0 l.room.levels l.fn.room.left
+  read : (ms : Members) → AreMembersOf l.trees (map field_seen l.fields) ms
+      → let seen = look l.source.layout.now l.source.unknown ms in
+      (parts_meant seen l.owner.0 (map field_seen l.fields) 0 l.room.levels l.fn.room.left
       ≡ after (map view l.found.items)
-      (parts_meant (look l.source.layout.now l.source.unknown (members_view l.members.entries)) l.owner.0
-      (map field_seen (drop l.k l.fields)) l.k l.room.levels l.left);
-  before : read_all (field_reader (look l.source.layout.now l.source.unknown (members_view l.members.entries))
-      l.owner.0 l.room.levels) 0 (take l.k (map field_seen l.fields)) l.fn.room.left ≡ Ok l.left;
+      (parts_meant seen l.owner.0 (map field_seen (drop l.k l.fields)) l.k l.room.levels l.left))
+      × (read_all (field_reader seen l.owner.0 l.room.levels) 0 (take l.k (map field_seen l.fields)) l.fn.room.left
+      ≡ Ok l.left);
   trail : l.trail ≡ l.fn.trail;
   filled : vec_len l.found ≡ l.k;
   room : length l.fields ≤ vec_capacity l.found;
@@ -82,10 +82,13 @@ abbrev pub decreases-entries::member : goal.decreases-entries::member
 decreases-entries::member l = 16 * nested (tree_view l.tree.now) + 2
 
 abbrev pub decreases-structs::structure : goal.decreases-structs::structure
-decreases-structs::structure l = 16 * members_nested (members_view l.members.now.entries) + 3
+decreases-structs::structure l = 16 * members_nested (members_view l.members.now.entries) + 5
+
+abbrev pub decreases-structs::struct_of : goal.decreases-structs::struct_of
+decreases-structs::struct_of l = 16 * members_nested (members_view l.members.now.entries) + 4
 
 abbrev pub decreases-structs::parts : goal.decreases-structs::parts
-decreases-structs::parts l = 16 * members_nested (members_view l.members.now.entries) + 2
+decreases-structs::parts l = 16 * most_nested l.trees.now + 3
 
 abbrev pub decreases-structs::part : goal.decreases-structs::part
-decreases-structs::part l = 16 * members_nested (members_view l.members.now.entries) + 1
+decreases-structs::part l = 16 * tree_nested l.tree + 2

@@ -12,6 +12,7 @@ use Rattle.fb_value.specs.Datum.{Datum, a_number}
 use Rattle.fb_value.specs.Fits.{Fits}
 use Rattle.fb_json.specs.declared.faults.Place.{Place}
 use Rattle.fb_json.specs.declared.faults.JsonFault.{JsonFault}
+use Rattle.fb_json.specs.FaultPaths.{front_of, object_front, rest_of, tree_spot, vector_front}
 use Rattle.fb_json.specs.Leaves.{scalar_meant, enum_meant, leaf_meant}
 use Rattle.fb_json.specs.Meant.{meant, object_meant, vector_meant}
 use Rattle.fb_json.specs.Outcome.{◌>>=◌, Counted, Gives}
@@ -64,3 +65,18 @@ module _ (L : LaidSchema) (unknown : Bool) (at : Place) (levels left : ℕ) wher
       fitted L declared unknown t (One kind) (a_number n)
       (sound L unknown t (One kind) at levels left (a_number n, left) h).0 tt
   number_fits declared kind t (Err e) h = tt
+
+  -- Nothing in it is read before what it breaks itself.
+  pub scalar_front : (base : Base) (t : Data) → front_of L unknown (tree_spot t (One (Scalar base)) at levels left)
+      ≡ rest_of (meant L unknown t (One (Scalar base)) at levels left)
+  unfolding object_meant vector_meant object_front vector_front
+  scalar_front base (array ts) = refl
+  scalar_front base (object ms) = refl
+  scalar_front base _ = refl
+
+  pub enum_front : (e : TypeId) (t : Data) → front_of L unknown (tree_spot t (One (Enum e)) at levels left)
+      ≡ rest_of (meant L unknown t (One (Enum e)) at levels left)
+  unfolding object_meant vector_meant object_front vector_front
+  enum_front e (array ts) = refl
+  enum_front e (object ms) = refl
+  enum_front e _ = refl

@@ -28,7 +28,7 @@ use Rattle.fb_json.specs.Meant.{used_meant, meant, look}
 use Rattle.fb_json.specs.Means.{ScalarMeans, EnumMeans, CodeMeans, CodeAt, unless_null, AbsentMeans, PresentAs}
 use Rattle.fb_json.specs.Means.{PresentMeans, MeansAs, MemberMeans}
 use Rattle.fb_json.proofs.laws.EachStepOfABindSucceeds.{at_ok, ok_inj, or_ok, bind_ok, spent_ok}
-use Rattle.fb_json.proofs.members.MapFindsTheMembers.{with_meaning, looked}
+use Rattle.fb_json.proofs.members.LookUpFindsMembers.{with_meaning, looked}
 use Rattle.fb_json.proofs.laws.HeldNumberIsInRange.{held_in_range}
 
 -- ---- leaves

@@ -22,7 +22,7 @@ use Rattle.fb_json.specs.Meant.{entry_meant, slots_meant, table_meant, part_mean
 use Rattle.fb_json.specs.Meant.{object_meant, vector_meant, meant, items_meant, look, count as items_count}
 use Rattle.fb_json.specs.Means.{CodeAt, member_called, AbsentAt, PartsMean, EachMeans, SlotsMean}
 use Rattle.fb_json.proofs.laws.EachStepOfABindSucceeds.{at_ok, ok_inj, bind_ok, spent_ok, some_inj}
-use Rattle.fb_json.proofs.members.MapFindsTheMembers.{with_meaning, looked, found_in}
+use Rattle.fb_json.proofs.members.LookUpFindsMembers.{with_meaning, looked, found_in}
 use Rattle.fb_json.proofs.laws.ComputedEntryIsMeant.{Good, leaf_ok, code_ok, SoundAt, GoodEntry, present_is, used_ok}
 
 -- ---- slots, fields and elements

@@ -30,7 +30,7 @@ use Rattle.fb_json.specs.Breaks.{unknown_in_table, unknown_in_struct, in_code, i
 use Rattle.fb_json.specs.Breaks.{missing_part, in_part, in_element}
 use Rattle.fb_json.specs.Laws.{IsLimit}
 use Rattle.fb_json.proofs.laws.EachStepOfABindSucceeds.{bind_err, some_inj}
-use Rattle.fb_json.proofs.members.MapFindsTheMembers.{with_meaning, looked, found_in}
+use Rattle.fb_json.proofs.members.LookUpFindsMembers.{with_meaning, looked, found_in}
 use Rattle.fb_json.proofs.laws.ComputedEntryIsMeant.{present_is, code_ok}
 use Rattle.fb_json.proofs.laws.FaultOfALeafIsABrokenRule.{err_inj, no_err, Refused, wrong, spent_limit, own}
 use Rattle.fb_json.proofs.laws.FaultOfALeafIsABrokenRule.{leaf_broken, BrokenAt}

@@ -22,7 +22,7 @@ use Rattle.fb_json.specs.Leaves.{code_told}
 use Rattle.fb_json.specs.Meant.{code_in, code_after, meant, look}
 use Rattle.fb_json.specs.Means.{ScalarMeans, EnumMeans, CodeMeans, CodeAt, MeansAs}
 use Rattle.fb_json.proofs.laws.EachStepOfABindSucceeds.{spends}
-use Rattle.fb_json.proofs.members.MapFindsTheMembers.{with_meaning, looked}
+use Rattle.fb_json.proofs.members.LookUpFindsMembers.{with_meaning, looked}
 use Rattle.fb_json.proofs.laws.HeldNumberIsInRange.{holds_in_range}
 
 -- the lists of parts and entries

@@ -24,7 +24,7 @@ use Rattle.fb_json.specs.Meant.{items_meant, look, count as items_count}
 use Rattle.fb_json.specs.Means.{ScalarMeans, member_called, IsKnown, AbsentMeans, AbsentAt, PresentAs, PresentMeans}
 use Rattle.fb_json.specs.Means.{MeansAs, MemberMeans, PartsMean, EachMeans, SlotsMean}
 use Rattle.fb_json.proofs.laws.EachStepOfABindSucceeds.{spends, some_inj}
-use Rattle.fb_json.proofs.members.MapFindsTheMembers.{with_meaning, looked, found_in}
+use Rattle.fb_json.proofs.members.LookUpFindsMembers.{with_meaning, looked, found_in}
 use Rattle.fb_json.proofs.laws.ComputedEntryIsMeant.{present_is}
 use Rattle.fb_json.proofs.laws.MeantLeafIsComputed.{code_full, parts_out, entries_out, parts_same, entries_same}
 use Rattle.fb_json.proofs.laws.MeantLeafIsComputed.{CompleteAt, leaf_full}

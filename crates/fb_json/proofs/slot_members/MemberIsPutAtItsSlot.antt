@@ -14,12 +14,12 @@ use Rattle.serde_json.specs.Data.{Data, Members, member, no_members}
 use Rattle.serde_json.specs.Find.{get_member}
 use Rattle.serde_json.specs.View.{view, members_view}
 use Rattle.serde_json.proofs.Views.{Entry, view-lookup}
-use Rattle.fb_schema.specs.Schema.{Name, DeclaredField, DeclaredBody, table_body}
-use Rattle.fb_schema.specs.Schema.{DeclaredType, DeclaredSchema, body_in, body_at, slots_in}
-use Rattle.fb_schema.specs.Found.{field_named}
+use Rattle.fb_schema.specs.Schema.{Name, DeclaredField, DeclaredBody, table_body, struct_body}
+use Rattle.fb_schema.specs.Schema.{DeclaredType, DeclaredSchema, body_in, body_at}
+use Rattle.fb_schema.specs.Found.{field_named, fields_in}
 use Rattle.fb_schema.specs.WellDeclared.{IsBody, IsDeclared}
-use Rattle.fb_json.specs.SlotMembers.{AreMembersOf, tree_seen}
-use Rattle.fb_json.proofs.slot_members.NamedSlotIsFound.{found_as, number_is, passed_over}
+use Rattle.fb_json.specs.SlotMembers.{AreFieldsOf, AreMembersOf, tree_seen}
+use Rattle.fb_json.proofs.slot_members.NamedSlotIsFound.{found_as, in_fields, number_is, passed_over}
 
 -- ---- the slot that a name's look-up finds has that name
 
@@ -34,25 +34,32 @@ found_there {X} p (y ∷ ys) x e = by (p y) refl e (found_there p ys x)
     by true passes is later = let same : y ≡ x = cc in (0, is, rw (← same) passes)
     by false fails is later = let there = later is in (suc there.0, there.1, there.2)
 
-named_in_body : (S : DeclaredSchema) (t : ℕ) (body : DeclaredBody) → IsBody S t body → (name : Name)
-    (g f : DeclaredField) (k : ℕ) → field_named body name ≡ Some g → slice_get (slots_in body) k ≡ Some f
-    → k ≡ g.slot → f.name ≡ name
-named_in_body S t (table_body fs) is name g f k found there at =
+named_among : (name : Name) (fs : List DeclaredField)
+    → ((k : ℕ) (f : DeclaredField) → slice_get fs k ≡ Some f → f.slot ≡ k) → (g f : DeclaredField) (k : ℕ)
+    → find (λ h. bytes_eq name h.name) fs ≡ Some g → slice_get fs k ≡ Some f → k ≡ g.slot → f.name ≡ name
+named_among name fs slots g f k found there at =
     let place = found_there (λ h. bytes_eq name h.name) fs g found in
-    let same : k ≡ place.0 = at ∙ is.slots place.0 g place.1 in
+    let same : k ≡ place.0 = at ∙ slots place.0 g place.1 in
     let here : slice_get fs place.0 ≡ Some f = rw (← same) there in
     let both : Some f ≡ Some g = sym here ∙ place.1 in
     let one : f ≡ g = cc in
     ap (λ (h : DeclaredField). h.name) one ∙ sym ((bytes_eq-Decides name g.name).0 place.2)
+
+named_in_body : (S : DeclaredSchema) (t : ℕ) (body : DeclaredBody) → IsBody S t body → (name : Name)
+    (g f : DeclaredField) (k : ℕ) → field_named body name ≡ Some g → slice_get (fields_in body) k ≡ Some f
+    → k ≡ g.slot → f.name ≡ name
+named_in_body S t (table_body fs) is name g f k found there at = named_among name fs is.slots g f k found there at
+named_in_body S t (struct_body fs align) is name g f k found there at =
+    named_among name fs is.slots g f k found there at
 named_in_body S t _ is name g f k found there at = absurd cc
 
 pub named_at : (S : DeclaredSchema) (t : ℕ) → IsDeclared S → (name : Name) (g f : DeclaredField) (k : ℕ)
-    → field_named (body_at S t) name ≡ Some g → slice_get (slots_in (body_at S t)) k ≡ Some f → k ≡ g.slot
+    → field_named (body_at S t) name ≡ Some g → slice_get (fields_in (body_at S t)) k ≡ Some f → k ≡ g.slot
     → f.name ≡ name
 named_at S t declared name g f k = by (slice_get S.types t) refl
   where
     by : (o : Option DeclaredType) → slice_get S.types t ≡ o → field_named (body_in o) name ≡ Some g
-        → slice_get (slots_in (body_in o)) k ≡ Some f → k ≡ g.slot → f.name ≡ name
+        → slice_get (fields_in (body_in o)) k ≡ Some f → k ≡ g.slot → f.name ≡ name
     by None e found there at = absurd cc
     by (Some type) e found there at =
         named_in_body S t type.body (declared.bodies t type e) name g f k found there at
@@ -78,15 +85,16 @@ none_put fs ms n long = record {
       ap (λ (o : Option Data). option_or o (get_member f.name ms)) (sym (get_or-replicate n k None None within));
 }
 
-module _ (S : DeclaredSchema) (t : ℕ) (declared : IsDeclared S) (name : Name) (d : Data) (ms rest : Members)
-    (trees : List (Option Data)) (so_far : ArePutSoFar (slots_in (body_at S t)) trees ms (member name d rest)) where
+module _ (S : DeclaredSchema) (t : ℕ) (declared : IsDeclared S) (fs : List DeclaredField)
+    (of : AreFieldsOf fs (body_at S t)) (name : Name) (d : Data) (ms rest : Members)
+    (trees : List (Option Data)) (so_far : ArePutSoFar fs trees ms (member name d rest)) where
   -- where its name finds no slot
-  pub none_more : field_named (body_at S t) name ≡ None → ArePutSoFar (slots_in (body_at S t)) trees ms rest
+  pub none_more : field_named (body_at S t) name ≡ None → ArePutSoFar fs trees ms rest
   none_more none = record {
     all = so_far.all;
     each = λ k f there.
         let apart : f.name ≢ name = λ same.
-        let found = (found_as S t declared k f there).0 in
+        let found = (found_as S t declared k f (in_fields fs (body_at S t) of k f there)).0 in
         let both : None ≡ Some f = sym none ∙ (ap (field_named (body_at S t)) (sym same) ∙ found) in
         cc in
         so_far.each k f there ∙ ap (option_or (get_or trees k None)) (passed_over f.name name d rest apart);
@@ -94,29 +102,30 @@ module _ (S : DeclaredSchema) (t : ℕ) (declared : IsDeclared S) (name : Name) 
 
   -- where its name finds a field
   pub one_more : (g : DeclaredField) → field_named (body_at S t) name ≡ Some g → get_member name ms ≡ Some d
-      → ArePutSoFar (slots_in (body_at S t)) (set trees g.slot (Some d)) ms rest
+      → ArePutSoFar fs (set trees g.slot (Some d)) ms rest
   one_more g found here = record {
     all = length-set trees g.slot (Some d) ∙ so_far.all;
     each = λ k f there. by k f there (bytes_eq f.name name) refl;
   }
     where
-      by : (k : ℕ) (f : DeclaredField) → slice_get (slots_in (body_at S t)) k ≡ Some f → (b : Bool)
+      by : (k : ℕ) (f : DeclaredField) → slice_get fs k ≡ Some f → (b : Bool)
           → bytes_eq f.name name ≡ b → get_member f.name ms
           ≡ option_or (get_or (set trees g.slot (Some d)) k None) (get_member f.name rest)
       by k f there true e =
           let same : f.name ≡ name = (bytes_eq-Decides f.name name).0 e in
-          let is = found_as S t declared k f there in
+          let is = found_as S t declared k f (in_fields fs (body_at S t) of k f there) in
           let both : Some g ≡ Some f = sym found ∙ (ap (field_named (body_at S t)) (sym same) ∙ is.0) in
           let at : k ≡ g.slot = number_is g f k both is.1 in
           let within : g.slot < length trees =
-          omega (arith, slice_get_within (slots_in (body_at S t)) k f there, so_far.all, at) in
+          omega (arith, slice_get_within fs k f there, so_far.all, at) in
           let put : get_or (set trees g.slot (Some d)) k None ≡ Some d =
           ap (λ n. get_or (set trees g.slot (Some d)) n None) at ∙ get_or-set_same trees g.slot (Some d) None within in
           ap (λ n. get_member n ms) same ∙ (here ∙ sym (ap (λ o. option_or o (get_member f.name rest)) put))
       by k f there false e =
           let apart : f.name ≢ name = λ same.
           let both : true ≡ false = sym ((bytes_eq-Decides f.name name).1 same) ∙ e in cc in
-          let other : k ≢ g.slot = λ at. apart (named_at S t declared name g f k found there at) in
+          let other : k ≢ g.slot = λ at. apart
+          (named_at S t declared name g f k found (in_fields fs (body_at S t) of k f there) at) in
           so_far.each k f there
           ∙ (ap (option_or (get_or trees k None)) (passed_over f.name name d rest apart)
           ∙ ap (λ o. option_or o (get_member f.name rest)) (sym (get_or-set_other trees g.slot k (Some d) None other)))
@@ -144,33 +153,34 @@ abbrev pub put_at : Option DeclaredField → List (Option Data) → Data → Lis
 put_at None trees d = trees
 put_at (Some g) trees d = set trees g.slot (Some d)
 
-pub next_put : (S seen : DeclaredSchema) (t : ℕ) → IsDeclared S → (m : BTreeMap (String Global) Value)
+pub next_put : (S seen : DeclaredSchema) (t : ℕ) → IsDeclared S → (fs : List DeclaredField)
+    → AreFieldsOf fs (body_at S t) → (m : BTreeMap (String Global) Value)
     (es : List Entry) (e : Entry) (rest : List Entry) (asked : Name) (o : Option DeclaredField)
     (trees : List (Option Data)) → seen ≡ S → asked ≡ string_bytes e.0 → o ≡ field_named (body_at seen t) asked
     → es ≡ e ∷ rest → AreFound m es
-    → ArePutSoFar (slots_in (body_at S t)) trees (members_view m.entries) (members_view es)
-    → ArePutSoFar (slots_in (body_at S t)) (put_at o trees (view e.1)) (members_view m.entries) (members_view rest)
-next_put S seen t declared m es e rest asked o trees same_schema same_name answer steps found so_far =
+    → ArePutSoFar fs trees (members_view m.entries) (members_view es)
+    → ArePutSoFar fs (put_at o trees (view e.1)) (members_view m.entries) (members_view rest)
+next_put S seen t declared fs of m es e rest asked o trees same_schema same_name answer steps found so_far =
     let name = string_bytes e.0 in
     let ms = members_view m.entries in
     let looked : o ≡ field_named (body_at S t) name =
     answer ∙ (ap (λ (s : DeclaredSchema). field_named (body_at s t) asked) same_schema
     ∙ ap (field_named (body_at S t)) same_name) in
-    let before : ArePutSoFar (slots_in (body_at S t)) trees ms (member name (view e.1) (members_view rest)) =
+    let before : ArePutSoFar fs trees ms (member name (view e.1) (members_view rest)) =
     rw steps at so_far in
     let one : get string_cmp m e.0 ≡ Some e.1 =
     All-head (λ x. get string_cmp m x.0 ≡ Some x.1) e rest (subst (AreFound m) steps found) in
     let here : get_member name ms ≡ Some (view e.1) = sym (view-lookup name m.entries) ∙ ap (option_map view) one in
-    by o looked (none_more S t declared name (view e.1) ms (members_view rest) trees before)
-    (λ g is. one_more S t declared name (view e.1) ms (members_view rest) trees before g is here)
+    by o looked (none_more S t declared fs of name (view e.1) ms (members_view rest) trees before)
+    (λ g is. one_more S t declared fs of name (view e.1) ms (members_view rest) trees before g is here)
   where
     by : (x : Option DeclaredField) → x ≡ field_named (body_at S t) (string_bytes e.0)
         → (field_named (body_at S t) (string_bytes e.0) ≡ None
-        → ArePutSoFar (slots_in (body_at S t)) trees (members_view m.entries) (members_view rest))
+        → ArePutSoFar fs trees (members_view m.entries) (members_view rest))
         → ((g : DeclaredField) → field_named (body_at S t) (string_bytes e.0) ≡ Some g
-        → ArePutSoFar (slots_in (body_at S t)) (set trees g.slot (Some (view e.1))) (members_view m.entries)
+        → ArePutSoFar fs (set trees g.slot (Some (view e.1))) (members_view m.entries)
         (members_view rest))
-        → ArePutSoFar (slots_in (body_at S t)) (put_at x trees (view e.1)) (members_view m.entries) (members_view rest)
+        → ArePutSoFar fs (put_at x trees (view e.1)) (members_view m.entries) (members_view rest)
     by None is none some = none (sym is)
     by (Some g) is none some = some g (sym is)
 

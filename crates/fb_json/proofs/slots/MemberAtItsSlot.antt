@@ -1,7 +1,7 @@
 -- What is at a slot is what a look-up of the slot's name finds.
 use Rattle.std.proofs.Common.{◌≡◌, ◌∙◌, ℕ, ◌<◌, List, Bool, Option, None, Some, Bor, length, option_map, slice_get}
 use Rattle.std.proofs.Common.{map, get_or, ap, sym, refl}
-use Rattle.std.proofs.lemmas.Option.{slice_get-map, slice_get-get_or}
+use Rattle.std.proofs.lemmas.Option.{slice_get-map}
 use Rattle.serde_json.specs.declared.value.Value.{Value}
 use Rattle.serde_json.specs.Data.{Members}
 use Rattle.serde_json.specs.Find.{get_member}
@@ -11,7 +11,7 @@ use Rattle.fb_schema.specs.Seen.{field_seen}
 use Rattle.fb_layout.specs.Laid.{LaidSchema}
 use Rattle.fb_json.specs.Meant.{look}
 use Rattle.fb_json.specs.SlotMembers.{AreMembersOf, looked_up, tree_seen}
-use Rattle.fb_json.proofs.members.MapFindsTheMembers.{looked, with_meaning}
+use Rattle.fb_json.proofs.members.LookUpFindsMembers.{looked, with_meaning}
 use Rattle.fb_json.proofs.slots.OneSlotOrFieldMore.{slot_at}
 
 meaning_of : (L : LaidSchema) (unknown : Bool) (r : Option (Bor Value))
@@ -38,16 +38,11 @@ module _ (trees : List (Option (Bor Value))) (fs : List DeclaredField) (ms : Mem
       → look L unknown ms f.name ≡ looked_up L unknown r
   looked_up_at L unknown there = looked_up_by L unknown ms f.name r (member_at there)
 
--- the same where the place is read as `trees[k]`
-pub read_at : (trees : List (Option (Bor Value))) (k : ℕ) (r : Option (Bor Value)) → k < length trees
-    → r ≡ get_or trees k r → slice_get trees k ≡ Some r
-read_at trees k r within is = slice_get-get_or trees k r within ∙ ap Some (sym is)
-
 -- the same in a loop over the slots
 pub looked_up_in : (trees : List (Option (Bor Value))) (slots : List FieldInfo) (ms : Members)
     → AreMembersOf trees (map field_seen slots) ms → (k : ℕ) (slot : FieldInfo) → k < length slots
-    → slot ≡ get_or slots k slot → (r : Option (Bor Value)) → k < length trees → r ≡ get_or trees k r
+    → slot ≡ get_or slots k slot → (r : Option (Bor Value)) → slice_get trees k ≡ Some r
     → (L : LaidSchema) (unknown : Bool) → look L unknown ms (field_seen slot).name ≡ looked_up L unknown r
-looked_up_in trees slots ms are k slot within is r inside there L unknown =
+looked_up_in trees slots ms are k slot within is r there L unknown =
     looked_up_at trees (map field_seen slots) ms are k (field_seen slot) (slot_at slots k slot within is) r L unknown
-    (read_at trees k r inside there)
+    there

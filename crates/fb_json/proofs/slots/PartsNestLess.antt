@@ -47,11 +47,11 @@ item_nested (w ∷ vs) zero v within is = rw is (omega arith)
 item_nested (w ∷ vs) (suc i) v within is = let h = item_nested vs i v (omega arith) is in omega (arith, h)
 
 -- one of some trees
-pub tree_within : (rs : List (Option (Bor Value))) (i : ℕ) (r : Option (Bor Value)) → i < length rs
-    → r ≡ get_or rs i r → tree_nested r ≤ most_nested rs
-tree_within [] i r within is = absurd (omega arith)
-tree_within (x ∷ rs) zero r within is = rw is (omega arith)
-tree_within (x ∷ rs) (suc i) r within is = let h = tree_within rs i r (omega arith) is in omega (arith, h)
+pub tree_within : (rs : List (Option (Bor Value))) (i : ℕ) (r : Option (Bor Value)) → slice_get rs i ≡ Some r
+    → tree_nested r ≤ most_nested rs
+tree_within [] i r there = absurd cc
+tree_within (x ∷ rs) zero r there = let same : x ≡ r = cc in rw (← same) (omega arith)
+tree_within (x ∷ rs) (suc i) r there = let h = tree_within rs i r there in omega (arith, h)
 
 found_nested : (o : Ordering) (e d : Data) (found : Option Data) (more : ℕ)
     → (found ≡ Some d → nested d ≤ more) → match_ordering o found (Some e) found ≡ Some d

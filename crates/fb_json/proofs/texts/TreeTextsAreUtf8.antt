@@ -21,7 +21,7 @@ use Rattle.fb_value.specs.Datum.{more_parts, SlotEntries, no_entries, absent_ent
 use Rattle.fb_json.specs.Means.{PresentAs, PresentMeans, member_called, MeansAs, MemberMeans, PartsMean, EachMeans}
 use Rattle.fb_json.specs.Means.{SlotsMean}
 use Rattle.fb_json.proofs.laws.EachStepOfABindSucceeds.{some_inj}
-use Rattle.fb_json.proofs.members.MapFindsTheMembers.{found_in}
+use Rattle.fb_json.proofs.members.LookUpFindsMembers.{found_in}
 use Rattle.fb_json.proofs.texts.ValueTextsAreUtf8.{HasUtf8, HaveUtf8, EntriesHaveUtf8}
 
 abbrev mutual

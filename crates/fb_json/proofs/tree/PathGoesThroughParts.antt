@@ -6,11 +6,11 @@ use Rattle.serde_json.specs.Data.{array, object, Members}
 use Rattle.serde_json.specs.View.{view, items_view}
 use Rattle.serde_json.specs.declared.value.Value.{Value as Json}
 use Rattle.fb_schema.specs.declared.kinds.Kind.{Kind}
-use Rattle.fb_schema.specs.declared.kinds.Kind.TheVariants.{Table}
+use Rattle.fb_schema.specs.declared.kinds.Kind.TheVariants.{Struct, Table}
 use Rattle.fb_schema.specs.declared.kinds.Shape.TheVariants.{One, Many}
 use Rattle.fb_schema.specs.declared.kinds.TypeId.{TypeId}
 use Rattle.fb_schema.specs.declared.types.FieldInfo.{FieldInfo}
-use Rattle.fb_schema.specs.Schema.{DeclaredField, body_at, slots_in}
+use Rattle.fb_schema.specs.Schema.{DeclaredField, body_at, parts_in, slots_in}
 use Rattle.fb_schema.specs.Seen.{field_seen}
 use Rattle.fb_layout.specs.Laid.{LaidSchema}
 use Rattle.fb_json.specs.declared.faults.Place.{Place}
@@ -221,3 +221,17 @@ module _ (L : LaidSchema) (unknown : Bool) (ms : Members) (t : TypeId) (at : Pla
         → Adds old new (IsFirstAt L unknown (tree_spot (object ms) (One (Table t)) at levels left)) fault
     in_table slots fault old new are known found =
         (found.0, found.1, table_path slots are known fault found.0 found.2)
+
+pub in_struct : (L : LaidSchema) (unknown : Bool) (ms : Members) (s : TypeId) (at : Place) (levels left : ℕ)
+    (fields : List DeclaredField) (fault : JsonFault) (old new : Option (List Step))
+    → fields ≡ parts_in (body_at L.schema s.0)
+    → if_known (unknown || names_known (body_at L.schema s.0) ms) (type_place s.0) ≡ Ok tt
+    → Adds old new (IsFirstIn L unknown (ToField (look L unknown ms) s fields levels left)) fault
+    → Adds old new (IsFirstAt L unknown (tree_spot (object ms) (One (Struct s)) at levels left)) fault
+unfolding object_front
+in_struct L unknown ms s at levels left fields fault old new are known found = (
+  found.0,
+  found.1,
+  through L unknown (tree_spot (object ms) (One (Struct s)) at levels left) left (rw known refl) fault found.0
+      (rw are at found.2),
+)

@@ -1,0 +1,2 @@
+-- What the proofs of src/numbered_members.rt use.
+pub mod OneMoreIsNumbered
