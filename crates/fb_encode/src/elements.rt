@@ -9,11 +9,19 @@ ghost use Rattle.fb_json.specs.Outcome.{Fails};
 ghost use Rattle.fb_build.specs.Fields.{IsElement, is_reference};
 ghost use Rattle.fb_encode.specs.TreesNoted.{AddsInline, AreElementsAdded, IsElementAdded, IsNoted, vector_given};
 
-use fb_json::{JsonFault, Place, Source, element_of, number_of};
+use fb_json::{JsonFault, Place, Source, number_of, struct_parts};
 use fb_schema::Kind;
 use fb_tape::Tape;
 use fb_value::Value;
 use serde_json::Value as Json;
+
+/// What the elements of a vector are, where their faults are, and how many levels of tables may follow.
+#[derive(Clone, Copy)]
+pub(crate) struct Elements {
+    pub(crate) kind: Kind,
+    pub(crate) place: Place,
+    pub(crate) levels: u8,
+}
 
 /// Notes a vector of numbers or structs, and returns the cells that are left.
 pub(crate) fn note_elements(
@@ -63,37 +71,53 @@ pub(crate) fn push_elements(
     ensures refused { IfErr result (λ f. Fails f (items_meant source.entry.layout.now source.entry.unknown
         (items_view elements.now) kind place levels left)) }
 {
+    let mut parts = Vec::new(source.alloc);
     let mut left = left;
     for element in elements {
-        left = push_next(source, tape, element, kind, place, levels, left)?;
+        let of = Elements {
+            kind,
+            place,
+            levels,
+        };
+        left = push_next(source, tape, element, of, left, &mut parts)?;
     }
     Ok(left)
 }
 
-/// Adds a number or a struct to the vector that was begun, and returns the cells that are left.
+/// Adds a number or a struct to the vector that was begun, and returns the cells that are left. `parts` is where those
+/// of a struct are kept meanwhile.
 #[inline(always)]
 fn push_next(
     source: Source,
     tape: &mut Tape<'_>,
     element: &Json,
-    kind: Kind,
-    place: Place,
-    levels: u8,
+    of: Elements,
     left: u32,
+    parts: &mut Vec<Value>,
 ) -> Result<u32, JsonFault>
     requires layout { tape.old.layout ≡ source.layout.now }
-    requires inline { is_reference (one_of (stored_kind source.layout.now.schema kind)) ≡ false }
-    requires element { IsElement source.layout.now (stored_kind source.layout.now.schema kind) }
-    ensures added { let L = source.entry.layout.now in IfOk result (IsElementAdded L (stored_kind L.schema kind)
-        (meant L source.entry.unknown (tree_view element.now) (One kind) place levels left) tape.old tape.new) }
+    requires inline { is_reference (one_of (stored_kind source.layout.now.schema of.kind)) ≡ false }
+    requires element { IsElement source.layout.now (stored_kind source.layout.now.schema of.kind) }
+    ensures added { let L = source.entry.layout.now in
+        IfOk result (IsElementAdded L (stored_kind L.schema of.kind)
+        (meant L source.entry.unknown (tree_view element.now) (One of.kind) of.place of.levels left)
+        tape.old tape.new) }
     ensures refused { IfErr result (λ f. Fails f (meant source.entry.layout.now source.entry.unknown
-        (tree_view element.now) (One kind) place levels left)) }
+        (tree_view element.now) (One of.kind) of.place of.levels left)) }
 {
+    let Elements {
+        kind,
+        place,
+        levels,
+    } = of;
     if let Some(number) = number_of(source, element, kind, place) {
         tape.push_element(kind, &Value::Number(number?))?;
         return Ok(left);
     }
-    let (value, left) = element_of(source, element, kind, place, levels, left)?;
-    tape.push_element(kind, &value)?;
+    let Kind::Struct(structure) = kind else {
+        unreachable!();
+    };
+    let left = struct_parts(source, element, structure, place, levels, left, parts)?;
+    tape.push_struct(structure, parts.as_slice())?;
     Ok(left)
 }

@@ -1,19 +1,16 @@
 //! Slots of a table: what each stores is noted as its member is read.
-ghost use Rattle.std.specs.Prelude.{◌≡◌, ℕ, [], IfErr, IfOk, Ok, OnOk, Option, Some, false, true};
+ghost use Rattle.std.specs.Prelude.{◌≡◌, [], IfErr, IfOk, Ok, Option, Some, false};
 ghost use Rattle.serde_json.specs.View.{view as tree_view};
 ghost use Rattle.fb_schema.specs.Seen.{field_seen};
 ghost use Rattle.fb_schema.specs.WellDeclared.{MarksFit};
+ghost use Rattle.fb_schema.specs.declared.kinds.Kind.TheVariants.{Struct};
 ghost use Rattle.fb_schema.specs.declared.kinds.Shape.TheVariants.{One};
-ghost use Rattle.fb_layout.specs.Laid.{stored_kind, stored_shape};
+ghost use Rattle.fb_layout.specs.Laid.{stored_kind, stored_shape, struct_kind};
 ghost use Rattle.fb_layout.specs.Seen.{slot_seen};
-ghost use Rattle.fb_value.specs.Counts.{is_whole};
-ghost use Rattle.fb_value.specs.Datum.{Datum};
-ghost use Rattle.fb_value.specs.Fits.{Fits};
-ghost use Rattle.fb_value.specs.View.{view};
 ghost use Rattle.fb_tape.specs.InlineBytes.{IsInline};
 ghost use Rattle.fb_tape.specs.Tapes.{Taped};
 ghost use Rattle.fb_json.specs.Meant.{slot_place};
-ghost use Rattle.fb_json.specs.Outcome.{Counted, Fails};
+ghost use Rattle.fb_json.specs.Outcome.{Fails};
 ghost use Rattle.fb_json.specs.SlotMembers.{is_of_union, tree_seen};
 ghost use Rattle.fb_encode.specs.StoredAs.{IsStoredAs};
 ghost use Rattle.fb_encode.specs.SlotsRead.{NotesSlot, left_of, present_given, slot_given};
@@ -21,12 +18,11 @@ ghost use Rattle.fb_encode.specs.TreesNoted.{IsEntryNoted, IsPart, IsSlot};
 
 use crate::parts::{note_object, note_part};
 use fb_build::{Noting, is_default};
-use fb_json::{JsonFault, Place, Source, element_of, is_null, number_of, without};
+use fb_json::{JsonFault, Place, Source, is_null, number_of, struct_parts, without};
 use fb_schema::{FieldInfo, Kind, Shape, TypeId};
 use fb_tape::OpenFields;
 use fb_value::Value;
 use serde_json::Value as Json;
-use std::alloc::AllocError;
 
 /// A slot of a table that is read.
 #[derive(Clone, Copy)]
@@ -135,6 +131,34 @@ fn note_reference(
     Ok(left)
 }
 
+/// Notes a struct, and returns the cells that are left.
+fn note_struct(
+    source: Source,
+    opened: &mut OpenFields,
+    slot: SlotRead<'_>,
+    structure: TypeId,
+    tree: &Json,
+    levels: u8,
+    left: u32,
+) -> Result<u32, JsonFault>
+    requires used { slot.field.now.deprecated ≡ false }
+    requires kind { slot.field.now.shape ≡ One (Struct structure) }
+    requires inline { IsInline source.layout.now (struct_kind structure.0) }
+    ensures noted { let L = source.entry.layout.now in
+        IfOk result (λ rest. (T : Taped) → T.unfinished ≡ [] → IsEntryNoted L slot.entry.number
+        (slot_seen L slot.entry.field.now)
+        (present_given L source.entry.unknown slot.entry (tree_view tree.now) levels left)
+        T T opened.old opened.new rest) }
+    ensures refused { IfErr result (λ e. Fails e (present_given source.entry.layout.now source.entry.unknown
+        slot.entry (tree_view tree.now) levels left)) }
+{
+    let mut parts = Vec::new(source.alloc);
+    let place = slot.place();
+    let left = struct_parts(source, tree, structure, place, levels, left, &mut parts)?;
+    opened.push_struct(source.layout, slot.number, structure, parts.as_slice())?;
+    Ok(left)
+}
+
 /// Notes a number or a struct, unless it is the slot's default, and returns the cells that are left.
 fn note_inline(
     source: Source,
@@ -157,41 +181,18 @@ fn note_inline(
     ensures refused { IfErr result (λ e. Fails e (present_given source.entry.layout.now source.entry.unknown
         slot.entry (tree_view tree.now) levels left)) }
 {
-    let place = slot.place();
-    if let Some(number) = number_of(source, tree, kind, place) {
-        note_value(source, opened, slot, kind, &Value::Number(number?))?;
+    if let Kind::Struct(structure) = kind {
+        return note_struct(source, opened, slot, structure, tree, levels, left);
+    }
+    let Some(number) = number_of(source, tree, kind, slot.place()) else {
+        unreachable!();
+    };
+    let value = Value::Number(number?);
+    if is_default(slot.field, &value) {
         return Ok(left);
     }
-    let (value, left) = element_of(source, tree, kind, place, levels, left)?;
-    note_value(source, opened, slot, kind, &value)?;
+    opened.push_inline(source.layout, slot.number, kind, &value)?;
     Ok(left)
-}
-
-/// Notes the value of a number or a struct, unless it is the slot's default.
-#[inline(always)]
-fn note_value(
-    source: Source,
-    opened: &mut OpenFields,
-    slot: SlotRead<'_>,
-    kind: Kind,
-    value: &Value,
-) -> Result<(), AllocError>
-    requires used { slot.field.now.deprecated ≡ false }
-    requires kind { slot.field.now.shape ≡ One kind }
-    requires plain { is_of_union slot.field.now.shape ≡ false }
-    requires inline { IsInline source.layout.now (stored_kind source.layout.now.schema kind) }
-    requires fits { let L = source.layout.now in Fits L (stored_shape L.schema (One kind)) (view value.now) }
-    requires whole { is_whole (view value.now) ≡ true }
-    ensures { let L = source.entry.layout.now in (given : Counted (Option Datum)) (rest : ℕ) (T : Taped)
-        → given ≡ Ok (Some (view value.now), rest) → T.unfinished ≡ []
-        → OnOk result (IsEntryNoted L slot.entry.number (slot_seen L slot.entry.field.now) given T T
-        opened.old opened.new rest) }
-{
-    if is_default(slot.field, value) {
-        return Ok(());
-    }
-    opened.push_inline(source.layout, slot.number, kind, value)?;
-    Ok(())
 }
 
 /// Notes what a slot in use stores of its member, which isn't `null`, and returns the cells that are left.

@@ -6,11 +6,12 @@ ghost use Rattle.fb_json.specs.Meant.{meant};
 ghost use Rattle.fb_encode.specs.TextsRead.{IsNotedOr, IsReadAs};
 ghost use Rattle.fb_encode.specs.TreesNoted.{IsPart};
 
+use crate::elements::Elements;
 use crate::numbers::note_number_runs;
 use crate::objects::note_members;
 use crate::parts::note_part;
 use crate::reader::{Excerpt, MOST_BRACKETS, Reader, Unread, innermost};
-use crate::vectors::{Elements, note_runs};
+use crate::vectors::note_runs;
 use fb_build::{Noting, is_reference};
 use fb_json::{JsonFault, Place, Source};
 use fb_pieces::text_is_read_without_brackets;

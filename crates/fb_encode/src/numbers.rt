@@ -11,10 +11,10 @@ ghost use Rattle.fb_build.specs.Fields.{IsElement, is_reference};
 ghost use Rattle.fb_encode.specs.TextsRead.{IsNotedOr, IsReadAs, IsRunAdded, IsRunReadAs};
 ghost use Rattle.fb_encode.specs.TreesNoted.{AddsInline};
 
-use crate::elements::push_elements;
+use crate::elements::{Elements, push_elements};
 use crate::excerpts::{TextWalk, note_at_once, unless_memory};
 use crate::reader::{Excerpt, MOST_BRACKETS, Unread, innermost_elements};
-use crate::vectors::{Elements, Found, elements_of, left_for};
+use crate::vectors::{Found, elements_of, left_for};
 use fb_json::{JsonFault, Source};
 use fb_pieces::{
     Run, cut_array, cut_array_is_read, cut_array_is_utf8, text_is_read_without_brackets,

@@ -9,7 +9,7 @@ ghost use Rattle.fb_encode.specs.TreesNoted.{IsNoted};
 
 use crate::entries::{SlotRead, note_slot};
 use fb_build::Noting;
-use fb_json::{JsonFault, Place, Source, code_of_slot, is_absent, members_by_slot, places};
+use fb_json::{JsonFault, Place, SlotMembers, Source, code_of_slot, is_absent, members_by_slot};
 use fb_schema::TypeId;
 use serde_json::{Map, Value as Json};
 
@@ -44,15 +44,13 @@ pub(crate) fn note_table(
     }
     let _schema = source.layout.schema(); // its contract: the layout is well made
     let slots = source.layout.slots_of(owner);
-    let mut few = [None; 16];
-    let mut many = Vec::new(source.alloc);
-    members_by_slot(source, owner, slots, members, &mut few, &mut many)?;
-    let trees = places(&few, &many, slots.len());
+    let mut trees = SlotMembers::new(source.alloc);
+    members_by_slot(source, owner, slots, members, &mut trees)?;
     let first = noting.opened.len();
     let mut left = left - 1;
     let mut code = 0;
     for (k, field) in slots.iter().enumerate() {
-        let tree = trees[k];
+        let tree = trees.get(k);
         if is_absent(field, tree) {
             continue;
         }

@@ -91,7 +91,10 @@ fn note_at_once<'l>(source: Source<'l>, json: &[u8], limits: Limits) -> Result<T
             });
         }
     };
-    match note_root(source, &tree, limits) {
+    let Ok(noting) = Noting::with_room(source.alloc, source.layout) else {
+        return Err(TextFault::Memory);
+    };
+    match note_root(source, noting, &tree, limits) {
         Ok(tape) => Ok(tape),
         Err(fault) => Err(TextFault::Encode(EncodeFault::Json(fault))),
     }

@@ -1,10 +1,11 @@
 //! Buffers of trees.
-ghost use Rattle.std.specs.Prelude.{◌≡◌, ◌⊎◌, IfErr, IfOk};
+ghost use Rattle.std.specs.Prelude.{◌≡◌, ◌⊎◌, [], IfErr, IfOk};
 ghost use Rattle.std.specs.Prelude.{Bool};
 ghost use Rattle.serde_json.specs.Data.{Data};
 ghost use Rattle.serde_json.specs.View.{view as tree_view};
 ghost use Rattle.fb_value.specs.Bounds.{Bounds};
 ghost use Rattle.fb_value.specs.Datum.{Datum};
+ghost use Rattle.fb_tape.specs.Tapes.{Waits};
 ghost use Rattle.fb_json.specs.Refuses.{IsFirst, MayLackMemory};
 ghost use Rattle.fb_build.specs.NotedRoots.{NotesRoot};
 ghost use Rattle.fb_encode.specs.Encoded.{EncodeRefused, EncodeRefusedFramed, IsEncoded, IsEncodedFramed};
@@ -20,12 +21,17 @@ use fb_value::Limits;
 use serde_json::Value as Json;
 use std::alloc::Global;
 
-/// A tape on which the value is noted that a tree means under the root table.
+/// The tape with the value that a tree means under the root table, where nothing was noted yet.
 pub(crate) fn note_root<'l>(
     source: Source<'l>,
+    noting: Noting<'l>,
     tree: &Json,
     limits: Limits,
 ) -> Result<Tape<'l>, JsonFault>
+    requires layout { noting.tape.layout ≡ source.layout.now }
+    requires waits { Waits noting.tape [] }
+    requires whole { noting.tape.unfinished ≡ [] }
+    requires room { noting.tape.room ≡ 0 }
     ensures noted { IfOk result
         (IsRootNoted source.entry.layout.now limits source.entry.unknown (tree_view tree.now)) }
     ensures first { IfErr result (λ f. (f ≡ JsonFault.Memory)
@@ -40,7 +46,7 @@ pub(crate) fn note_root<'l>(
     };
     let levels = limits.most_depth();
     let cells = limits.most_cells();
-    let mut noting = Noting::new(source.alloc, source.layout);
+    let mut noting = noting;
     let _left = note_object(source, &mut noting, tree, root, place, levels, cells)?;
     let Noting { tape, .. } = noting;
     Ok(tape)
@@ -87,7 +93,8 @@ pub fn encode_tree(
         layout,
         unknown,
     };
-    let tape = match note_root(source, &tree, limits) {
+    let noting = Noting::new(alloc, layout);
+    let tape = match note_root(source, noting, &tree, limits) {
         Ok(tape) => tape,
         Err(fault) => return Err(EncodeFault::Json(fault)),
     };

@@ -11,6 +11,7 @@ ghost use Rattle.fb_pieces.specs.CutTexts.{run_text};
 ghost use Rattle.fb_build.specs.Fields.{IsElement, is_reference};
 ghost use Rattle.fb_encode.specs.TextsRead.{IsNotedOr, IsReadAs, IsRunNoted, IsRunReadAs};
 
+use crate::elements::Elements;
 use crate::excerpts::{TextWalk, note_at_once, note_excerpt, unless_memory};
 use crate::parts::note_targets;
 use crate::reader::{Excerpt, MOST_BRACKETS, Unread, innermost_elements};
@@ -22,14 +23,6 @@ use fb_pieces::{
 };
 use fb_schema::{Kind, Shape};
 use serde_json::Value as Json;
-
-/// What the elements of a vector are, where their faults are, and how many levels of tables may follow.
-#[derive(Clone, Copy)]
-pub(crate) struct Elements {
-    pub(crate) kind: Kind,
-    pub(crate) place: Place,
-    pub(crate) levels: u8,
-}
 
 /// What was found of a vector's elements: the cells that are left, or the first fault, and how many elements there are.
 #[derive(Clone, Copy)]

@@ -1,7 +1,6 @@
-use Rattle.std.proofs.Common.{◌≡◌, ◌∙◌, ◌++◌, ◌∷◌, ◌<◌, [], None, refl, sym, ap, length, map}
-use Rattle.std.proofs.Common.{arith, rules}
+use Rattle.std.proofs.Common.{◌≡◌, ◌∙◌, ◌++◌, ◌∷◌, [], None, refl, sym, ap, length, map}
+use Rattle.std.proofs.Common.{arith, inl, rules}
 use Rattle.std.proofs.Common.{option_map, ◌-◌}
-use Rattle.std.proofs.lemmas.List.{length-map}
 use Rattle.std.proofs.lemmas.Result.{err_from_is_err_and}
 use Rattle.serde_json.specs.View.{view as tree_view, members_view}
 use Rattle.fb_schema.specs.Seen.{field_seen}
@@ -15,8 +14,8 @@ use Rattle.fb_value.specs.Room.{vector_room}
 use Rattle.fb_value.specs.View.{parts_in}
 use Rattle.fb_tape.specs.OpenFields.{reference_field}
 use Rattle.fb_json.specs.Meant.{look, meant, slot_place}
-use Rattle.fb_json.specs.SlotMembers.{AreMembersOf, looked_up, tree_seen}
-use Rattle.fb_json.proofs.slots.MemberAtItsSlot.{looked_up_at, read_at}
+use Rattle.fb_json.specs.SlotMembers.{looked_up, tree_seen}
+use Rattle.fb_json.proofs.slots.MemberAtItsSlot.{looked_up_at}
 use Rattle.fb_json.proofs.slots.OneSlotOrFieldMore.{fails_by, fails_is, slot_at}
 use Rattle.fb_json.proofs.slots.SlotsDecideTheTable.{table_fails, table_gives, table_unknown}
 use Rattle.fb_build.proofs.noted.OneMoreFits.{counted, elements_fit, long_more, parts_room_more}
@@ -307,6 +306,9 @@ tables::note_table-returns-then-left-eq0-clause-refused t c =
     no_cell L c.args.source.unknown ms (look L c.args.source.unknown ms) c.args.owner.0 c.args.place c.args.levels
     c.args.left (omega (arith, c.if-levels-eq0.false)) c.if-left-eq0.true
 
+pub tables::note_table-members_by_slot-requires : goal.tables::note_table-members_by_slot-requires
+tables::note_table-members_by_slot-requires t c = inl c.slots_of-slots.ensures.slots
+
 pub tables::note_table-returns-in_err-members_by_slot-clause-refused
     : goal.tables::note_table-returns-in_err-members_by_slot-clause-refused
 tables::note_table-returns-in_err-members_by_slot-clause-refused t c =
@@ -330,16 +332,13 @@ tables::note_table-loop-k-preserved-then-is_absent t c =
     let slots = c.slots_of-slots.result.now in
     let k = c.loop-k.k in
     let f = c.index-slots-k.result in
-    let trees = c.places-trees.result.now in
-    let members : AreMembersOf trees (map field_seen slots) ms =
-    rw c.places-trees.ensures c.in_ok-members_by_slot.ensures.members in
+    let trees = c.members_by_slot.new.found in
+    let members = c.in_ok-members_by_slot.ensures.members in
     let inv = c.loop-k.invariant in
     let at = slot_at slots k f c.loop-k-test.true c.index-slots-k.is in
-    let within : k < length trees = omega (arith, members.all, length-map slots field_seen, c.loop-k-test.true) in
-    let there = read_at trees k c.index-trees-k.result within c.index-trees-k.is in
     let none = c.is_absent.ensures.none c.if-is_absent.true in
-    let seen = looked_up_at trees (map field_seen slots) ms members k (field_seen f) at c.index-trees-k.result L u
-    there ∙ ap (looked_up L u) none in
+    let seen = looked_up_at trees (map field_seen slots) ms members k (field_seen f) at c.get-tree.result L u
+    c.get-tree.ensures.is ∙ ap (looked_up L u) none in
     let place = slot_place c.args.owner.0 k in
     let x = option_map a_number (slot_of L.schema (field_seen f)).if_absent in
     let given = c.is_absent.ensures.entry L (look L u ms) place c.loop-k.code (c.args.levels - 1) c.loop-k.left
@@ -364,14 +363,11 @@ tables::note_table-returns-in_err-code-clause-refused t c =
     let slots = c.slots_of-slots.result.now in
     let k = c.loop-k.k in
     let f = c.index-slots-k.result in
-    let trees = c.places-trees.result.now in
-    let members : AreMembersOf trees (map field_seen slots) ms =
-    rw c.places-trees.ensures c.in_ok-members_by_slot.ensures.members in
+    let trees = c.members_by_slot.new.found in
+    let members = c.in_ok-members_by_slot.ensures.members in
     let at = slot_at slots k f c.loop-k-test.true c.index-slots-k.is in
-    let within : k < length trees = omega (arith, members.all, length-map slots field_seen, c.loop-k-test.true) in
-    let there = read_at trees k c.index-trees-k.result within c.index-trees-k.is in
-    let seen = looked_up_at trees (map field_seen slots) ms members k (field_seen f) at c.index-trees-k.result L u
-    there in
+    let seen = looked_up_at trees (map field_seen slots) ms members k (field_seen f) at c.get-tree.result L u
+    c.get-tree.ensures.is in
     let fault = c.in_err-code.field-0.0 in
     let p = err_from_is_err_and c.from_residual-in_err-code.result c.from_residual-in_err-code.ensures.1 in
     let untold = untold L (look L u ms) c.args.owner.0 slots k f c.loop-k-test.true c.index-slots-k.is c.loop-k.code
@@ -411,18 +407,15 @@ tables::note_table-returns-in_err-left-clause-refused t c =
     let slots = c.slots_of-slots.result.now in
     let k = c.loop-k.k in
     let f = c.index-slots-k.result in
-    let trees = c.places-trees.result.now in
-    let members : AreMembersOf trees (map field_seen slots) ms =
-    rw c.places-trees.ensures c.in_ok-members_by_slot.ensures.members in
+    let trees = c.members_by_slot.new.found in
+    let members = c.in_ok-members_by_slot.ensures.members in
     let at = slot_at slots k f c.loop-k-test.true c.index-slots-k.is in
-    let within : k < length trees = omega (arith, members.all, length-map slots field_seen, c.loop-k-test.true) in
-    let there = read_at trees k c.index-trees-k.result within c.index-trees-k.is in
-    let seen = looked_up_at trees (map field_seen slots) ms members k (field_seen f) at c.index-trees-k.result L u
-    there in
+    let seen = looked_up_at trees (map field_seen slots) ms members k (field_seen f) at c.get-tree.result L u
+    c.get-tree.ensures.is in
     let place = slot_place c.args.owner.0 k in
     let fault = c.in_err-left.field-0.0 in
     let p = err_from_is_err_and c.from_residual-in_err-left.result c.from_residual-in_err-left.ensures.1 in
-    let by = entry_by L u (look L u ms) (field_seen f) c.index-trees-k.result place c.in_ok-code.code
+    let by = entry_by L u (look L u ms) (field_seen f) c.get-tree.result place c.in_ok-code.code
     (c.args.levels - 1) c.loop-k.left seen in
     let told = sym (c.in_ok-code.ensures (look L u ms) seen) in
     rw (p.1, p.2) (fails_by fault _ _ (λ h. table_fails L u ms (look L u ms) c.args.owner.0 c.args.place c.args.levels
@@ -439,16 +432,13 @@ tables::note_table-loop-k-preserved t c =
     let slots = c.slots_of-slots.result.now in
     let k = c.loop-k.k in
     let f = c.index-slots-k.result in
-    let trees = c.places-trees.result.now in
-    let members : AreMembersOf trees (map field_seen slots) ms =
-    rw c.places-trees.ensures c.in_ok-members_by_slot.ensures.members in
+    let trees = c.members_by_slot.new.found in
+    let members = c.in_ok-members_by_slot.ensures.members in
     let at = slot_at slots k f c.loop-k-test.true c.index-slots-k.is in
-    let within : k < length trees = omega (arith, members.all, length-map slots field_seen, c.loop-k-test.true) in
-    let there = read_at trees k c.index-trees-k.result within c.index-trees-k.is in
-    let seen = looked_up_at trees (map field_seen slots) ms members k (field_seen f) at c.index-trees-k.result L u
-    there in
+    let seen = looked_up_at trees (map field_seen slots) ms members k (field_seen f) at c.get-tree.result L u
+    c.get-tree.ensures.is in
     let place = slot_place c.args.owner.0 k in
-    let by = entry_by L u (look L u ms) (field_seen f) c.index-trees-k.result place c.in_ok-code.code
+    let by = entry_by L u (look L u ms) (field_seen f) c.get-tree.result place c.in_ok-code.code
     (c.args.levels - 1) c.loop-k.left seen in
     next_noted L (look L u ms) c.args.owner.0 slots k f c.loop-k-test.true c.index-slots-k.is c.loop-k.code
     (c.args.levels - 1) (c.args.left - 1) c.loop-k.left _ _ _ _ c.loop-k.invariant

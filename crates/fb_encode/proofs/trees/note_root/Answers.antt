@@ -25,8 +25,7 @@ returns-clause-noted c =
     let L = c.args.source.layout.now in
     let t = tree_view c.args.tree.now in
     let root = c.root-root.ensures ∙ ap (λ (s : DeclaredSchema). s.root) c.schema.ensures.schema in
-    let made = c.new-noting.ensures in
     let noted = c.in_ok-_left.ensures.noted in
     root_noted L c.args.limits c.args.source.unknown t c.root-root.result.0 c.most_depth-levels.result
-    c.most_cells-cells.result root c.most_depth-levels.ensures.exact c.most_cells-cells.ensures _ _ _ made.layout
-    made.waits made.room noted c.only_what_is_meant.ensures c.schema.ensures.made
+    c.most_cells-cells.result root c.most_depth-levels.ensures.exact c.most_cells-cells.ensures _ _ _ c.requires.layout
+    c.requires.waits c.requires.room noted c.only_what_is_meant.ensures c.schema.ensures.made
