@@ -1,7 +1,7 @@
 -- What a part of a reader's known bytes says of all of them.
 use Rattle.std.proofs.Common.{◌≡◌, ℕ, ◌<◌, ◌≤◌, ◌+◌, List, [], ◌++◌, length, take, drop, IfSome, Option, None, Some}
 use Rattle.std.proofs.Common.{Bool}
-use Rattle.std.proofs.Common.{true, false, refl, sym, ap, subst, ◌∙◌, length-append, arith}
+use Rattle.std.proofs.Common.{true, false, refl, sym, ap, ◌∙◌, length-append, arith}
 use Rattle.std.specs.Prelude.{IsTrue}
 use Rattle.std.specs.Io.KnownBytes.{Consumes, IsAtEnd}
 use Rattle.std.proofs.KnownBytes.{Consumes-trans, Consumes-all}
@@ -25,8 +25,7 @@ take_add xs a n =
 pub taken_more : (a b c : Option (List ℕ)) (xs ys : List ℕ) (filled n : ℕ) → take filled ys ≡ take filled xs
     → Consumes a b (take filled xs) → Consumes b c (take n (drop filled ys)) → Consumes a c (take (filled + n) ys)
 taken_more a b c xs ys filled n front before read =
-    subst (Consumes a c) (sym (take_add ys filled n))
-    (Consumes-trans a b c _ _ (subst (Consumes a b) (sym front) before) read)
+    rw take_add (Consumes-trans a b c _ _ (rw (← front) at before) read)
 
 -- a reader that brought nothing more has given all
 pub all_taken : (a b c : Option (List ℕ)) (xs ys new : List ℕ) (filled n : ℕ) → take filled ys ≡ take filled xs
@@ -40,7 +39,7 @@ all_taken a b c xs ys new filled n front before read end none same =
 pub had_more : (a c : Option (List ℕ)) (ys : List ℕ) (more most : ℕ) → Consumes a c (take more ys)
     → more ≤ length ys → most < more → IfSome a (λ xs. most < length xs)
 had_more a c ys more most taken fits over = had_all a c (take more ys) most taken
-    (subst (λ (k : ℕ). most < k) (sym (length-take-le more ys fits)) over)
+    (rw (length-take-le more ys fits) over)
 
 -- a read that returned bytes didn't fail
 pub no_failure : (b : Bool) → (IsTrue b → false ≡ true) → b ≡ false
