@@ -1,6 +1,6 @@
 -- The paths of a text and the names that are used stay what they are while more are noted.
 use Rattle.std.proofs.Common.{Bor, option_copied, ◌≡◌, ◌++◌, ◌<◌, ℕ, zero, suc, All, List, [], ◌∷◌, Option, length}
-use Rattle.std.proofs.Common.{get_or, refl, arith, ◌+◌, take, map, subst, sym}
+use Rattle.std.proofs.Common.{get_or, refl, arith, ◌+◌, take, map}
 use Rattle.std.specs.List.{AllZip}
 use Rattle.std.proofs.lemmas.Option.{get_or_from_slice_get, slice_get_within}
 use Rattle.std.proofs.lemmas.List.{take_more, map_push, get_or-map, length-map}
@@ -108,9 +108,8 @@ names_numbered tree (n ∷ ns) (r ∷ rs) h = let later = names_numbered tree ns
 module _ {X : Type 0} (use_in : X → Name) (used : PathTree) (us : List TypeUse) (xs : List X) (i : ℕ) where
   pub use_at : (d : TypeUse) (x : X) → AreUses used us (map use_in xs) → i < length xs → x ≡ get_or xs i x
       → IsNoted used (get_or us i d) (use_in x)
-  use_at d x all l e = subst (λ y. IsNoted used (get_or us i d) (use_in y)) (sym e)
-      (subst (IsNoted used (get_or us i d)) (get_or-map use_in xs i x (use_in x) l)
-      (zip_at (IsNoted used) us (map use_in xs) i d (use_in x) all (omega (arith, length-map xs use_in))))
+  use_at d x all l e = rw (e, ← (get_or-map use_in xs i x (use_in x) l))
+      (zip_at (IsNoted used) us (map use_in xs) i d (use_in x) all (omega (arith, length-map xs use_in)))
 
   pub uses_counted : AreUses used us (map use_in xs) → i < length xs → i < length us
   uses_counted all l = omega (arith, AllZip-long (IsNoted used) us (map use_in xs) all, length-map xs use_in)

@@ -1,5 +1,4 @@
-use Rattle.std.proofs.Common.{rules, arith, subst}
-use Rattle.fb_resolve.specs.Paths.{names_used, AreUses}
+use Rattle.std.proofs.Common.{rules, arith}
 use Rattle.fb_resolve.proofs.PathsKept.{first_use}
 use Rattle.fb_resolve.proofs.enum_values.EnumValues.of.Goals as goal
 
@@ -12,6 +11,6 @@ returns c = λ types scope.
     let used = c.requires.0 in
     let uses = c.args.uses.now in
     let name = c.in-Enum.read.underlying.bytes in
-    let all = subst (λ d. AreUses used uses (names_used d)) c.in-Enum.is c.requires.1 in
+    let all = rw c.in-Enum.is at c.requires.1 in
     let base = c.underlying-base.ensures used types scope name (first_use used uses name _ all) in
     grind (rules, base)

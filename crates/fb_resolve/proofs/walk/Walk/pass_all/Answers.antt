@@ -1,7 +1,6 @@
-use Rattle.std.proofs.Common.{◌≡◌, ◌==◌, ◌++◌, ◌+◌, ◌∙◌, ℕ, List, [], ◌∷◌, drop, map, refl, sym, ap, subst, rules}
+use Rattle.std.proofs.Common.{◌≡◌, ◌==◌, ◌++◌, ◌+◌, ◌∙◌, ℕ, List, [], ◌∷◌, drop, map, refl, sym, ap, rules}
 use Rattle.std.proofs.Common.{arith}
 use Rattle.std.specs.List.{AllZip, list_any}
-use Rattle.std.specs.Result.{IfOk}
 use Rattle.std.specs.Str.{bytes_eq}
 use Rattle.std.proofs.lemmas.Bool.Decides.{nat_tests}
 use Rattle.std.proofs.lemmas.List.{drop_more, drop_all}
@@ -83,7 +82,7 @@ pub returns-clause-repeats : goal.returns-clause-repeats
 returns-clause-repeats c =
     let w = c.loop-declaration.self in
     let placed = c.loop-declaration.invariant.placed in
-    subst (λ bs. IfOk c.repeated_numbers.result (λ r. r.items ≡ bs))
-    (rw c.as_slice.ensures.value (names_repeated w.tree placed.tree [] [] tt w.full_names.items w.types.items
-    placed.full_names))
-    c.repeated_numbers.ensures
+    rw (
+      c.as_slice.ensures.value,
+      names_repeated w.tree placed.tree [] [] tt w.full_names.items w.types.items placed.full_names,
+    ) at c.repeated_numbers.ensures

@@ -1,7 +1,6 @@
-use Rattle.std.proofs.Common.{rules, ◌≡◌, subst}
+use Rattle.std.proofs.Common.{rules, ◌≡◌}
 use Rattle.std.proofs.lemmas.Option.{same_Some}
-use Rattle.fb_resolve.specs.Meaning.{words_of_scope}
-use Rattle.fb_resolve.specs.Paths.{IsPath, IsNoted}
+use Rattle.fb_resolve.specs.Paths.{IsNoted}
 use Rattle.fb_resolve.proofs.PathsKept.{placed_grown}
 use Rattle.fb_resolve.proofs.walk.Walk.set_root.Goals as goal
 
@@ -22,6 +21,5 @@ returns-clause-placed c =
       notes = grown.notes;
       values = grown.values;
       full_names = grown.full_names;
-      root = λ r e. subst (λ r. IsPath w.tree w.path (words_of_scope r.scope) × IsNoted used number r.name.bytes)
-          (same_Some _ r e) (grown.scope, named);
+      root = λ r e. rw (← (same_Some _ r e)) (grown.scope, named);
     }
