@@ -1,6 +1,6 @@
 -- Lines that are none of the four over one file each.
-use Rattle.std.proofs.Common.{◌≡◌, ◌≢◌, if◌then◌else◌, ◌≤◌, ◌&&◌, Bool, true, false, not, List, Option, Some, None, map}
-use Rattle.std.proofs.Common.{length, refl, ap, sym, subst, is_some, nat_lt, codes, String, string_bytes}
+use Rattle.std.proofs.Common.{◌≡◌, ◌≢◌, if◌then◌else◌, ◌&&◌, Bool, true, false, not, List, Option, Some, None, map}
+use Rattle.std.proofs.Common.{length, refl, ap, sym, is_some, nat_lt, codes, String, string_bytes}
 use Rattle.std.proofs.Common.{bytes_eq, rules}
 use Rattle.std.proofs.lemmas.Bool.{le-ltb}
 use Rattle.clap.specs.Words.{Row, Text}
@@ -133,21 +133,19 @@ pub inspection_is_no_job : (line : Option (Text × List Row)) (inspection : Insp
     → IsRequestOf line (Inspect inspection explaining) → is_job_line line ≡ false
 inspection_is_no_job None inspection explaining is = absurd is
 inspection_is_no_job (Some p) inspection explaining is =
-    subst (λ name. is_job_of name p.1 ≡ false) (sym (is_named_inspect p.0 p.1 inspection is.0)) (of_an_inspection p.1)
+    rw (is_named_inspect p.0 p.1 inspection is.0) (of_an_inspection p.1)
 
 pub number_is_no_job : (line : Option (Text × List Row)) (number : Option (String Global))
     → IsRequestOf line (Explain number) → is_job_line line ≡ false
 number_is_no_job None number is = absurd is
-number_is_no_job (Some p) number is = subst (λ name. is_job_of name p.1 ≡ false) (sym is.0) (of_a_number p.1)
+number_is_no_job (Some p) number is = rw is.0 (of_a_number p.1)
 
 task_is_no_job : (name : Text) (rows : List Row) (files : List Text) (task : Task) → IsTask name rows files task
     → is_job_of name rows ≡ false
 task_is_no_job name rows files (task.Binary dir unknown) is = with_dir name rows (ap is_some is.2)
 task_is_no_job name rows files (task.Json dir raw defaults) is = with_dir name rows (ap is_some is.2)
 task_is_no_job name rows files (task.Check raw) is =
-    let many : 2 ≤ length (paths_in (codes "BIN") rows) = subst (λ paths. 2 ≤ length paths) is.1 is.2 in
-    subst (λ name. is_job_of name rows ≡ false) (sym is.0)
-    (several rows (le-ltb (length (paths_in (codes "BIN") rows)) 2 many))
+    rw is.0 (several rows (le-ltb (length (paths_in (codes "BIN") rows)) 2 (rw is.1 at is.2)))
 
 pub batch_is_no_job : (line : Option (Text × List Row)) (batch : Batch) (explaining : Explaining)
     → IsRequestOf line (DoEach batch explaining) → is_job_line line ≡ false

@@ -1,9 +1,8 @@
-use Rattle.std.proofs.Common.{◌≡◌, IfOk, OnOk, true, ap, subst, refl, ◌∙◌, map, string_bytes}
+use Rattle.std.proofs.Common.{◌≡◌, List, ap, refl, ◌∙◌, map, string_bytes}
 use Rattle.std.proofs.lemmas.Result.{IfErr-weaker}
-use Rattle.clap.specs.Words.{App, HasMatchesOf, kind_of, takes, subcommand_of, subcommand_rows_of}
-use Rattle.clap.specs.declared.error.kind.ErrorKind.TheVariants.{OutOfMemory}
+use Rattle.clap.specs.Words.{App, HasMatchesOf, Text, takes, subcommand_of, subcommand_rows_of}
+use Rattle.clap.specs.declared.parser.matches.ArgMatches.{ArgMatches}
 use Rattle.flatc_cli.specs.Commands.{flatc_app}
-use Rattle.flatc_cli.specs.Lines.{IsRequestOf, is_line}
 use Rattle.flatc_cli.proofs.Refusals.{refuses_memory}
 use Rattle.flatc_cli.proofs.line.request_of.Goals as goal
 
@@ -18,27 +17,20 @@ returns-in-Err-clause-refusal c = λ taken.
     (c.in-Err.ensures.passes (ap (λ (a : App). takes a (map string_bytes c.args.words.now))
     c.in_ok-flatc_command.ensures.0 ∙ taken))
 
+-- the subcommand and its rows are those of the program's own command line
+own_rows : {a : App} (words : List Text) (m : ArgMatches) → a ≡ flatc_app → HasMatchesOf a words m
+    → subcommand_rows_of m ≡ subcommand_of flatc_app words
+own_rows words m same matches = ((rw same at matches) refl).1
+
 pub returns-clause-request : goal.returns-clause-request
 returns-clause-request c =
-    let matches : HasMatchesOf flatc_app (map string_bytes c.args.words.now) c.in-Ok.matches =
-    subst (λ (a : App). HasMatchesOf a (map string_bytes c.args.words.now) c.in-Ok.matches)
-    c.in_ok-flatc_command.ensures.0 c.in-Ok.ensures.matches in
-    subst (λ line. IfOk c.matched_request.result (IsRequestOf line)) (matches refl).1 c.matched_request.ensures.request
+    rw (own_rows _ _ c.in_ok-flatc_command.ensures.0 c.in-Ok.ensures.matches) at c.matched_request.ensures.request
 
 pub returns-clause-line : goal.returns-clause-line
 returns-clause-line c =
-    let matches : HasMatchesOf flatc_app (map string_bytes c.args.words.now) c.in-Ok.matches =
-    subst (λ (a : App). HasMatchesOf a (map string_bytes c.args.words.now) c.in-Ok.matches)
-    c.in_ok-flatc_command.ensures.0 c.in-Ok.ensures.matches in
-    subst (λ line. OnOk c.matched_request.result (is_line line ≡ true)) (matches refl).1 c.matched_request.ensures.line
+    rw (own_rows _ _ c.in_ok-flatc_command.ensures.0 c.in-Ok.ensures.matches) at c.matched_request.ensures.line
 
 pub returns-clause-memory : goal.returns-clause-memory
 returns-clause-memory c =
-    let matches : HasMatchesOf flatc_app (map string_bytes c.args.words.now) c.in-Ok.matches =
-    subst (λ (a : App). HasMatchesOf a (map string_bytes c.args.words.now) c.in-Ok.matches)
-    c.in_ok-flatc_command.ensures.0 c.in-Ok.ensures.matches in
-    let same : subcommand_rows_of c.in-Ok.matches ≡ subcommand_of flatc_app (map string_bytes c.args.words.now) =
-    (matches refl).1 in
-    IfErr-weaker c.matched_request.result (λ e. is_line (subcommand_rows_of c.in-Ok.matches) ≡ true
-    → kind_of e ≡ OutOfMemory) _
-    (λ e memory taken line. memory (ap is_line same ∙ line)) c.matched_request.ensures.memory
+    IfErr-weaker c.matched_request.result _ _ (λ e memory taken line. memory line)
+    (rw (own_rows _ _ c.in_ok-flatc_command.ensures.0 c.in-Ok.ensures.matches) at c.matched_request.ensures.memory)
