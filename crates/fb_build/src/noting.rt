@@ -51,7 +51,7 @@ impl<'l> Noting<'l> {
     }
 
     /// The same, with memory for the first parts.
-    pub fn with_room(alloc: Global, layout: &'l Layout) -> Result<Noting<'l>, AllocError>
+    pub fn with_capacity(alloc: Global, layout: &'l Layout) -> Result<Noting<'l>, AllocError>
         ensures layout { IfOk result (λ noting. noting.tape.layout ≡ layout.now) }
         ensures waits { IfOk result (λ noting. Waits noting.tape []) }
         ensures whole { IfOk result (λ noting. noting.tape.unfinished ≡ []) }
@@ -319,7 +319,7 @@ pub(crate) fn note_root<'l>(
     ensures room { IfOk result (λ t. at_most_usize t.room ≡ at_most_usize (table_room layout.now table.0
         + entries_room layout.now (slots_of layout.now table.0) (entries_view entries.now))) }
 {
-    let mut noting = Noting::with_room(alloc, layout)?;
+    let mut noting = Noting::with_capacity(alloc, layout)?;
     note_table(&mut noting, layout, table, entries)?;
     let Noting { tape, .. } = noting;
     Ok(tape)

@@ -74,12 +74,12 @@ pub(crate) fn push_elements(
     let mut parts = Vec::new(source.alloc);
     let mut left = left;
     for element in elements {
-        let of = Elements {
+        let vector = Elements {
             kind,
             place,
             levels,
         };
-        left = push_next(source, tape, element, of, left, &mut parts)?;
+        left = push_next(source, tape, element, vector, left, &mut parts)?;
     }
     Ok(left)
 }
@@ -91,25 +91,25 @@ fn push_next(
     source: Source,
     tape: &mut Tape<'_>,
     element: &Json,
-    of: Elements,
+    vector: Elements,
     left: u32,
     parts: &mut Vec<Value>,
 ) -> Result<u32, JsonFault>
     requires layout { tape.old.layout ≡ source.layout.now }
-    requires inline { is_reference (one_of (stored_kind source.layout.now.schema of.kind)) ≡ false }
-    requires element { IsElement source.layout.now (stored_kind source.layout.now.schema of.kind) }
+    requires inline { is_reference (one_of (stored_kind source.layout.now.schema vector.kind)) ≡ false }
+    requires element { IsElement source.layout.now (stored_kind source.layout.now.schema vector.kind) }
     ensures added { let L = source.entry.layout.now in
-        IfOk result (IsElementAdded L (stored_kind L.schema of.kind)
-        (meant L source.entry.unknown (tree_view element.now) (One of.kind) of.place of.levels left)
+        IfOk result (IsElementAdded L (stored_kind L.schema vector.kind)
+        (meant L source.entry.unknown (tree_view element.now) (One vector.kind) vector.place vector.levels left)
         tape.old tape.new) }
     ensures refused { IfErr result (λ f. Fails f (meant source.entry.layout.now source.entry.unknown
-        (tree_view element.now) (One of.kind) of.place of.levels left)) }
+        (tree_view element.now) (One vector.kind) vector.place vector.levels left)) }
 {
     let Elements {
         kind,
         place,
         levels,
-    } = of;
+    } = vector;
     if let Some(number) = number_of(source, element, kind, place) {
         tape.push_element(kind, &Value::Number(number?))?;
         return Ok(left);

@@ -91,7 +91,7 @@ fn note_at_once<'l>(source: Source<'l>, json: &[u8], limits: Limits) -> Result<T
             });
         }
     };
-    let Ok(noting) = Noting::with_room(source.alloc, source.layout) else {
+    let Ok(noting) = Noting::with_capacity(source.alloc, source.layout) else {
         return Err(TextFault::Memory);
     };
     match note_root(source, noting, &tree, limits) {

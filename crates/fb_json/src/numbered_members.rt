@@ -43,7 +43,7 @@ impl<'t> NumberedMembers<'t> {
     }
 
     /// So many slots without a member, and memory for so many members.
-    pub(crate) fn clear(
+    pub(crate) fn begin(
         &mut self,
         alloc: Global,
         slots: usize,

@@ -1,12 +1,11 @@
 //! The members of a table by its slots, or of a struct by its fields.
-ghost use Rattle.std.specs.Prelude.{◌≡◌, ◌<◌, ◌||◌, [], Bool, None, Some, bytes_eq, find, length, map, option_copied};
+ghost use Rattle.std.specs.Prelude.{◌≡◌, ◌<◌, ◌||◌, [], None, Some, bytes_eq, find, length, map, option_copied};
 ghost use Rattle.std.specs.Prelude.{option_map, replicate, set, slice_get, IfOk};
 ghost use Rattle.serde_json.specs.View.{members_view};
 ghost use Rattle.fb_schema.specs.Schema.{body_at};
 ghost use Rattle.fb_schema.specs.Seen.{field_seen};
 ghost use Rattle.fb_schema.specs.Found.{field_named};
-ghost use Rattle.fb_layout.specs.Laid.{LaidSchema};
-ghost use Rattle.fb_json.specs.Meant.{if_known, look, names_known, type_place};
+ghost use Rattle.fb_json.specs.Meant.{if_known, names_known, type_place};
 ghost use Rattle.fb_json.specs.Outcome.{Gives};
 ghost use Rattle.fb_json.specs.SlotMembers.{AreFieldsOf, AreMembersOf};
 
@@ -76,7 +75,7 @@ impl<'t> SlotMembers<'t> {
     }
 
     /// So many slots without a member; of more than a few, also memory for so many members.
-    fn clear(&mut self, alloc: Global, slots: usize, members: usize) -> Result<(), AllocError>
+    fn begin(&mut self, alloc: Global, slots: usize, members: usize) -> Result<(), AllocError>
         ensures { IfOk result (λ done. self.new ≡ replicate slots None) }
     {
         if self.slots != 0 {
@@ -84,7 +83,7 @@ impl<'t> SlotMembers<'t> {
         }
         self.slots = slots;
         if slots > FEW {
-            self.many.clear(alloc, slots, members)?;
+            self.many.begin(alloc, slots, members)?;
         }
         Ok(())
     }
@@ -204,6 +203,6 @@ pub fn members_by_slot<'t>(
         (source.entry.unknown || names_known body (members_view members.now.entries))
         (type_place owner.0)) }
 {
-    found.clear(source.alloc, slots.len(), members.len())?;
+    found.begin(source.alloc, slots.len(), members.len())?;
     put_members(source, owner, slots, members, found)
 }

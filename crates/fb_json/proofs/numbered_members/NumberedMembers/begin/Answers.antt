@@ -1,5 +1,5 @@
 use Rattle.fb_json.proofs.numbered_members.OneMoreIsNumbered.{none_numbered}
-use Rattle.fb_json.proofs.numbered_members.NumberedMembers.clear.Goals as goal
+use Rattle.fb_json.proofs.numbered_members.NumberedMembers.begin.Goals as goal
 
 pub returns : goal.returns
 returns c =

@@ -1,7 +1,7 @@
 use Rattle.std.proofs.Common.{◌≡◌, ◌∙◌, None, replicate, ap}
 use Rattle.fb_json.proofs.slot_members.FewOrMany.{are_few_empty, few_empty, empty_of_no_slots}
-use Rattle.fb_json.proofs.slot_members.SlotMembers.clear.Goals.{then-self-ne0, else-self-ne0}
-use Rattle.fb_json.proofs.slot_members.SlotMembers.clear.Goals as goal
+use Rattle.fb_json.proofs.slot_members.SlotMembers.begin.Goals.{then-self-ne0, else-self-ne0}
+use Rattle.fb_json.proofs.slot_members.SlotMembers.begin.Goals as goal
 
 -- whatever it had before
 empty : (c : goal.Else-slots-gt-FEW) → c.if-self-ne0.self-inside.few ≡ replicate 16 None
