@@ -7,6 +7,7 @@ pub mod ConformingLayoutsPassValues
 pub mod DeclaredShapesByTheirNewNumbers
 pub mod EachBodyIsDeclared
 pub mod JsonMeansTheCarriedValue
+pub mod LastSlotIsNoCode
 pub mod LayoutsAgree
 pub mod MembersNameTheSameSlots
 pub mod MovedEntryLiesInItsSlot
@@ -17,6 +18,7 @@ pub mod NamesAreKeptUnlessMoved
 pub mod OldTypesByTheirNewNumbers
 pub mod RulesHoldUnderBothLayouts
 pub mod SlotIsReadUnderItsNewName
+pub mod SlotsAndFieldsAgree
 pub mod SlotsMeanTheCarriedEntries
 pub mod SlotsNameTheSamePlaces
 pub mod TextsKeepTheirNumbers

@@ -29,11 +29,13 @@ use Rattle.fb_conform.specs.NamesStay.{members_of, elements_of, CodeStays, Names
 use Rattle.fb_conform.specs.Twins.{to_new}
 use Rattle.fb_conform.proofs.laws.ConformingLayoutsAgree.{members_moved, agrees}
 use Rattle.fb_conform.proofs.laws.DeclaredShapesByTheirNewNumbers.{id, to_kind, to_shape}
-use Rattle.fb_conform.proofs.laws.EachBodyIsDeclared.{part_shape}
-use Rattle.fb_conform.proofs.laws.JsonMeansTheCarriedValue.{SlotsAgree, PartsAgree, slots_agree, parts_agree, new_codes}
-use Rattle.fb_conform.proofs.laws.JsonMeansTheCarriedValue.{code_shape, member_table, old_body, names_carry}
+use Rattle.fb_conform.proofs.laws.EachBodyIsDeclared.{part_shape, member_table}
+use Rattle.fb_conform.proofs.laws.JsonMeansTheCarriedValue.{names_carry}
+use Rattle.fb_conform.proofs.laws.LastSlotIsNoCode.{code_shape}
 use Rattle.fb_conform.proofs.laws.LayoutsAgree.{AfterCode, CodesFirst, types_in}
 use Rattle.fb_conform.proofs.laws.SlotIsReadUnderItsNewName.{no_code, present_no_code}
+use Rattle.fb_conform.proofs.laws.SlotsAndFieldsAgree.{SlotsAgree, PartsAgree, old_body, slots_agree, new_codes}
+use Rattle.fb_conform.proofs.laws.SlotsAndFieldsAgree.{parts_agree}
 use Rattle.fb_conform.proofs.laws.SlotsMeanTheCarriedEntries.{is_code, Told, told_union, absent_slot, SlotAgrees}
 use Rattle.fb_conform.proofs.laws.SlotsMeanTheCarriedEntries.{is_code_moved, code_in_use, used_code, handed}
 use Rattle.fb_conform.proofs.laws.TextsKeepTheirNumbers.{code_path}
