@@ -5,19 +5,16 @@ use Rattle.std.specs.Str.Lossy.{utf8_valid_len}
 use Rattle.std.proofs.lemmas.Option.{none-some}
 use Rattle.fb_syntax.specs.DeclsRead.{DeclsRead}
 use Rattle.fb_syntax.specs.Parsed.{Parses}
-use Rattle.fb_syntax.specs.GrammarSchema.{Reads}
 use Rattle.fb_syntax.specs.Refusals.{IsToldOfUtf8, IsToldOfNoTokens, IsToldOfTokens, StandsWithin}
 use Rattle.fb_syntax.specs.declared.faults.SyntaxFault.{SyntaxFault}
 use Rattle.fb_syntax.specs.declared.faults.SyntaxFault.TheVariants.{NotUtf8, BadByte, Unterminated, NumberTooBig}
 use Rattle.fb_syntax.specs.declared.faults.SyntaxFault.TheVariants.{Unexpected, NestedVector, Memory}
-use Rattle.fb_syntax.specs.declared.tokens.Token.{Token}
 use Rattle.fb_schema.specs.Schema.{DeclaredSchema}
 use Rattle.fb_declare.specs.declared.faults.SchemaFault.{SchemaFault}
 use Rattle.fb_declare.specs.Declares.{Declares}
 use Rattle.fb_declare.specs.TypeFaults.{faults_of}
 use Rattle.fb_declare.specs.Faults.{least_of}
 use Rattle.fb_layout.specs.Laid.{LaidSchema}
-use Rattle.fb_layout.specs.WellMade.{IsSized}
 use Rattle.fb_schema_text.specs.declared.schema_layouts.SchemaTextFault.{SchemaTextFault}
 use Rattle.fb_schema_text.specs.declared.schema_layouts.SchemaTextFault.TheVariants.{Syntax, Schema, Layout}
 use Rattle.fb_schema_text.specs.SchemaLaws.{SchemaLaws}
@@ -26,25 +23,22 @@ use Rattle.fb_schema_text.specs.SchemaTexts.{IsAccepted, IsSyntaxRefused, IsRefu
 -- a text reads as one list of declarations
 pub one_parse : (laws : SchemaLaws) (text : List ℕ) (d e : DeclsRead) → Parses text d → Parses text e → d ≡ e
 one_parse laws text d e p q =
-    let same = laws.one_spelling text p.0 q.0 p.1 q.1 in
-    laws.one_reading text q.0 d e (subst (λ (tokens : List Token). Reads text tokens d) same p.2) q.2
+    laws.one_reading text q.0 d e (rw (laws.one_spelling text p.0 q.0 p.1 q.1) at p.2) q.2
 
 -- an accepted text declares one schema
 same_schema : (laws : SchemaLaws) (text : List ℕ) (L K : LaidSchema) → IsAccepted text L → IsAccepted text K
     → L.schema ≡ K.schema
 same_schema laws text L K a b =
     laws.one_schema b.decls L.schema K.schema
-    (subst (λ (d : DeclsRead). Declares d L.schema) (one_parse laws text a.decls b.decls a.parsed b.parsed)
-    a.declared) b.declared
+    (rw (one_parse laws text a.decls b.decls a.parsed b.parsed) at a.declared) b.declared
 
 -- an accepted text has one layout
 pub same_accepted : (laws : SchemaLaws) (text : List ℕ) (L K : LaidSchema) → IsAccepted text L → IsAccepted text K
     → L ≡ K
 same_accepted laws text L K a b =
     let schema = same_schema laws text L K a b in
-    let sized : IsSized (record { schema = K.schema; structs = L.structs }) =
-    subst (λ (S : DeclaredSchema). IsSized (record { schema = S; structs = L.structs })) schema a.made.sized in
-    let structs = laws.one_layout K.schema L.structs K.structs b.made.declared sized b.made.sized in
+    let structs = laws.one_layout K.schema L.structs K.structs b.made.declared (rw (← schema) a.made.sized)
+    b.made.sized in
     λ i. record { schema = schema i; structs = structs i }
 
 -- there is no least fault where declarations declare a schema
@@ -88,12 +82,11 @@ refused_excludes laws text (Syntax f) refused rule L accepted =
     syntax_excludes text f refused rule accepted.decls accepted.parsed
 refused_excludes laws text (Schema f) refused rule L accepted =
     let same = one_parse laws text refused.0 accepted.decls refused.1 accepted.parsed in
-    none_least accepted.decls L.schema f accepted.declared
-    (subst (λ (d : DeclsRead). least_of (faults_of d) ≡ Some f) same (refused.2 rule))
+    none_least accepted.decls L.schema f accepted.declared (rw same at (refused.2 rule))
 refused_excludes laws text (Layout f) refused rule L accepted =
     let same = one_parse laws text refused.0 accepted.decls refused.2 accepted.parsed in
     let schema = laws.one_schema accepted.decls L.schema refused.1 accepted.declared
-    (subst (λ (d : DeclsRead). Declares d refused.1) same refused.3) in
+    (rw same at refused.3) in
     laws.no_layout refused.1 f (refused.4 rule) L schema accepted.made
 
 -- nothing holds of the layout of a text that a layer refuses

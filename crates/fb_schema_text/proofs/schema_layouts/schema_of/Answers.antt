@@ -1,12 +1,8 @@
-use Rattle.std.proofs.Common.{◌≡◌, Some, Result, Err, ap, subst}
+use Rattle.std.proofs.Common.{◌≡◌, Result, Err, ap}
 use Rattle.fb_syntax.specs.declared.faults.SyntaxFault.{SyntaxFault}
 use Rattle.fb_syntax.specs.declared.faults.SyntaxFault.TheVariants.{NotUtf8}
 use Rattle.fb_schema_text.specs.declared.schema_layouts.SchemaTextFault.{SchemaTextFault}
 use Rattle.fb_schema_text.specs.declared.schema_layouts.SchemaTextFault.TheVariants.{Syntax}
-use Rattle.fb_syntax.specs.DeclsRead.{DeclsRead}
-use Rattle.fb_declare.specs.Declares.{Declares}
-use Rattle.fb_declare.specs.TypeFaults.{faults_of}
-use Rattle.fb_declare.specs.Faults.{least_of}
 use Rattle.fb_schema_text.proofs.SchemaTextHasOneLayout.{none_least, syntax_refused}
 use Rattle.fb_schema_text.proofs.schema_layouts.schema_of.Goals as goal
 
@@ -35,12 +31,11 @@ pub returns-in-Err-declare-clause-exact : goal.returns-in-Err-declare-clause-exa
 returns-in-Err-declare-clause-exact c no_want L accepted =
     let same = c.in-Ok.ensures.exact accepted.decls accepted.parsed in
     none_least accepted.decls L.schema c.in-Err-declare.fault accepted.declared
-    (subst (λ (d : DeclsRead). least_of (faults_of d) ≡ Some c.in-Err-declare.fault) same
-    (c.in-Err-declare.ensures.least no_want))
+    (rw same at (c.in-Err-declare.ensures.least no_want))
 
 pub returns-clause-exact : goal.returns-clause-exact
 returns-clause-exact c no_want L accepted =
     let same = c.in-Ok.ensures.exact accepted.decls accepted.parsed in
     let schema = c.schema_laws.ensures.laws.one_schema accepted.decls L.schema c.in-Ok-declare.schema accepted.declared
-    (subst (λ (d : DeclsRead). Declares d c.in-Ok-declare.schema) same c.in-Ok-declare.ensures.declared) in
+    (rw same at c.in-Ok-declare.ensures.declared) in
     c.in-Err-lay.ensures.exact no_want L schema accepted.made
