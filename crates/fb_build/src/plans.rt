@@ -64,10 +64,8 @@ impl<'l> TapePlan<'l> {
         ensures prefixed { IfOk result (λ p. p.prefixed ≡ prefixed) }
     {
         let block = vec![in alloc; 0u8; buffer_end(layout, &tape, front_of(prefixed))]?;
-        let mut waiting: Vec<u32> = Vec::new(alloc);
-        waiting.reserve(tape.ops().len())?;
-        let mut places: Vec<u32> = Vec::new(alloc);
-        places.reserve(tape.vtable_count())?;
+        let waiting = Vec::with_capacity(alloc, tape.ops().len())?;
+        let places = Vec::with_capacity(alloc, tape.vtable_count())?;
         Ok(TapePlan {
             layout,
             tape,
