@@ -1,5 +1,4 @@
-use Rattle.std.proofs.Common.{max, sym, subst, arith}
-use Rattle.fb_inspect.specs.Covers.{CoversBelow}
+use Rattle.std.proofs.Common.{arith}
 use Rattle.fb_inspect.proofs.cover.OneMoreCoversMore.{covered_more}
 use Rattle.fb_inspect.proofs.cover.push_gap.Goals as goal
 
@@ -7,6 +6,6 @@ pub returns-in_ok-push : goal.returns-in_ok-push
 returns-in_ok-push c =
     record {
       covers =
-          subst (λ items. CoversBelow items (max c.args.start c.args.end)) (sym c.in_ok-push.ensures.items)
+          rw c.in_ok-push.ensures.items
           (covered_more _ _ c.args.start _ c.requires.before (omega arith) (omega arith));
     }
