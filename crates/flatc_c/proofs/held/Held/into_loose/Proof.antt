@@ -1,8 +1,8 @@
 -- `into_loose` gives the pointer back, with what it owns.
-use Rattle.std.proofs.Common.{List, [], ◌∷◌, ◌++◌, refl, sym, ap, ◌∙◌, subst, IsSome}
+use Rattle.std.proofs.Common.{List, [], ◌∷◌, refl, sym, ap, ◌∙◌, IsSome}
 use mir.Val.{Val, vptr}
 use base.Fml.{ftrue, fsep}
-use base.Logic.{SProp, ent, id⊢}
+use base.Logic.{SProp, id⊢}
 use prog.Wp.{WpFn}
 use types.ByLocal.{alloc_all, pass_all, free_all, look_at, get, get_in, sets}
 use types.Kit.{‵, raw, ◌⊛◌, ◌$◌, ◌∵◌, !, qed, move, keep, done, suffices, split, fsplit, join}
@@ -37,8 +37,7 @@ into_loose_spec 𝓤 𝓛 𝓜 𝓡 wired =
     move ! (1 ∷ []) $ heard ! _ (λ some. split ! $ move ! (1 ∷ []) $ fsplit ! $ held_out ! v z.0.4.0 (λ is.
     is_owned ! v.at v.value some (λ x has. at_block Kept ! v.at x
     (λ b o at_b. keep ! (0 ∷ []) $ let w : Val = lone (block_ptr b o) in
-    suffices ! (Run (w ∷ [])) (subst (λ (us : List Val). ent 𝓤 (Run (w ∷ [])) (Run us))
-    (sym (λ i. (is ∙ ap (λ (p : Ptr). lone p ∷ []) at_b) i ++ [])) (id⊢ 𝓤 (Run (w ∷ [])))) $
+    suffices ! (Run (w ∷ [])) (rw (is ∙ ap (λ (p : Ptr). lone p ∷ []) at_b) (id⊢ 𝓤 (Run (w ∷ [])))) $
     enter ! 𝓣.C 𝓣.Λ code.function (w ∷ []) Post $ alloc_all ! (λ l. pass_all ! refl ((tt, (tt, tt)), tt) $
     sets ! (of_opd ! (get_in ! (fld ! refl (stop !)) (sub ! 0 refl (whole !)))) refl (tt, tt) $
     sets ! (of_opd ! (get ! refl)) refl (tt, tt) $

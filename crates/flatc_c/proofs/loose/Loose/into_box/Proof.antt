@@ -5,7 +5,7 @@ use mir.Syntax.{a_type, dcons, dnil}
 use mir.Val.{Val, vptr}
 use base.Fml.{ftrue, fsep, flft}
 use base.Fraction.{full_share}
-use base.Logic.{SProp, ent, emp, id⊢}
+use base.Logic.{SProp, emp, id⊢}
 use prog.Wp.{WpFn}
 use types.ByLocal.{alloc_all, pass_all, free_all, look_at, get, get_in, sets, lands_last, env}
 use types.Kit.{‵, raw, ◌⊛◌, some, later, at_ret, ◌$◌, ◌∵◌, !, qed, move, keep, drop, split, join, fsplit, fjoin, pick}
@@ -89,8 +89,7 @@ into_box_spec 𝓤 𝓛 𝓜 𝓡 wired T L dx glue =
       ),
       v.value,
     ) in let toks = ‵ (flft κ q) ⊛ ‵ (flft [] full_share) ⊛ ‵ ftrue in
-    suffices ! (Run (w ∷ h ∷ [])) (subst (λ (us : List Val). ent 𝓤 (Run (w ∷ h ∷ [])) (Run us))
-    (sym (λ i. (is ∙ ap (λ (p : Ptr). lone p ∷ []) at_b) i ++ (has i ++ []))) (id⊢ 𝓤 (Run (w ∷ h ∷ [])))) $
+    suffices ! (Run (w ∷ h ∷ [])) (rw (is ∙ ap (λ (p : Ptr). lone p ∷ []) at_b, has) (id⊢ 𝓤 (Run (w ∷ h ∷ [])))) $
     enter ! 𝓣.C 𝓣.Λ fn (w ∷ h ∷ []) Post $ alloc_all ! (λ l. pass_all ! refl ((tt, (tt, tt)), (fits, tt)) $
     sets ! (of_opd ! (get_in ! (fld ! refl (stop !)) (sub ! 0 refl (whole !)))) refl (tt, tt) $
     move ! (2 ∷ []) $ split ! $ move ! (1 ∷ []) $ use0 𝓛 (‵ (flft [] full_share))
