@@ -1,0 +1,144 @@
+-- A long table is noted slot by slot.
+use Rattle.std.proofs.Common.{◌∙◌, arith, ◌-◌, ◌<◌, map, length, refl}
+use Rattle.std.proofs.lemmas.List.{length-map}
+use Rattle.serde_json.specs.Data.{object}
+use Rattle.fb_schema.specs.Seen.{field_seen}
+use Rattle.fb_json.specs.Meant.{look}
+use Rattle.fb_json.proofs.slots.OneSlotOrFieldMore.{fails_by, slot_at}
+use Rattle.fb_pieces.specs.CutTexts.{member_texts}
+use Rattle.fb_build.proofs.fields.CodeIsBeforeItsUnion.{slots_paired}
+use Rattle.fb_build.proofs.fields.NumbersHaveDefaults.{marks_at}
+use Rattle.fb_encode.specs.MembersRead.{object_read}
+use Rattle.fb_encode.proofs.objects.SlotsAreFound.{all_noted as slots_noted, first_found, may_go_on, next_found}
+use Rattle.fb_encode.proofs.objects.SlotsAreFound.{open_fields}
+use Rattle.fb_encode.proofs.objects.TextIsOfItsSlot.{own_text, read_more}
+use Rattle.fb_encode.proofs.objects.CutObjectIsRead.{members_are_read}
+use Rattle.fb_encode.proofs.parts.TreesByTheirKind.{table_by}
+use Rattle.fb_encode.proofs.tables.SlotsAreNoted.{slot_there}
+use Rattle.fb_encode.proofs.+reads.Goals as goal
+
+pub no_slot_yet : goal.objects::note_members-loop-k-init
+no_slot_yet t c =
+    let L = c.args.source.layout.now in
+    let unknown = c.args.source.unknown in
+    let ms = map (member_texts c.args.excerpt.text.now) c.in-Some.members.items in
+    let object = object_read (c.args.excerpt.brackets - 1) ms in
+    let known = rw c.as_slice.ensures.value at c.in_ok-texts.ensures.known in
+    let before = c.before_slots-found.ensures in
+    record {
+      found = first_found L unknown object c.args.owner.0 c.slots_of-slots.result.now c.args.place
+          c.in_ok-texts.field-0.known known c.args.levels c.args.left c.args.walk.now.noting.tape
+          c.args.walk.now.noting.opened c.requires.whole c.before_slots-found.result before.levels before.cells
+          before.known before.rest before.code
+          (before.refused L unknown object (look L unknown object) c.args.owner.0 known);
+      read = λ j e low at. absurd (omega (arith, low));
+    }
+
+pub next_slot_fits : goal.objects::note_members-note_next-requires
+next_slot_fits t c =
+    let L = c.args.source.layout.now in
+    let unknown = c.args.source.unknown in
+    let inner = c.args.excerpt.brackets - 1 in
+    let ms = map (member_texts c.args.excerpt.text.now) c.in-Some.members.items in
+    let owner = c.args.owner in
+    let slots = c.slots_of-slots.result.now in
+    let k = c.loop-k.k in
+    let f = c.index-slots-k.result in
+    let at = slot_at slots k f c.loop-k-test.true c.index-slots-k.is in
+    let texts = rw c.as_slice.ensures.value at c.in_ok-texts.ensures.texts in
+    let within : k < length c.in_ok-texts.field-0.texts.items =
+    omega (arith, texts.all, length-map slots field_seen, c.loop-k-test.true) in
+    let own = own_text c.in_ok-texts.field-0.texts.items k c.index.result.now within c.index.ensures inner
+    (map field_seen slots) ms texts L unknown (field_seen f) at in
+    let on = may_go_on L unknown (object_read inner ms) owner.0 slots c.args.place k c.args.levels c.args.left _ _ _ _
+    c.loop-k.found c.requires.layout c.loop-k.invariant.found in
+    let marks = marks_at L.schema c.schema-schema.ensures.made.declared owner.0 k (field_seen f)
+    (rw c.slots_of-slots.ensures.slots at at) in
+    let there = slot_there L owner.0 slots k f c.slots_of-slots.ensures.slots at in (
+      omega (arith, c.decreases, own.low, c.requires.some),
+      (
+        on.layout,
+        (
+          on.whole,
+          (on.levels_left, (there, (marks, (own.few (omega (arith, c.requires.brackets)), own.old)))),
+        ),
+      ),
+    )
+
+pub next_slot_noted : goal.objects::note_members-loop-k-preserved
+next_slot_noted t c =
+    let L = c.args.source.layout.now in
+    let unknown = c.args.source.unknown in
+    let inner = c.args.excerpt.brackets - 1 in
+    let ms = map (member_texts c.args.excerpt.text.now) c.in-Some.members.items in
+    let owner = c.args.owner in
+    let slots = c.slots_of-slots.result.now in
+    let k = c.loop-k.k in
+    let f = c.index-slots-k.result in
+    let inv = c.loop-k.invariant in
+    let at = slot_at slots k f c.loop-k-test.true c.index-slots-k.is in
+    let texts = rw c.as_slice.ensures.value at c.in_ok-texts.ensures.texts in
+    let within : k < length c.in_ok-texts.field-0.texts.items =
+    omega (arith, texts.all, length-map slots field_seen, c.loop-k-test.true) in
+    let own = own_text c.in_ok-texts.field-0.texts.items k c.index.result.now within c.index.ensures inner
+    (map field_seen slots) ms texts L unknown (field_seen f) at in
+    record {
+      found = next_found L unknown (object_read inner ms) owner slots c.args.place k c.args.levels c.args.left
+          (record { ref_ptr = c.slots_of-slots.result.ref_ptr; now = f }) c.loop-k-test.true c.index-slots-k.is
+          c.slots_of-slots.ensures.slots (slot_there L owner.0 slots k f c.slots_of-slots.ensures.slots at)
+          (slots_paired L c.schema-schema.ensures.made.declared owner.0) _ _ c.loop-k.walk.noting
+          c.note_next.new.walk.noting c.loop-k.found c.in_ok-found.found inv.found
+          (c.in_ok-found.ensures.noted (look L unknown (object_read inner ms)) own.found);
+      read = read_more c.in_ok-texts.field-0.texts.items k c.index.result.now within c.index.ensures
+          c.in_ok-found.ensures.read inv.read;
+    }
+
+pub first_fault_refused : goal.objects::note_members-returns-in-Err-clause-noted
+first_fault_refused t c =
+    let excerpt = c.args.excerpt in
+    let members = c.in-Some.members.items in
+    let read = object_read (excerpt.brackets - 1) (map (member_texts excerpt.text.now) members) in
+    let texts = rw c.as_slice.ensures.value at c.in_ok-texts.ensures in
+    let of = rw c.in-Some.is at c.in_ok-members.ensures in (
+      object read,
+      members_are_read c.cut_object_is_read.ensures c.cut_object_is_utf8.ensures excerpt.brackets excerpt.text.now
+          members of.cut of.some c.requires.some c.in_ok-texts.field-0.texts.items c.slots_of-slots.result.now
+          texts.texts texts.names texts.values c.loop-k.k c.loop-k-test.false c.loop-k.invariant.read,
+      fails_by c.in-Err.fault _ _ (λ h. table_by c.args.source.layout.now c.args.source.unknown c.args.place
+          c.args.levels c.args.left c.args.owner (object read) read refl ∙ h) (rw c.in-Err.is at
+          c.loop-k.invariant.found),
+    )
+
+pub fields_are_stored : goal.objects::note_members-close_table-requires-clause-stored
+fields_are_stored t c =
+    let excerpt = c.args.excerpt in
+    let ms = map (member_texts excerpt.text.now) c.in-Some.members.items in
+    let found = rw c.in-Ok.is at c.loop-k.invariant.found in
+    let same = found.noted.adds.layout ∙ c.requires.layout in (
+      found.noted.entries,
+      rw (same, c.len-first.ensures.exact) (open_fields c.args.source.layout.now c.args.source.unknown (object_read
+          (excerpt.brackets - 1) ms) c.args.owner c.slots_of-slots.result.now c.args.place c.loop-k.k c.args.levels
+          c.args.left _ _ _ _ c.in-Ok.behind c.loop-k-test.false found c.schema-schema.ensures.made
+          c.slots_of-slots.ensures.slots c.loop-k.auto.k-end),
+    )
+
+pub table_adds_itself : goal.objects::note_members-returns-clause-noted
+table_adds_itself t c =
+    let excerpt = c.args.excerpt in
+    let members = c.in-Some.members.items in
+    let slots = c.slots_of-slots.result.now in
+    let read = object_read (excerpt.brackets - 1) (map (member_texts excerpt.text.now) members) in
+    let texts = rw c.as_slice.ensures.value at c.in_ok-texts.ensures in
+    let of = rw c.in-Some.is at c.in_ok-members.ensures in
+    let found = rw c.in-Ok.is at c.loop-k.invariant.found in
+    let same = found.noted.adds.layout ∙ c.requires.layout in
+    let closed = c.in_ok-close_table.ensures in (
+      object read,
+      members_are_read c.cut_object_is_read.ensures c.cut_object_is_utf8.ensures excerpt.brackets excerpt.text.now
+          members of.cut of.some c.requires.some c.in_ok-texts.field-0.texts.items slots texts.texts texts.names
+          texts.values c.loop-k.k c.loop-k-test.false c.loop-k.invariant.read,
+      slots_noted c.args.source.layout.now c.args.source.unknown read c.args.owner slots c.args.place c.loop-k.k
+          c.args.levels c.args.left _ _ _ _ c.in-Ok.behind c.loop-k-test.false found c.schema-schema.ensures.made
+          c.slots_of-slots.ensures.slots c.loop-k.auto.k-end c.close_table.new.self c.loop-k.walk.noting.tape.layout
+          same (rw c.len-first.ensures.exact at closed.waits) (rw same at closed.room) closed.whole closed.layout,
+    )

@@ -1,0 +1,129 @@
+-- The next slot of a long table is noted from its text.
+use Rattle.std.proofs.Common.{◌∙◌, Some, ap, arith, ◌-◌, ◌++◌, ◌∷◌, [], option_map}
+use Rattle.serde_json.specs.View.{view as tree_view}
+use Rattle.fb_schema.specs.Seen.{field_seen}
+use Rattle.fb_layout.specs.Laid.{slot_of}
+use Rattle.fb_layout.specs.Seen.{slot_seen}
+use Rattle.fb_layout.proofs.sizes.AlignmentsArePowersOfTwo.{slot_below}
+use Rattle.fb_value.specs.Datum.{a_number}
+use Rattle.fb_tape.specs.OpenFields.{reference_field}
+use Rattle.fb_json.specs.Meant.{meant, slot_place}
+use Rattle.fb_build.proofs.fields.AlignmentDividesTheSize.{all_known}
+use Rattle.fb_encode.proofs.entries.PresentEntryIsNoted.{part_of}
+use Rattle.fb_encode.proofs.objects.NextSlotIsNoted.{absent_next, old_next, on_ok, reference_fails, reference_next}
+use Rattle.fb_encode.proofs.objects.NextSlotIsNoted.{used_by}
+use Rattle.fb_encode.proofs.slot_texts.PiecesAreRead.{inner_is_read, tree_is}
+use Rattle.fb_encode.proofs.objects.SlotsAreFound.{brackets_in}
+use Rattle.fb_encode.proofs.+reads.Goals.{objects::note_next-then-slot-via-then-slot}
+use Rattle.fb_encode.proofs.+reads.Goals.{objects::note_next-then-slot-via-else-slot+then-is_absent}
+use Rattle.fb_encode.proofs.+reads.Goals as goal
+
+pub reference_adds_itself : goal.objects::note_reference-returns-in_ok-push_reference-in-Ok-clause-noted
+reference_adds_itself t c seen found =
+    let L = c.args.source.layout.now in
+    let unknown = c.args.source.unknown in
+    let slot = c.args.slot in
+    let text = c.args.text in
+    let noted = rw (c.place-place.ensures, c.in-Ok.is) at c.in_ok-left.ensures.noted in
+    let opened = rw c.in-Ok.is at c.in_ok-left.ensures.opened in
+    let is = tree_is text.brackets text.text.now noted.0 noted.1 in
+    reference_next L (field_seen slot.field.now) seen slot.number c.args.behind.code (c.args.levels - 1)
+    c.args.behind.left (slot_place slot.owner.0 slot.number) c.requires.used c.requires.part unknown noted.0
+    (λ null. c.requires.bracketed text.brackets (noted.1.read ∙ ap Some null))
+    (found ∙ ap (λ d. Some (d, meant L unknown d)) is) _ _ _ _ c.in-Ok.left noted.2
+    (c.in_ok-push_reference-in-Ok.ensures.adds ∙ ap (λ os. os ++ (reference_field slot.number ∷ [])) opened)
+
+pub reference_fault_found : goal.objects::note_reference-returns-in-Err-clause-noted
+reference_fault_found t c seen found =
+    let L = c.args.source.layout.now in
+    let unknown = c.args.source.unknown in
+    let slot = c.args.slot in
+    let text = c.args.text in
+    let noted = rw (c.place-place.ensures, c.in-Err.is) at c.in_ok-left.ensures.noted in
+    let is = tree_is text.brackets text.text.now noted.0 noted.1 in
+    reference_fails L (field_seen slot.field.now) seen slot.number c.args.behind.code (c.args.levels - 1)
+    c.args.behind.left (slot_place slot.owner.0 slot.number) c.requires.used c.requires.part unknown noted.0
+    (λ null. c.requires.bracketed text.brackets (noted.1.read ∙ ap Some null))
+    (found ∙ ap (λ d. Some (d, meant L unknown d)) is) c.in-Err.fault noted.2
+
+pub absent_adds_nothing : goal.objects::note_next-returns-then-slot-clause-noted
+absent_adds_nothing t c seen found =
+    let L = c.args.source.layout.now in
+    let slot = c.args.slot in
+    let f = field_seen slot.field.now in
+    let at = slot_place slot.owner.0 slot.number in
+    let behind = c.in-Ok.behind in
+    let opens = c.args.walk.now.noting.opened in
+    let tape = c.args.walk.now.noting.tape in
+    let whole = rw c.in-Ok.is at c.requires.whole in
+    rw c.in-Ok.is (elim c.then-slot.branch [
+      | objects::note_next-then-slot-via-then-slot w ↦ old_next L f seen slot.number behind.code (c.args.levels - 1)
+          behind.left at w.if-slot.true tape opens whole
+      | objects::note_next-then-slot-via-else-slot+then-is_absent w ↦
+          let none = rw c.in_default.is at (found w.if-slot.false) in
+          absent_next L f seen slot.number behind.code (c.args.levels - 1) behind.left at c.requires.marks
+          c.args.source.unknown none
+          (w.is_absent.ensures.code L.schema seen at behind.code w.if-is_absent.true)
+          (option_map a_number (slot_of L.schema f).if_absent)
+          (w.is_absent.ensures.entry L seen at behind.code (c.args.levels - 1) behind.left w.if-is_absent.true none)
+          tape opens whole
+    ])
+
+pub slot_without_text_noted : goal.objects::note_next-returns-in_default-clause-noted
+slot_without_text_noted t c seen found =
+    let none = rw c.in_default.is at (found c.if-slot.false) in
+    rw c.in-Ok.is (c.note_tree.ensures.noted seen none)
+
+pub bracketed_has_a_part : goal.objects::note_next-note_reference-requires
+bracketed_has_a_part t c =
+    let L = c.args.source.layout.now in
+    let slot = c.args.slot in
+    let simple = all_known L c.schema-schema.ensures.made slot.owner.0 slot.number (slot_seen L slot.field.now)
+    c.requires.slot in
+    let low = slot_below L slot.owner.0 slot.number (slot_seen L slot.field.now) c.requires.slot in
+    let brackets = ap brackets_in c.in-Some.is in
+    let is = c.is_in_pieces.ensures c.if-is_in_pieces.true in (
+      omega (arith, c.decreases, brackets),
+      (
+        rw c.in-Ok.is at c.requires.layout,
+        (
+          rw c.in-Ok.is at c.requires.whole,
+          (
+            rw c.in-Ok.is at c.requires.levels,
+            (
+              used_by slot.field.now.deprecated c.args.text c.in-Some.text c.requires.old c.in-Some.is,
+              (
+                part_of L slot.field.now.shape simple low is.0 (is.1 L.schema),
+                (rw c.in-Some.is at c.requires.brackets, c.is_bracketed.ensures c.if-is_bracketed.true),
+              ),
+            ),
+          ),
+        ),
+      ),
+    )
+
+pub bracketed_noted : goal.objects::note_next-returns-then-is_bracketed-clause-noted
+bracketed_noted t c seen found =
+    let used = used_by c.args.slot.field.now.deprecated c.args.text c.in-Some.text c.requires.old c.in-Some.is in
+    rw c.in-Ok.is (c.note_reference.ensures.noted seen (rw c.in-Some.is at (found used)))
+
+pub text_read : goal.objects::note_next-returns-clause-read
+text_read t c =
+    let text = c.in-Some.text in
+    let low = rw c.in-Some.is at c.requires.brackets in
+    let is = inner_is_read c.text_is_read_without_brackets.ensures text.brackets text.text.now low
+    c.in_ok-read.ensures.utf8 c.in_ok-read.read c.in_ok-tree.tree.now c.in_ok-read.ensures.tree c.in_ok-tree.ensures in
+    rw c.in-Some.is (on_ok c.note_tree-2.result _ (tree_view c.in_ok-tree.tree.now, is))
+
+pub text_noted : goal.objects::note_next-returns-clause-noted
+text_noted t c seen found =
+    let L = c.args.source.layout.now in
+    let unknown = c.args.source.unknown in
+    let text = c.in-Some.text in
+    let low = rw c.in-Some.is at c.requires.brackets in
+    let is = inner_is_read c.text_is_read_without_brackets.ensures text.brackets text.text.now low
+    c.in_ok-read.ensures.utf8 c.in_ok-read.read c.in_ok-tree.tree.now c.in_ok-read.ensures.tree c.in_ok-tree.ensures in
+    let used = used_by c.args.slot.field.now.deprecated c.args.text text c.requires.old c.in-Some.is in
+    let here = rw c.in-Some.is at (found used) in
+    rw c.in-Ok.is (c.note_tree-2.ensures.noted seen
+    (here ∙ ap (λ d. Some (d, meant L unknown d)) (tree_is text.brackets text.text.now _ is)))
