@@ -11,6 +11,7 @@
 # make rows       tries the rows of crates/test_rows, with nothing proved
 # make fmt        formats all crates
 # make mutations  further edits that the prover has to refuse, outside the gate; CRATE=NAME tries those of one crate
+# make costs      tells what a check of CRATE=NAME spends its time on
 # make soak       a million damaged buffers of schemas made from SEED, and files of gigabytes, outside the gate
 # make bench      times the program on generated documents, beside Google's flatc where that is installed
 # make bench-library  counts the instructions of one call of the library, beside libflatbuffers where it is installed
@@ -29,7 +30,7 @@ SONAME = libflatc.so.0
 INCLUDES = $(DESTDIR)$(PREFIX)/include
 LIBRARIES = $(DESTDIR)$(PREFIX)/$(LIBDIR)
 
-.PHONY: run try build check rows fmt lib install uninstall examples valgrind test mutations soak bench bench-library
+.PHONY: run try build check rows fmt lib install uninstall examples valgrind test mutations costs soak bench bench-library
 
 run: build
 	@tests/example.sh $(PROGRAM)
@@ -88,6 +89,9 @@ fmt:
 
 mutations:
 	@python3 tools/mutations.py $(CRATE)
+
+costs:
+	@python3 tools/costs.py $(CRATE)
 
 soak: build
 	@python3 tools/build.py test_hostile

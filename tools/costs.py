@@ -1,0 +1,88 @@
+#!/usr/bin/env python3
+"""Tells what a check of a crate spends its time on.
+
+usage: tools/costs.py CRATE [--over FOLDER] [--lines N]
+
+rt ci proves the crates below, in a copy of the tree; with --over it has left them in FOLDER. Then one job checks the
+crate from nothing. The prover writes a file for each module that it has checked, so the time between two files is what
+the second one took. Prints the seconds by kind of module, by function, and of single modules, N lines of each.
+
+The kinds that matter: Lts is the model of a function's body, and grows with its statements, and with how many values
+live across them. Proof has the goals that no answer is written for, which tactics look for. Answers has those that
+are answered, and a name of this repository's is a file of lemmas.
+"""
+import argparse
+import collections
+import os
+import sys
+import tempfile
+
+from build import ROOT, below, copy_crates, over_gate, prove, read_crates
+from mutations import run
+
+
+def check(crates, name, top, kept):
+    """Checks a crate from nothing, and leaves a file for each module in a folder. Returns whether it is proved."""
+    words = [*over_gate(crates, name, "check", top)[1], "--jobs", "1", "--incremental", kept]
+    if os.path.exists(f"{ROOT}/crates/{name}/src/main.rt"):
+        words[words.index("src/lib.rt")] = "src/main.rt"
+    if "staticlib" in crates[name][0].partition(":")[0]:
+        words += ["--crate-type", "staticlib"]
+    status, lines = run(words, f"{ROOT}/crates/{name}")
+    print(lines[-1])
+    return status == 0
+
+
+def modules_in(kept, name):
+    """The modules of a crate whose files are in a folder, each with the seconds from the one before it."""
+    files = []
+    for at, _, names in os.walk(kept):
+        if os.path.basename(at) != "records":
+            checked = [it.removesuffix(".oantt") for it in names if it.endswith(".oantt")]
+            files += [(os.stat(f"{at}/{it}.oantt").st_mtime_ns, it) for it in checked]
+    files.sort()
+    steps = zip(files, files[1:])
+    return [(it.removeprefix(f"Rattle-{name}-"), (time - before) / 1e9) for (before, _), (time, it) in steps]
+
+
+def show(title, costs, most):
+    total = sum(costs.values())
+    print(f"\n{title}:")
+    for name, seconds in costs.most_common(most):
+        print(f"{seconds:8.1f} s {100 * seconds / total:5.1f} %  {name}")
+
+
+def report(modules, most):
+    kinds, functions, single = collections.Counter(), collections.Counter(), collections.Counter()
+    for name, seconds in modules:
+        function, _, kind = name.rpartition(".")
+        kinds["contracts" if ".contracts." in name else kind.partition("-")[0]] += seconds
+        functions[function] += seconds
+        single[name] += seconds
+    print(f"{len(modules)} modules in {sum(single.values()):.0f} s")
+    show("by kind", kinds, most)
+    show("by function, or folder of lemmas", functions, most)
+    show("single modules", single, most)
+
+
+def main():
+    parser = argparse.ArgumentParser(description=__doc__.split("\n", 1)[0])
+    parser.add_argument("crate")
+    parser.add_argument("--over", metavar="FOLDER", help="a tree where rt ci has left the crates below")
+    parser.add_argument("--lines", type=int, default=20)
+    given = parser.parse_args()
+    crates = read_crates()
+    with tempfile.TemporaryDirectory(prefix=f"costs-{given.crate}-") as room:
+        names = below(crates, given.crate)
+        if names and not given.over:
+            copy_crates(crates, names, room)
+            if not prove(room, len(names)):
+                return 1
+        kept = tempfile.mkdtemp(dir=room)
+        proved = check(crates, given.crate, given.over or room, kept)
+        report(modules_in(kept, given.crate), given.lines)
+    return 0 if proved else 1
+
+
+if __name__ == "__main__":
+    sys.exit(main())
