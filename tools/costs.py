@@ -5,7 +5,8 @@ usage: tools/costs.py CRATE [--over FOLDER] [--lines N]
 
 rt ci proves the crates below, in a copy of the tree; with --over it has left them in FOLDER. Then one job checks the
 crate from nothing. The prover writes a file for each module that it has checked, so the time between two files is what
-the second one took. Prints the seconds by kind of module, by function, and of single modules, N lines of each.
+the second one took, by the clock. Prints the seconds by kind of module, by function, and of single modules, N lines of
+each. Test functions aren't checked.
 
 The kinds that matter: Lts is the model of a function's body, and grows with its statements, and with how many values
 live across them. Proof has the goals that no answer is written for, which tactics look for. Answers has those that
@@ -26,8 +27,6 @@ def check(crates, name, top, kept):
     words = [*over_gate(crates, name, "check", top)[1], "--jobs", "1", "--incremental", kept]
     if os.path.exists(f"{ROOT}/crates/{name}/src/main.rt"):
         words[words.index("src/lib.rt")] = "src/main.rt"
-    if "staticlib" in crates[name][0].partition(":")[0]:
-        words += ["--crate-type", "staticlib"]
     status, lines = run(words, f"{ROOT}/crates/{name}")
     print(lines[-1])
     return status == 0
