@@ -16,6 +16,7 @@ use fb_build::{Noting, is_reference};
 use fb_json::{JsonFault, Place, Source};
 use fb_pieces::text_is_read_without_brackets;
 use fb_schema::{Kind, Shape};
+use fb_tape::Tape;
 use serde_json::Value as Json;
 
 /// A walk over a JSON text that is read piece by piece: what it has noted, and what reads the pieces.
@@ -23,6 +24,17 @@ use serde_json::Value as Json;
 pub(crate) struct TextWalk<'l> {
     pub(crate) noting: Noting<'l>,
     pub(crate) reader: Reader,
+}
+
+impl<'l> TextWalk<'l> {
+    /// What it has noted.
+    pub(crate) fn into_tape(self) -> Tape<'l>
+        ensures { result ≡ self.entry.noting.tape }
+    {
+        let TextWalk { noting, .. } = self;
+        let Noting { tape, .. } = noting;
+        tape
+    }
 }
 
 /// What was found, unless memory ran out.

@@ -1,7 +1,8 @@
 //! Buffers of JSON texts.
-ghost use Rattle.std.specs.Prelude.{◌≡◌, ℕ, Bool, IfErr, IfOk, IfSome, List};
+ghost use Rattle.std.specs.Prelude.{◌≡◌, [], ℕ, Bool, IfErr, IfOk, IfSome, List, OnOk};
 ghost use Rattle.fb_value.specs.Bounds.{Bounds};
 ghost use Rattle.fb_value.specs.Datum.{Datum};
+ghost use Rattle.fb_tape.specs.Tapes.{Waits};
 ghost use Rattle.fb_build.specs.NotedRoots.{NotesRoot};
 ghost use Rattle.fb_encode.specs.TextsEncoded.{IsTextEncoded, IsTextNoted, IsUnread, TextRefused, first_fault};
 
@@ -28,16 +29,20 @@ fn first_fault(fault: JsonFault) -> TextFault
     }
 }
 
-/// A tape on which the value is noted that a text means, which is read in pieces. None where a piece can't be read on
+/// Notes the value that a text means, which is read in pieces, on a tape of nothing. None where a piece can't be read on
 /// its own.
-fn note_in_pieces<'l>(
-    source: Source<'l>,
+fn note_pieces(
+    source: Source,
+    walk: &mut TextWalk<'_>,
     json: &[u8],
     limits: Limits,
-    piece: usize,
-) -> Option<Result<Tape<'l>, TextFault>>
-    ensures noted { IfSome result (λ r. IfOk r
-        (IsTextNoted source.entry.layout.now limits source.entry.unknown json.now)) }
+) -> Option<Result<(), TextFault>>
+    requires layout { walk.old.noting.tape.layout ≡ source.layout.now }
+    requires whole { walk.old.noting.tape.unfinished ≡ [] }
+    requires waits { Waits walk.old.noting.tape [] }
+    requires room { walk.old.noting.tape.room ≡ 0 }
+    ensures noted { IfSome result (λ r. OnOk r
+        (IsTextNoted source.entry.layout.now limits source.entry.unknown json.now walk.new.noting.tape)) }
     ensures refused { IfSome result (λ r. IfErr r
         (IsUnread source.entry.layout.now limits source.entry.unknown json.now)) }
 {
@@ -53,6 +58,30 @@ fn note_in_pieces<'l>(
         brackets: MOST_BRACKETS,
         at: 0,
     };
+    let shape = Shape::One(Kind::Table(root));
+    let levels = limits.most_depth();
+    let cells = limits.most_cells();
+    match note_excerpt(source, walk, excerpt, shape, place, levels, cells) {
+        Ok(Ok(_left)) => Some(Ok(())),
+        Ok(Err(fault)) => Some(Err(first_fault(fault))),
+        Err(Unread::Memory) => Some(Err(TextFault::Memory)),
+        Err(Unread::Piece) => None,
+    }
+}
+
+/// A tape on which the value is noted that a text means, which is read in pieces. None where a piece can't be read on
+/// its own.
+fn note_in_pieces<'l>(
+    source: Source<'l>,
+    json: &[u8],
+    limits: Limits,
+    piece: usize,
+) -> Option<Result<Tape<'l>, TextFault>>
+    ensures noted { IfSome result (λ r. IfOk r
+        (IsTextNoted source.entry.layout.now limits source.entry.unknown json.now)) }
+    ensures refused { IfSome result (λ r. IfErr r
+        (IsUnread source.entry.layout.now limits source.entry.unknown json.now)) }
+{
     let Ok(reader) = Reader::over(source.alloc, json, piece) else {
         return Some(Err(TextFault::Memory));
     };
@@ -60,18 +89,10 @@ fn note_in_pieces<'l>(
         noting: Noting::new(source.alloc, source.layout),
         reader,
     };
-    let shape = Shape::One(Kind::Table(root));
-    let levels = limits.most_depth();
-    let cells = limits.most_cells();
-    match note_excerpt(source, &mut walk, excerpt, shape, place, levels, cells) {
-        Ok(Ok(_left)) => {
-            let TextWalk { noting, .. } = walk;
-            let Noting { tape, .. } = noting;
-            Some(Ok(tape))
-        }
-        Ok(Err(fault)) => Some(Err(first_fault(fault))),
-        Err(Unread::Memory) => Some(Err(TextFault::Memory)),
-        Err(Unread::Piece) => None,
+    match note_pieces(source, &mut walk, json, limits) {
+        Some(Ok(())) => Some(Ok(walk.into_tape())),
+        Some(Err(fault)) => Some(Err(fault)),
+        None => None,
     }
 }
 

@@ -2,13 +2,13 @@ use Rattle.std.proofs.Common.{◌∙◌, ap}
 use Rattle.fb_schema.specs.Schema.{DeclaredSchema}
 use Rattle.fb_encode.proofs.trees.RootIsNoted.{at_root, root_noted}
 use Rattle.fb_encode.proofs.texts.FirstFaultIsRefused.{text_refused}
-use Rattle.fb_encode.proofs.texts.note_in_pieces.Goals as goal
+use Rattle.fb_encode.proofs.texts.note_pieces.Goals as goal
 
 pub returns-in-Ok-Ok-clause-noted : goal.returns-in-Ok-Ok-clause-noted
 returns-in-Ok-Ok-clause-noted c =
     let L = c.args.source.layout.now in
     let root = c.root-root.ensures ∙ ap (λ (s : DeclaredSchema). s.root) c.schema.ensures.schema in
-    let made = c.new.ensures in
+    let made = c.requires in
     let found = rw c.in-Ok-Ok.field-0-is at c.in-Ok-Ok.ensures.noted in (
       found.0,
       found.1,
