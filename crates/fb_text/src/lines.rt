@@ -67,7 +67,6 @@ pub(crate) fn put_line<W: Write>(out: &mut Noted<W>, indent: &Indent, some: bool
 }
 
 /// Adds what is in front of a member's name, its quote included, in two pieces or more.
-#[tactic(auto, using(crate::proofs::noted::PiecesAddUp::added_then))]
 fn put_far_line_to_name<W: Write>(out: &mut Noted<W>, indent: &Indent, some: bool)
     ensures { Prints W.contents out.old out.new (line (blanks indent.now) some ++ codes "\"") }
 {

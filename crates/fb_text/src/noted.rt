@@ -169,7 +169,6 @@ impl<W: Write> Noted<W> {
     /// Adds a quote, a piece and a quote, one after the other.
     #[cold]
     #[inline(never)]
-    #[tactic(auto, using(crate::proofs::noted::PiecesAddUp::added_then))]
     fn put_each_quote(&mut self, piece: &str)
         ensures { Prints W.contents self.old self.new (in_quotes piece.now) }
     {

@@ -10,7 +10,6 @@ use crate::noted::Noted;
 use std::io::Write;
 
 /// Adds a text in quotes, escaped.
-#[tactic(auto, using(crate::proofs::noted::PiecesAddUp::added_then))]
 pub(crate) fn put_quoted<W: Write>(out: &mut Noted<W>, content: &str)
     ensures { Prints W.contents out.old out.new (quoted content.now) }
 {
