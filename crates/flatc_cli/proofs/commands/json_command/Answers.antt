@@ -1,5 +1,6 @@
-use Rattle.flatc_cli.specs.Commands.{json_flags}
+use Rattle.std.proofs.Common.{rules, codes}
+use Rattle.clap.specs.Words.{new_app}
 use Rattle.flatc_cli.proofs.commands.json_command.Goals as goal
 
 pub returns : goal.returns
-returns c = rw c.buffer_paths-files.ensures.rule at (c.with_files.ensures json_flags c.json_flags.ensures)
+returns c = c.with_arguments.ensures (new_app (codes "json")) (search rules)
