@@ -4,7 +4,7 @@ ghost use Rattle.clap.specs.Words.{found_of, rows_of};
 ghost use Rattle.flatc_cli.specs.Lines.{IsRequest, IsInspection, has_inputs, is_set};
 
 use crate::flags::explaining_of;
-use crate::matched::{check_read_once, flag_of, only_bin, paths_of, two_paths};
+use crate::matched::{check_read_once, flag_of, only_bin, two_paths};
 use crate::misuse::Misuse;
 use clap::ArgMatches;
 use flatc_request::{Inspection, Request};
@@ -18,7 +18,7 @@ fn inspection_of<'a>(alloc: Global, found: &ArgMatches<'a>) -> Result<Inspection
     ensures refusal { IfErr result (λ m.
         has_inputs (codes "inspect") (rows_of (found_of found.now)) ≡ true → m ≡ Misuse.Memory) }
 {
-    let (schema, bin) = two_paths(paths_of(found, "FILE")?, "<BIN>")?;
+    let (schema, bin) = two_paths(found, "FILE", "<BIN>")?;
     check_read_once(schema, &[bin])?;
     Ok(Inspection::Bytes {
         schema: String::from_str(alloc, schema)?,
@@ -36,7 +36,7 @@ fn header_of<'a>(alloc: Global, found: &ArgMatches<'a>) -> Result<Inspection, Mi
     ensures refusal { IfErr result (λ m.
         has_inputs (codes "inspect") (rows_of (found_of found.now)) ≡ true → m ≡ Misuse.Memory) }
 {
-    let bin = only_bin(paths_of(found, "FILE")?)?;
+    let bin = only_bin(found, "FILE")?;
     Ok(Inspection::Header {
         bin: String::from_str(alloc, bin)?,
     })

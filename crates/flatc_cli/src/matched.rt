@@ -1,8 +1,8 @@
 //! From the matches of a command line to what it asks for.
-ghost use Rattle.std.specs.Prelude.{◌≡◌, ◌≢◌, ◌≤◌, ◌∷◌, [], IfOk, IfErr, OnOk, OnErr, true, false, Some, None};
+ghost use Rattle.std.specs.Prelude.{◌≡◌, ◌≢◌, ◌∷◌, [], Bool, IfOk, IfErr, OnOk, OnErr, true, false, Some, None};
 ghost use Rattle.std.specs.Prelude.{map, option_map, string_bytes, codes, length};
 ghost use Rattle.clap.specs.Words.{all_of, first_of, found_of, rows_of};
-ghost use Rattle.flatc_cli.specs.Lines.{IsJob, IsBatch, IsRequest, IsPath, is_set, is_streamed, has_inputs};
+ghost use Rattle.flatc_cli.specs.Lines.{IsJob, IsTask, IsRequest, IsPath, is_set, is_streamed, has_inputs};
 ghost use Rattle.flatc_request.specs.Inputs.{is_read_once};
 ghost use Rattle.flatc_cli.specs.Lines.{paths_in, first_text, listed, is_line_of};
 
@@ -85,30 +85,31 @@ pub(crate) fn check_read_once(schema: &str, files: &[&str]) -> Result<(), Misuse
     }
 }
 
-/// The paths, where they are two; the second has this name. clap has refused a line without any.
+/// The paths of an id, where they are two; the second has this name.
 pub(crate) fn two_paths<'a>(
-    paths: &[&'a str],
+    found: &ArgMatches<'a>,
+    id: &str,
     second: &'static str,
 ) -> Result<(&'a str, &'a str), Misuse<'a>>
-    ensures ok { IfOk result (λ p. map (λ f. f.now) paths.now ≡ p.0.now ∷ p.1.now ∷ []) }
-    ensures refusal { OnErr result (length paths.now ≢ 2) }
+    ensures ok { IfOk result (λ p. paths_in id.now (rows_of (found_of found.now)) ≡ p.0.now ∷ p.1.now ∷ []) }
+    ensures refusal { OnErr result (length (paths_in id.now (rows_of (found_of found.now))) ≢ 2) }
 {
-    match paths {
-        [one, other] => Ok((one, other)),
-        [_, _, extra, ..] => Err(Misuse::Extra(extra)),
+    match texts_of(found, id) {
+        Some([one, other]) => Ok((one, other)),
+        Some([_, _, extra, ..]) => Err(Misuse::Extra(extra)),
         _ => Err(Misuse::Missing(second)),
     }
 }
 
-/// BIN, where the paths are this one. clap has refused a line without any.
-pub(crate) fn only_bin<'a>(paths: &[&'a str]) -> Result<&'a str, Misuse<'a>>
-    ensures ok { IfOk result (λ bin. map (λ f. f.now) paths.now ≡ bin.now ∷ []) }
-    ensures refusal { IfErr result (λ m. length paths.now ≡ 1 → m ≡ Misuse.Memory) }
+/// BIN, where an id has this path alone.
+pub(crate) fn only_bin<'a>(found: &ArgMatches<'a>, id: &str) -> Result<&'a str, Misuse<'a>>
+    ensures ok { IfOk result (λ bin. paths_in id.now (rows_of (found_of found.now)) ≡ bin.now ∷ []) }
+    ensures refusal { OnErr result (length (paths_in id.now (rows_of (found_of found.now))) ≢ 1) }
 {
-    match paths {
-        [bin] => Ok(bin),
-        [_, extra, ..] => Err(Misuse::Extra(extra)),
-        [] => Err(Misuse::Memory),
+    match texts_of(found, id) {
+        Some([bin]) => Ok(bin),
+        Some([_, extra, ..]) => Err(Misuse::Extra(extra)),
+        _ => Err(Misuse::Missing("<BIN>")),
     }
 }
 
@@ -120,7 +121,7 @@ pub(crate) fn binary_job<'a>(alloc: Global, found: &ArgMatches<'a>) -> Result<Jo
     ensures refusal { IfErr result (λ m.
         has_inputs (codes "binary") (rows_of (found_of found.now)) ≡ true → m ≡ Misuse.Memory) }
 {
-    let (json, out) = two_paths(paths_of(found, "JSON")?, "<OUT>")?;
+    let (json, out) = two_paths(found, "JSON", "<OUT>")?;
     check_read_once(schema_of(found), &[json])?;
     Ok(Job::Binary {
         schema: path_of(alloc, found, "SCHEMA")?,
@@ -138,7 +139,7 @@ pub(crate) fn json_job<'a>(alloc: Global, found: &ArgMatches<'a>) -> Result<Job,
     ensures refusal { IfErr result (λ m.
         has_inputs (codes "json") (rows_of (found_of found.now)) ≡ true → m ≡ Misuse.Memory) }
 {
-    let bin = only_bin(paths_of(found, "BIN")?)?;
+    let bin = only_bin(found, "BIN")?;
     check_read_once(schema_of(found), &[bin])?;
     Ok(Job::Json {
         schema: path_of(alloc, found, "SCHEMA")?,
@@ -149,51 +150,51 @@ pub(crate) fn json_job<'a>(alloc: Global, found: &ArgMatches<'a>) -> Result<Job,
 }
 
 /// The request for a job, in the form that the line asks for.
-fn job_request(found: &ArgMatches<'_>, job: Job) -> Request
+fn job_request<'a>(
+    found: &ArgMatches<'_>,
+    job: Result<Job, Misuse<'a>>,
+) -> Result<Request, Misuse<'a>>
     requires { is_streamed (rows_of (found_of found.now)) ≡ false }
-    ensures { (name : _) → IsJob name (rows_of (found_of found.now)) job
-        → IsRequest name (rows_of (found_of found.now)) result }
+    ensures request { (name : _) → IfOk job.entry (IsJob name (rows_of (found_of found.now)))
+        → IfOk result (IsRequest name (rows_of (found_of found.now))) }
+    ensures line { (line : Bool) → OnOk job.entry (line ≡ true) → OnOk result (line ≡ true) }
+    ensures refusal { (line : Bool) → IfErr job.entry (λ m. line ≡ true → m ≡ Misuse.Memory)
+        → IfErr result (λ m. line ≡ true → m ≡ Misuse.Memory) }
 {
+    let job = job?;
     let form = form_of(found);
     let explaining = explaining_of(found);
     if form.is_usual() {
-        Request::Do(job, explaining)
+        Ok(Request::Do(job, explaining))
     } else {
-        Request::DoFormed(job, form, explaining)
+        Ok(Request::DoFormed(job, form, explaining))
     }
 }
 
-/// The request for a batch, in the form that the line asks for.
-fn batch_request(found: &ArgMatches<'_>, batch: Batch) -> Request
-    requires { is_streamed (rows_of (found_of found.now)) ≡ false }
-    ensures { (name : _) → IsBatch name (rows_of (found_of found.now)) batch
-        → IsRequest name (rows_of (found_of found.now)) result }
-{
-    let form = form_of(found);
-    let explaining = explaining_of(found);
-    if form.is_usual() {
-        Request::DoEach(batch, explaining)
-    } else {
-        Request::DoEachFormed(batch, form, explaining)
-    }
-}
-
-/// The batch of a line whose paths behind the schema's are these.
-fn batch_of(
+/// The request for a task over the paths behind the schema's, in the form that the line asks for.
+fn batch_request<'a>(
     alloc: Global,
     found: &ArgMatches<'_>,
     files: &[&str],
     task: Task,
-) -> Result<Batch, AllocError>
-    ensures schema { IfOk result (λ batch. IsPath (codes "SCHEMA") (rows_of (found_of found.now)) batch.schema) }
-    ensures files { IfOk result (λ batch. map string_bytes batch.files.items ≡ map (λ f. f.now) files.now) }
-    ensures task { IfOk result (λ batch. batch.task ≡ task) }
+) -> Result<Request, Misuse<'a>>
+    requires { is_streamed (rows_of (found_of found.now)) ≡ false }
+    ensures request { (name : _) → IsTask name (rows_of (found_of found.now)) (map (λ f. f.now) files.now) task
+        → IfOk result (IsRequest name (rows_of (found_of found.now))) }
+    ensures refusal { IfErr result (λ m. m ≡ Misuse.Memory) }
 {
-    Ok(Batch {
+    let batch = Batch {
         schema: path_of(alloc, found, "SCHEMA")?,
         files: strings_of(alloc, files)?,
         task,
-    })
+    };
+    let form = form_of(found);
+    let explaining = explaining_of(found);
+    if form.is_usual() {
+        Ok(Request::DoEach(batch, explaining))
+    } else {
+        Ok(Request::DoEachFormed(batch, form, explaining))
+    }
 }
 
 /// What a line `binary` asks for.
@@ -204,18 +205,16 @@ fn binary_request<'a>(alloc: Global, found: &ArgMatches<'a>) -> Result<Request, 
     ensures refusal { IfErr result (λ m.
         has_inputs (codes "binary") (rows_of (found_of found.now)) ≡ true → m ≡ Misuse.Memory) }
 {
-    match text_of(found, "DIR") {
-        None => Ok(job_request(found, binary_job(alloc, found)?)),
-        Some(dir) => {
-            let files = paths_of(found, "JSON")?;
-            check_read_once(schema_of(found), files)?;
-            let task = Task::Binary {
-                dir: String::from_str(alloc, dir)?,
-                unknown: flag_of(found, "unknown-json"),
-            };
-            Ok(batch_request(found, batch_of(alloc, found, files, task)?))
-        }
-    }
+    let Some(dir) = text_of(found, "DIR") else {
+        return job_request(found, binary_job(alloc, found));
+    };
+    let files = paths_of(found, "JSON")?;
+    check_read_once(schema_of(found), files)?;
+    let task = Task::Binary {
+        dir: String::from_str(alloc, dir)?,
+        unknown: flag_of(found, "unknown-json"),
+    };
+    batch_request(alloc, found, files, task)
 }
 
 /// What a line `json` asks for.
@@ -226,29 +225,28 @@ fn json_request<'a>(alloc: Global, found: &ArgMatches<'a>) -> Result<Request, Mi
     ensures refusal { IfErr result (λ m.
         has_inputs (codes "json") (rows_of (found_of found.now)) ≡ true → m ≡ Misuse.Memory) }
 {
-    match text_of(found, "DIR") {
-        None => Ok(job_request(found, json_job(alloc, found)?)),
-        Some(dir) => {
-            let files = paths_of(found, "BIN")?;
-            check_read_once(schema_of(found), files)?;
-            let task = Task::Json {
-                dir: String::from_str(alloc, dir)?,
-                raw: flag_of(found, "raw-binary"),
-                defaults: flag_of(found, "defaults-json"),
-            };
-            Ok(batch_request(found, batch_of(alloc, found, files, task)?))
-        }
-    }
+    let Some(dir) = text_of(found, "DIR") else {
+        return job_request(found, json_job(alloc, found));
+    };
+    let files = paths_of(found, "BIN")?;
+    check_read_once(schema_of(found), files)?;
+    let task = Task::Json {
+        dir: String::from_str(alloc, dir)?,
+        raw: flag_of(found, "raw-binary"),
+        defaults: flag_of(found, "defaults-json"),
+    };
+    batch_request(alloc, found, files, task)
 }
 
 /// The job of a line `check` with one buffer, or none.
-pub(crate) fn check_job(
+pub(crate) fn check_job<'a>(
     alloc: Global,
     found: &ArgMatches<'_>,
     bin: Option<&str>,
-) -> Result<Job, AllocError>
+) -> Result<Job, Misuse<'a>>
     requires { paths_in (codes "BIN") (rows_of (found_of found.now)) ≡ listed bin }
-    ensures { IfOk result (IsJob (codes "check") (rows_of (found_of found.now))) }
+    ensures job { IfOk result (IsJob (codes "check") (rows_of (found_of found.now))) }
+    ensures refusal { IfErr result (λ m. m ≡ Misuse.Memory) }
 {
     let bin = match bin {
         Some(text) => Some(String::from_str(alloc, text)?),
@@ -261,18 +259,6 @@ pub(crate) fn check_job(
     })
 }
 
-/// The batch of a line `check` with several buffers.
-fn check_batch(alloc: Global, found: &ArgMatches<'_>, files: &[&str]) -> Result<Batch, AllocError>
-    requires files { map (λ f. f.now) files.now ≡ paths_in (codes "BIN") (rows_of (found_of found.now)) }
-    requires several { 2 ≤ length files.now }
-    ensures { IfOk result (IsBatch (codes "check") (rows_of (found_of found.now))) }
-{
-    let task = Task::Check {
-        raw: flag_of(found, "raw-binary"),
-    };
-    batch_of(alloc, found, files, task)
-}
-
 /// What a line `check` asks for.
 fn check_request<'a>(alloc: Global, found: &ArgMatches<'a>) -> Result<Request, Misuse<'a>>
     requires { is_streamed (rows_of (found_of found.now)) ≡ false }
@@ -283,14 +269,16 @@ fn check_request<'a>(alloc: Global, found: &ArgMatches<'a>) -> Result<Request, M
 {
     let Some(files) = texts_of(found, "BIN") else {
         check_read_once(schema_of(found), &[])?;
-        return Ok(job_request(found, check_job(alloc, found, None)?));
+        return job_request(found, check_job(alloc, found, None));
     };
     check_read_once(schema_of(found), files)?;
     if files.len() < 2 {
-        let job = check_job(alloc, found, files.first().copied())?;
-        return Ok(job_request(found, job));
+        return job_request(found, check_job(alloc, found, files.first().copied()));
     }
-    Ok(batch_request(found, check_batch(alloc, found, files)?))
+    let task = Task::Check {
+        raw: flag_of(found, "raw-binary"),
+    };
+    batch_request(alloc, found, files, task)
 }
 
 /// What a line `conform` asks for.
@@ -305,7 +293,7 @@ fn conform_request<'a>(alloc: Global, found: &ArgMatches<'a>) -> Result<Request,
     let new = path_of(alloc, found, "NEW")?;
     check_read_once(old.as_str(), &[new.as_str()])?;
     let names = flag_of(found, "names");
-    Ok(job_request(found, Job::Conform { old, new, names }))
+    job_request(found, Ok(Job::Conform { old, new, names }))
 }
 
 /// What a line `explain` asks for.

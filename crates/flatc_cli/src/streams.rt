@@ -5,7 +5,7 @@ ghost use Rattle.flatc_cli.specs.Lines.{IsJob, IsRequest, IsStream, has_inputs, 
 
 use crate::flags::explaining_of;
 use crate::matched::{
-    binary_job, check_job, check_read_once, flag_of, json_job, only_bin, schema_of, texts_of,
+    binary_job, check_job, check_read_once, flag_of, json_job, only_bin, schema_of,
 };
 use crate::misuse::Misuse;
 use clap::ArgMatches;
@@ -20,12 +20,9 @@ fn check_one_job<'a>(alloc: Global, found: &ArgMatches<'a>) -> Result<Job, Misus
     ensures refusal { IfErr result (λ m.
         has_inputs (codes "check") (rows_of (found_of found.now)) ≡ true → m ≡ Misuse.Memory) }
 {
-    let Some(files) = texts_of(found, "BIN") else {
-        return Err(Misuse::Missing("<BIN>"));
-    };
-    let bin = only_bin(files)?;
+    let bin = only_bin(found, "BIN")?;
     check_read_once(schema_of(found), &[bin])?;
-    Ok(check_job(alloc, found, Some(bin))?)
+    check_job(alloc, found, Some(bin))
 }
 
 /// What the job at one file is over the messages of a stream; none of a job that has no such form.
