@@ -1,10 +1,8 @@
 //! The command `flatc`, as clap builds it.
 ghost use Rattle.std.specs.Prelude.{◌≡◌, IfOk, true, false, map};
-ghost use Rattle.clap.specs.Words.{App, new_app, rule_of, with_subcommand};
-ghost use Rattle.flatc_cli.specs.Commands.{flag_rule};
-ghost use Rattle.flatc_cli.specs.Arguments.{rule_in, with_rules};
-ghost use Rattle.flatc_cli.specs.Commands.{binary_app, json_app, check_app, conform_app, inspect_app, explain_app};
-ghost use Rattle.flatc_cli.specs.Commands.{plain_app, flatc_app, HasApp};
+ghost use Rattle.clap.specs.Words.{App, rule_of};
+ghost use Rattle.flatc_cli.specs.Arguments.{rule_in, with_rules, app_in, apps_in, with_apps};
+ghost use Rattle.flatc_cli.specs.Commands.{flag_rule, plain_app, flatc_app, HasApp};
 
 use clap::{Arg, ArgAction, Command};
 use std::alloc::{AllocError, Global};
@@ -41,6 +39,18 @@ enum Argument {
     Path(&'static str, bool, &'static str),
     /// All paths that are left, and whether a line without one is refused.
     Paths(&'static str, bool, &'static str),
+}
+
+/// What clap is told of a job.
+#[derive(Clone, Copy, Drop)]
+pub(crate) struct JobWords {
+    name: &'static str,
+    about: &'static str,
+    /// How the job is used, where clap can't tell.
+    usage: Option<&'static str>,
+    /// What help ends with.
+    notes: Option<&'static str>,
+    arguments: &'static [Argument],
 }
 
 const SCHEMA: Argument = Argument::Path("SCHEMA", true, "The schema text (.fbs)");
@@ -80,79 +90,117 @@ const NAMES: Argument = Argument::Flag(
     "Refuse a name that stands for another field or member than before",
 );
 
-const OF_BINARY: &[Argument] = &[
-    UNKNOWN,
-    PREFIXED,
-    Argument::Flag(
-        "lines",
-        "Convert a JSON text a line to size-prefixed buffers",
-    ),
-    GOING,
-    EXPLAIN,
-    TERSE,
-    Argument::Directory("Convert each JSON to NAME.bin in this directory"),
-    SCHEMA,
-    Argument::Paths(
-        "JSON",
-        true,
-        "The JSON text, and then OUT, where the buffer goes; with -o all JSON texts",
-    ),
-];
+pub(crate) const BINARY: &JobWords = &JobWords {
+    name: "binary",
+    about: "Convert JSON to a FlatBuffer",
+    usage: Some(BINARY_USAGE),
+    notes: Some(DASHES),
+    arguments: &[
+        UNKNOWN,
+        PREFIXED,
+        Argument::Flag(
+            "lines",
+            "Convert a JSON text a line to size-prefixed buffers",
+        ),
+        GOING,
+        EXPLAIN,
+        TERSE,
+        Argument::Directory("Convert each JSON to NAME.bin in this directory"),
+        SCHEMA,
+        Argument::Paths(
+            "JSON",
+            true,
+            "The JSON text, and then OUT, where the buffer goes; with -o all JSON texts",
+        ),
+    ],
+};
 
-const OF_JSON: &[Argument] = &[
-    RAW,
-    DEFAULTS,
-    PREFIXED,
-    COMPACT,
-    Argument::Flag(
-        "lines",
-        "Convert size-prefixed buffers to a compact JSON text a line",
-    ),
-    GOING,
-    EXPLAIN,
-    TERSE,
-    Argument::Directory("Convert each BIN to NAME.json in this directory"),
-    SCHEMA,
-    Argument::Paths("BIN", true, "The buffer; with -o all buffers"),
-];
+pub(crate) const JSON: &JobWords = &JobWords {
+    name: "json",
+    about: "Convert a FlatBuffer to JSON",
+    usage: Some(JSON_USAGE),
+    notes: Some(DASH),
+    arguments: &[
+        RAW,
+        DEFAULTS,
+        PREFIXED,
+        COMPACT,
+        Argument::Flag(
+            "lines",
+            "Convert size-prefixed buffers to a compact JSON text a line",
+        ),
+        GOING,
+        EXPLAIN,
+        TERSE,
+        Argument::Directory("Convert each BIN to NAME.json in this directory"),
+        SCHEMA,
+        Argument::Paths("BIN", true, "The buffer; with -o all buffers"),
+    ],
+};
 
-const OF_CHECK: &[Argument] = &[
-    RAW,
-    PREFIXED,
-    Argument::Flag("lines", "Check size-prefixed buffers, one behind the other"),
-    GOING,
-    EXPLAIN,
-    TERSE,
-    SCHEMA,
-    Argument::Paths("BIN", false, "The buffer, or several"),
-];
+pub(crate) const CHECK: &JobWords = &JobWords {
+    name: "check",
+    about: "Check a schema, or buffers under it",
+    usage: Some(CHECK_USAGE),
+    notes: Some(DASH),
+    arguments: &[
+        RAW,
+        PREFIXED,
+        Argument::Flag("lines", "Check size-prefixed buffers, one behind the other"),
+        GOING,
+        EXPLAIN,
+        TERSE,
+        SCHEMA,
+        Argument::Paths("BIN", false, "The buffer, or several"),
+    ],
+};
 
-const OF_CONFORM: &[Argument] = &[
-    NAMES,
-    EXPLAIN,
-    TERSE,
-    Argument::Path("OLD", true, "The old schema text"),
-    Argument::Path("NEW", true, "The new schema text"),
-];
+pub(crate) const CONFORM: &JobWords = &JobWords {
+    name: "conform",
+    about: "Check that a new schema reads data of an old one",
+    usage: None,
+    notes: Some(DASH),
+    arguments: &[
+        NAMES,
+        EXPLAIN,
+        TERSE,
+        Argument::Path("OLD", true, "The old schema text"),
+        Argument::Path("NEW", true, "The new schema text"),
+    ],
+};
 
-const OF_INSPECT: &[Argument] = &[
-    RAW,
-    PREFIXED,
-    HEADER,
-    EXPLAIN,
-    TERSE,
-    Argument::Paths(
-        "FILE",
-        true,
-        "The schema text (.fbs), and then BIN, the buffer; with --header BIN alone",
-    ),
-];
+pub(crate) const INSPECT: &JobWords = &JobWords {
+    name: "inspect",
+    about: "Show what the bytes of a buffer are",
+    usage: Some(INSPECT_USAGE),
+    notes: Some(DASH),
+    arguments: &[
+        RAW,
+        PREFIXED,
+        HEADER,
+        EXPLAIN,
+        TERSE,
+        Argument::Paths(
+            "FILE",
+            true,
+            "The schema text (.fbs), and then BIN, the buffer; with --header BIN alone",
+        ),
+    ],
+};
 
-const OF_EXPLAIN: &[Argument] = &[Argument::Path(
-    "NUMBER",
-    false,
-    "The number of a refusal; without it all are listed",
-)];
+const NUMBERS: &JobWords = &JobWords {
+    name: "explain",
+    about: "Explain the number of a refusal, or list all of them",
+    usage: None,
+    notes: None,
+    arguments: &[Argument::Path(
+        "NUMBER",
+        false,
+        "The number of a refusal; without it all are listed",
+    )],
+};
+
+const JOBS: &[&JobWords] = &[BINARY, JSON, CHECK, CONFORM, INSPECT, NUMBERS];
 
 fn flag<'a>(alloc: Global, name: &'a str, help: &'a str) -> Arg<'a>
     ensures rule { rule_of result ≡ flag_rule name.entry.now }
@@ -196,67 +244,18 @@ fn with_arguments<'a>(
     Ok(command)
 }
 
-/// A job's command without arguments.
-fn plain_job<'a>(alloc: Global, name: &'a str, about: &'a str) -> Command<'a>
-    ensures { HasApp (new_app name.entry.now) result }
+/// The command of a job.
+pub(crate) fn job_command<'a>(alloc: Global, job: &JobWords) -> Result<Command<'a>, AllocError>
+    ensures { IfOk result (HasApp (app_in job.now)) }
 {
-    Command::new(alloc, name).about(about).after_help(DASH)
-}
-
-pub(crate) fn binary_command<'a>(alloc: Global) -> Result<Command<'a>, AllocError>
-    ensures { IfOk result (HasApp binary_app) }
-{
-    let command = plain_job(alloc, "binary", "Convert JSON to a FlatBuffer")
-        .override_usage(BINARY_USAGE)
-        .after_help(DASHES);
-    with_arguments(alloc, command, OF_BINARY)
-}
-
-pub(crate) fn json_command<'a>(alloc: Global) -> Result<Command<'a>, AllocError>
-    ensures { IfOk result (HasApp json_app) }
-{
-    let command = plain_job(alloc, "json", "Convert a FlatBuffer to JSON").override_usage(
-        JSON_USAGE,
-    );
-    with_arguments(alloc, command, OF_JSON)
-}
-
-pub(crate) fn check_command<'a>(alloc: Global) -> Result<Command<'a>, AllocError>
-    ensures { IfOk result (HasApp check_app) }
-{
-    let command = plain_job(alloc, "check", "Check a schema, or buffers under it").override_usage(
-        CHECK_USAGE,
-    );
-    with_arguments(alloc, command, OF_CHECK)
-}
-
-pub(crate) fn conform_command<'a>(alloc: Global) -> Result<Command<'a>, AllocError>
-    ensures { IfOk result (HasApp conform_app) }
-{
-    let command = plain_job(
-        alloc,
-        "conform",
-        "Check that a new schema reads data of an old one",
-    );
-    with_arguments(alloc, command, OF_CONFORM)
-}
-
-pub(crate) fn inspect_command<'a>(alloc: Global) -> Result<Command<'a>, AllocError>
-    ensures { IfOk result (HasApp inspect_app) }
-{
-    let command = plain_job(alloc, "inspect", "Show what the bytes of a buffer are").override_usage(
-        INSPECT_USAGE,
-    );
-    with_arguments(alloc, command, OF_INSPECT)
-}
-
-fn explain_command<'a>(alloc: Global) -> Result<Command<'a>, AllocError>
-    ensures { IfOk result (HasApp explain_app) }
-{
-    let command = Command::new(alloc, "explain").about(
-        "Explain the number of a refusal, or list all of them",
-    );
-    with_arguments(alloc, command, OF_EXPLAIN)
+    let mut command = Command::new(alloc, job.name).about(job.about);
+    if let Some(usage) = job.usage {
+        command = command.override_usage(usage);
+    }
+    if let Some(notes) = job.notes {
+        command = command.after_help(notes);
+    }
+    with_arguments(alloc, command, job.arguments)
 }
 
 /// The command before its jobs, whose words come without the program's name.
@@ -271,26 +270,26 @@ fn plain_command<'a>(alloc: Global) -> Result<Command<'a>, AllocError>
         .bin_name("flatc")
 }
 
-/// The command with one more job.
-fn with_job<'a>(
-    command: Result<Command<'a>, AllocError>,
-    job: Result<Command<'a>, AllocError>,
+/// The command with these jobs.
+fn with_jobs<'a>(
+    alloc: Global,
+    command: Command<'a>,
+    jobs: &[&JobWords],
 ) -> Result<Command<'a>, AllocError>
-    ensures { (above : App) → IfOk command.entry (HasApp above) → (added : App) → IfOk job.entry (HasApp added)
-        → IfOk result (HasApp (with_subcommand above added.top)) }
+    ensures { (above : App) → HasApp above command.entry
+        → IfOk result (HasApp (with_apps above (apps_in jobs.now))) }
 {
-    command?.subcommand(job?)
+    let mut command = command;
+    for job in jobs {
+        command = command.subcommand(job_command(alloc, job)?)?;
+    }
+    Ok(command)
 }
 
 /// The command with its four jobs, what shows a buffer's bytes, and what explains a number.
 pub(crate) fn flatc_command<'a>(alloc: Global) -> Result<Command<'a>, AllocError>
     ensures { IfOk result (HasApp flatc_app) }
 {
-    let command = plain_command(alloc);
-    let command = with_job(command, binary_command(alloc));
-    let command = with_job(command, json_command(alloc));
-    let command = with_job(command, check_command(alloc));
-    let command = with_job(command, conform_command(alloc));
-    let command = with_job(command, inspect_command(alloc));
-    with_job(command, explain_command(alloc))
+    let command = plain_command(alloc)?;
+    with_jobs(alloc, command, JOBS)
 }

@@ -4,7 +4,7 @@ ghost use Rattle.clap.specs.Words.{kind_of};
 ghost use Rattle.flatc_cli.specs.Misuses.{IsRefusal};
 
 use crate::commands::{
-    binary_command, check_command, conform_command, flatc_command, inspect_command, json_command,
+    BINARY, CHECK, CONFORM, INSPECT, JSON, JobWords, flatc_command, job_command,
 };
 use clap::error::ErrorKind;
 use clap::{Command, Error};
@@ -35,15 +35,21 @@ impl From<AllocError> for Misuse<'_> {
     }
 }
 
-/// The command of a job, whose usage an error shows.
-fn command_of<'a>(alloc: Global, job: &str) -> Result<Command<'a>, AllocError> {
+/// The words of a job; those of `conform` for any other name.
+fn words_of(job: &str) -> &'static JobWords {
     match job {
-        "binary" => binary_command(alloc),
-        "json" => json_command(alloc),
-        "check" => check_command(alloc)?.bin_name("flatc check"),
-        "inspect" => inspect_command(alloc),
-        _ => conform_command(alloc)?.bin_name("flatc conform"),
+        "binary" => BINARY,
+        "json" => JSON,
+        "check" => CHECK,
+        "inspect" => INSPECT,
+        _ => CONFORM,
     }
+}
+
+/// The command of a job, whose usage an error shows. That of `conform` is made by clap, of this name;
+/// the others have their own.
+fn command_of<'a>(alloc: Global, job: &str) -> Result<Command<'a>, AllocError> {
+    job_command(alloc, words_of(job))?.bin_name("flatc conform")
 }
 
 fn told(alloc: Global, job: &str, kind: ErrorKind, message: &str) -> Result<Error, AllocError>

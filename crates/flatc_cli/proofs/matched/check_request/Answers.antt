@@ -12,5 +12,9 @@ returns-then-files-lt2-clause-request c =
 
 pub returns-clause-request : goal.returns-clause-request
 returns-clause-request c =
-    c.batch_request.ensures.request (codes "check")
-    (refl, ap (λ (o : Option (List Text)). unwrap_or o []) c.in-Some.ensures, simp length-map (omega arith), c.flag_of.ensures)
+    c.batch_request.ensures.request (codes "check") (
+      refl,
+      ap (λ (all : Option (List Text)). unwrap_or all []) c.in-Some.ensures,
+      simp length-map (omega arith),
+      c.flag_of.ensures,
+    )

@@ -1,6 +1,0 @@
-use Rattle.std.proofs.Common.{rules, codes}
-use Rattle.clap.specs.Words.{new_app}
-use Rattle.flatc_cli.proofs.commands.check_command.Goals as goal
-
-pub returns : goal.returns
-returns c = c.with_arguments.ensures (new_app (codes "check")) (search rules)
