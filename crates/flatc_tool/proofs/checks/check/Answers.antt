@@ -1,4 +1,4 @@
-use Rattle.std.proofs.Common.{ap}
+use Rattle.std.proofs.Common.{ap, rules}
 use Rattle.std.specs.Option.{option_map}
 use Rattle.flatc_tool.proofs.checks.RefusedBytesAreUnsound.{schema_unsound, some_unsound}
 use Rattle.flatc_tool.proofs.checks.check.Goals as goal
@@ -6,6 +6,16 @@ use Rattle.flatc_tool.proofs.checks.check.Goals as goal
 pub returns-in-Err-clause-exact : goal.returns-in-Err-clause-exact
 returns-in-Err-clause-exact c rule = schema_unsound c.layer_laws.ensures.laws c.args.schema.now _ c.args.limits
     c.args.raw c.in-Err.fault c.in-Err.ensures.refused rule
+
+pub returns-in-Ok-verify-clause-sound : goal.returns-in-Ok-verify-clause-sound
+returns-in-Ok-verify-clause-sound c = search rules
+
+pub returns-clause-sound : goal.returns-clause-sound
+returns-clause-sound c = tt
+
+pub returns-clause-refused : goal.returns-clause-refused
+returns-clause-refused c =
+    rw c.in-Some.is (c.in-Ok.layout, c.in-Ok.ensures.accepted, c.in-Err-verify.ensures.fault)
 
 pub returns-clause-exact : goal.returns-clause-exact
 returns-clause-exact c rule =

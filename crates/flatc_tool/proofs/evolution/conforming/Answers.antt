@@ -1,16 +1,45 @@
+use Rattle.std.proofs.Common.{rules}
 use Rattle.flatc_tool.proofs.evolution.BreachExcludesConforming.{breach_excludes}
 use Rattle.fb_schema_text.proofs.SchemaTextHasOneLayout.{refused_excludes}
 use Rattle.flatc_tool.proofs.evolution.conforming.Goals as goal
+
+pub returns-in-Err-clause-refused : goal.returns-in-Err-clause-refused
+returns-in-Err-clause-refused c = c.in-Err.ensures.refused
 
 pub returns-in-Err-clause-exact : goal.returns-in-Err-clause-exact
 returns-in-Err-clause-exact c rule texts = refused_excludes c.layer_laws.ensures.laws.schema c.args.old.now
     c.in-Err.fault
     c.in-Err.ensures.refused rule texts.0 texts.2
 
+pub returns-in-Err-schema_of-clause-refused : goal.returns-in-Err-schema_of-clause-refused
+returns-in-Err-schema_of-clause-refused c =
+    (c.in-Ok.layout, c.in-Ok.ensures.accepted, c.in-Err-schema_of.ensures.refused)
+
 pub returns-in-Err-schema_of-clause-exact : goal.returns-in-Err-schema_of-clause-exact
 returns-in-Err-schema_of-clause-exact c rule texts =
     refused_excludes c.layer_laws.ensures.laws.schema c.args.new.now c.in-Err-schema_of.fault
     c.in-Err-schema_of.ensures.refused rule texts.1 texts.3
+
+pub returns-in-Ok-conform-clause-refused : goal.returns-in-Ok-conform-clause-refused
+returns-in-Ok-conform-clause-refused c = tt
+
+pub returns-in-Ok-conform-clause-exact : goal.returns-in-Ok-conform-clause-exact
+returns-in-Ok-conform-clause-exact c = tt
+
+pub returns-in-Ok-conform-clause-conforms : goal.returns-in-Ok-conform-clause-conforms
+returns-in-Ok-conform-clause-conforms c = search rules
+
+pub returns-in-Err-conform-clause-conforms : goal.returns-in-Err-conform-clause-conforms
+returns-in-Err-conform-clause-conforms c = tt
+
+pub returns-in-Err-conform-clause-refused : goal.returns-in-Err-conform-clause-refused
+returns-in-Err-conform-clause-refused c = (
+  c.in-Ok.layout,
+  c.in-Ok-schema_of.layout,
+  c.in-Ok.ensures.accepted,
+  c.in-Ok-schema_of.ensures.accepted,
+  c.in-Err-conform.ensures.first,
+)
 
 pub returns-in-Err-conform-clause-exact : goal.returns-in-Err-conform-clause-exact
 returns-in-Err-conform-clause-exact c rule =

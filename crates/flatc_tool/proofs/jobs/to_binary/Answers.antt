@@ -1,6 +1,7 @@
-use Rattle.std.proofs.lemmas.Result.{IfErr-weaker}
-use Rattle.flatc_tool.specs.Jobs.{MayBeBinary, MayBeBinaryOf, IsNotMemory}
+use Rattle.std.proofs.lemmas.Result.{IfErr-weaker, IfOk-weaker}
+use Rattle.flatc_tool.specs.Jobs.{BinaryRefused, IsBinary, MayBeBinary, MayBeBinaryOf, IsNotMemory}
 use Rattle.fb_schema_text.proofs.SchemaTextHasOneLayout.{refused_has_none, none_of_layout}
+use Rattle.flatc_tool.proofs.jobs.RefusedUnderTheSchema.{binary_refused}
 use Rattle.flatc_tool.proofs.jobs.to_binary.Goals as goal
 
 pub returns-in-Err-clause-exact : goal.returns-in-Err-clause-exact
@@ -14,3 +15,16 @@ returns-clause-exact c =
     (λ f exact rule. none_of_layout c.layer_laws.ensures.laws.schema c.args.schema.now c.in-Ok.layout
     (λ L. MayBeBinaryOf L c.args.json.now c.args.limits c.args.unknown) c.in-Ok.ensures.accepted (exact rule))
     c.encode.ensures.exact
+
+pub returns-clause-binary : goal.returns-clause-binary
+returns-clause-binary c =
+    IfOk-weaker c.encode.result _ (λ b. IsBinary c.args.schema.now c.args.json.now c.args.limits c.args.unknown b.items)
+    (λ b made. record { layout = c.in-Ok.layout; accepted = c.in-Ok.ensures.accepted; has = made })
+    c.encode.ensures.binary
+
+pub returns-clause-refused : goal.returns-clause-refused
+returns-clause-refused c =
+    IfErr-weaker c.encode.result _ (BinaryRefused c.args.schema.now c.args.json.now c.args.limits c.args.unknown)
+    (binary_refused c.args.schema.now c.args.json.now c.args.limits c.args.unknown c.in-Ok.layout
+    c.in-Ok.ensures.accepted)
+    c.encode.ensures.refused

@@ -1,4 +1,4 @@
-use Rattle.std.proofs.Common.{Some}
+use Rattle.std.proofs.Common.{◌≡◌, ℕ, Some, Vec, Global, string_bytes, ap, ◌∙◌, ◌++◌}
 use Rattle.flatc_tool.proofs.json_texts.PrintedIsTheJsonText.{text_refused}
 use Rattle.flatc_tool.proofs.json_texts.decode.Goals as goal
 
@@ -10,3 +10,11 @@ returns-in-Err-clause-refused c =
     (Some c.over-out.result.inner.items) (Some c.decode_to.new.out.inner.items) c.in-Err.fault
     c.in-Err.ensures.refused in
     rw c.text_fault.ensures refused
+
+pub returns-clause-text : goal.returns-clause-text
+returns-clause-text c =
+    let sent = c.in_default.ensures.printed in
+    let items = λ (v : Vec ℕ Global). v.items in
+    let same : string_bytes c.in-Ok.text ≡ sent.0 = ap items (c.in-Ok.ensures.ok ∙ c.into_inner.ensures) ∙ sent.3
+    ∙ ap (λ front. front ++ sent.0) (ap items c.over-out.ensures.same ∙ c.new.ensures.items) in
+    rw same sent.1

@@ -1,6 +1,8 @@
-use Rattle.std.proofs.lemmas.Result.{IfErr-weaker}
-use Rattle.flatc_tool.specs.Jobs.{MayBeText, MayBeTextOf, IsNotMemory}
+use Rattle.std.proofs.Common.{string_bytes}
+use Rattle.std.proofs.lemmas.Result.{IfErr-weaker, IfOk-weaker}
+use Rattle.flatc_tool.specs.Jobs.{IsText, TextRefused, MayBeText, MayBeTextOf, IsNotMemory}
 use Rattle.fb_schema_text.proofs.SchemaTextHasOneLayout.{refused_has_none, none_of_layout}
+use Rattle.flatc_tool.proofs.jobs.RefusedUnderTheSchema.{text_refused}
 use Rattle.flatc_tool.proofs.prints.to_json.Goals as goal
 
 pub returns-in-Err-clause-exact : goal.returns-in-Err-clause-exact
@@ -14,3 +16,19 @@ returns-clause-exact c =
     (λ f exact rule. none_of_layout c.layer_laws.ensures.laws.schema c.args.schema.now c.in-Ok.layout
     (λ L. MayBeTextOf L c.args.bytes.now c.args.limits c.args.raw) c.in-Ok.ensures.accepted (exact rule))
     c.decode.ensures.exact
+
+pub returns-in-Err-clause-refused : goal.returns-in-Err-clause-refused
+returns-in-Err-clause-refused c = c.in-Err.ensures.refused
+
+pub returns-clause-text : goal.returns-clause-text
+returns-clause-text c =
+    IfOk-weaker c.decode.result _
+    (λ s. IsText c.args.schema.now c.args.bytes.now c.args.limits c.args.raw c.args.defaults (string_bytes s))
+    (λ s text. record { layout = c.in-Ok.layout; accepted = c.in-Ok.ensures.accepted; has = text })
+    c.decode.ensures.text
+
+pub returns-clause-refused : goal.returns-clause-refused
+returns-clause-refused c =
+    IfErr-weaker c.decode.result _ (TextRefused c.args.schema.now c.args.bytes.now c.args.limits c.args.raw)
+    (text_refused c.args.schema.now c.args.bytes.now c.args.limits c.args.raw c.in-Ok.layout c.in-Ok.ensures.accepted)
+    c.decode.ensures.refused

@@ -1,0 +1,2 @@
+-- What the proofs of src/jobs.rt use.
+pub mod RefusedUnderTheSchema
