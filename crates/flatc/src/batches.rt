@@ -193,7 +193,15 @@ fn do_files<'j>(
         }
     }
     progress.clear(rt);
-    status.code()
+    end_of(rt, &batch.task, status.code())
+}
+
+/// Prints what a batch ends with, and returns the status.
+fn end_of(rt: &HostRuntime, task: &Task, status: u8) -> u8 {
+    match task {
+        Task::Check { .. } if status == 0 => { tell(rt, Ok("ok\n")) }
+        _ => status,
+    }
 }
 
 /// Does a batch whose outputs are known, and returns the status.
@@ -204,15 +212,12 @@ fn do_all<'j>(
     explained: bool,
 ) -> u8 {
     let mut texts = Texts::new(rt, explained);
-    let flags = Flags::of_task(&batch.task, form);
-    let layout = match batch_layout(rt, batch, &mut texts) {
-        Ok(layout) => layout,
-        Err(fault) => return refuse(rt, flags, &mut texts, fault, explained),
-    };
-    let status = do_files(rt, (batch, form), targets, &layout, &mut texts, explained);
-    match &batch.task {
-        Task::Check { .. } if status == 0 => { tell(rt, Ok("ok\n")) }
-        _ => status,
+    match batch_layout(rt, batch, &mut texts) {
+        Ok(layout) => do_files(rt, (batch, form), targets, &layout, &mut texts, explained),
+        Err(fault) => {
+            let flags = Flags::of_task(&batch.task, form);
+            refuse(rt, flags, &mut texts, fault, explained)
+        }
     }
 }
 

@@ -1,7 +1,40 @@
 //! What to write in place of an option of Google's flatc.
 
+/// The options for code that Google's flatc generates.
+const GENERATORS: [&str; 26] = [
+    "--cpp",
+    "-c",
+    "--csharp",
+    "-n",
+    "--dart",
+    "-d",
+    "--go",
+    "-g",
+    "--java",
+    "-j",
+    "--js",
+    "-s",
+    "--kotlin",
+    "--lobster",
+    "--lua",
+    "-l",
+    "--nim",
+    "--php",
+    "--python",
+    "-p",
+    "--rust",
+    "-r",
+    "--swift",
+    "--ts",
+    "-T",
+    "--grpc",
+];
+
 /// The hint for a word.
 fn hint_of(word: &str) -> Option<&'static str> {
+    if GENERATORS.iter().any(|option| *option == word) {
+        return Some("this program converts and checks; for generated code use Google's flatc");
+    }
     Some(match word {
         "-b" | "--binary" => "use: flatc binary SCHEMA JSON OUT",
         "-t" | "--json" => "use: flatc json SCHEMA BIN",
@@ -11,32 +44,6 @@ fn hint_of(word: &str) -> Option<&'static str> {
             "include isn't supported: put all declarations into one text",
         "--annotate" => "to see what the bytes of a buffer are, use: flatc inspect SCHEMA BIN",
         "--strict-json" => "JSON is always strict: flatc json SCHEMA BIN",
-        "--cpp"
-        | "-c"
-        | "--csharp"
-        | "-n"
-        | "--dart"
-        | "-d"
-        | "--go"
-        | "-g"
-        | "--java"
-        | "-j"
-        | "--js"
-        | "-s"
-        | "--kotlin"
-        | "--lobster"
-        | "--lua"
-        | "-l"
-        | "--nim"
-        | "--php"
-        | "--python"
-        | "-p"
-        | "--rust"
-        | "-r"
-        | "--swift"
-        | "--ts"
-        | "-T"
-        | "--grpc" => { "this program converts and checks; for generated code use Google's flatc" }
         _ => return None,
     })
 }

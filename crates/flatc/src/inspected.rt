@@ -2,11 +2,11 @@
 use crate::explained::explain_refusal;
 use crate::faults::read_fault;
 use crate::flags::Flags;
-use crate::{limits, read_both, tell};
+use crate::{layout_of, limits, read_both, tell};
 use fb_inspect::{Listing, header_lines};
 use flatc_files::{Reasoned, Texts};
 use flatc_request::Inspection;
-use flatc_tool::{Layout, ReadFault, ToolFault, WriteFault, schema_of};
+use flatc_tool::{Layout, ReadFault, ToolFault, WriteFault};
 use std::io::Write;
 
 // How many bytes of lines are written at once.
@@ -81,17 +81,14 @@ fn print_listing<W: Write>(
 /// Prints what the bytes of the input are, and returns their fault behind the lines.
 fn print_input(
     rt: &HostRuntime,
+    layout: &Layout,
     texts: &mut Texts<'_>,
     raw: bool,
     size_prefixed: bool,
 ) -> Result<(), ToolFault> {
-    let layout = match schema_of(rt.alloc(), texts.schema.bytes.as_slice()) {
-        Ok(layout) => layout,
-        Err(fault) => return Err(ToolFault::Schema(fault)),
-    };
     let bytes = texts.input.bytes.as_slice();
     let mut out = Reasoned::over(rt.stdout());
-    let printed = print_listing(rt, &layout, bytes, raw, size_prefixed, &mut out);
+    let printed = print_listing(rt, layout, bytes, raw, size_prefixed, &mut out);
     if let Some(error) = out.into_reason() {
         texts.fail(rt, "standard output", &error);
     }
@@ -112,7 +109,8 @@ fn inspect_file<'j>(
     size_prefixed: bool,
 ) -> Result<(), ToolFault> {
     read_both(rt, texts, paths)?;
-    print_input(rt, texts, raw, size_prefixed)
+    let layout = layout_of(rt, texts)?;
+    print_input(rt, &layout, texts, raw, size_prefixed)
 }
 
 /// Prints what the header of a file says, without a schema.
