@@ -20,7 +20,7 @@ sys.path.append(f"{ROOT}/tools")
 from version import version  # noqa: E402
 LONGEST = 2_147_483_647
 # pairs.txt has as many pairs at least.
-PAIRS = 87
+PAIRS = 100
 NOBODY = 65534
 SECONDS = 120
 CUT_SECONDS = 20
@@ -31,6 +31,7 @@ FRONT = 1_000_000
 ONE = b"table T { a:int; } root_type T;"
 SEVEN = bytes.fromhex("0c000000 0000 0600 0800 0400 06000000 07000000")
 SEVEN_TEXT = b'{\n  "a": 7\n}\n'
+DEFAULT = bytes.fromhex("08000000 0400 0400 04000000")
 STRUCTS = b"struct P { x:int; c:int; } table T { p:P; } root_type T;"
 UNION = (
     b"table A { x:int; } table B { y:int; } union U { A } union V { A, B } "
@@ -49,7 +50,8 @@ FILES = {
     "empty": b"",
     "test.fbs": ONE + b' file_identifier "TEST";',
     "other.bin": bytes.fromhex("0c000000 55455354 0400 0400 04000000"),
-    "default.bin": bytes.fromhex("08000000 0400 0400 04000000"),
+    "default.bin": DEFAULT,
+    "-default.bin": DEFAULT,
     "structs.fbs": STRUCTS,
     "structs.json": b'{"p":{"x":1}}',
     "union_old.fbs": UNION % b"T",
@@ -60,6 +62,32 @@ FILES = {
     "not_utf8.json": b'{"a":7} \xff',
     "long.json": b'{"a":' + b" " * 3_000_000 + b"7}",
 }
+
+# Lines that are no command: too few paths or too many, words that don't go together, one that no command has, or
+# standard input twice.
+MISUSED = """\
+json s
+conform s
+what
+json s b c
+binary s j
+binary s j o p
+binary -o d s
+check -o d s b
+check - -
+conform /dev/stdin /dev/fd/0
+binary -o d - /proc/self/fd/0
+check --what s
+explain 1 2
+explain --explain 1
+json --lines --compact s b
+binary --lines -o d s j
+check --lines s
+check --keep-going s b
+inspect b
+inspect --header s b
+inspect --header --raw-binary b
+inspect - -""".splitlines()
 
 passed = 0
 failed = 0
@@ -132,6 +160,8 @@ def jobs():
     row("check with the identifier unchecked", ["check", "--raw-binary", "test.fbs", "other.bin"], 0, b"ok\n")
     row("two dashes before paths", ["check", "--", "one.fbs", "seven.bin"], 0, b"ok\n")
     row("a path that begins with a dash", ["check", "--", "-dash.fbs"], 0, b"ok\n")
+    row("a buffer whose path begins with a dash", ["json", "--defaults-json", "one.fbs", "--", "-default.bin"], 0,
+        b'{\n  "a": 0\n}\n')
 
 
 def refusals():
@@ -177,20 +207,25 @@ def comparisons():
     refused("a missing new schema", ["conform", "one.fbs", "missing"], b"110 FileRead")
 
 
+def compared(name, words, want):
+    if want == "conforms":
+        row(name, words, 0, b"conforms\n")
+    else:
+        refused(name, words, want.encode())
+
+
 def pairs():
     count = 0
     for line in open(os.path.join(ROOT, "tests", "pairs.txt"), encoding="ascii"):
         line = line.rstrip("\n")
         if not line or line.startswith("#"):
             continue
-        name, old, new, want = line.split(" | ")
+        name, old, new, want, *moved = line.split(" | ")
         for path, text in (("old.fbs", old), ("new.fbs", new)):
             with open(path, "w", encoding="ascii") as file:
                 file.write(text.replace("..", "root_type T;"))
-        if want == "conforms":
-            row(name, ["conform", "old.fbs", "new.fbs"], 0, b"conforms\n")
-        else:
-            refused(name, ["conform", "old.fbs", "new.fbs"], want.encode())
+        compared(name, ["conform", "old.fbs", "new.fbs"], want)
+        compared(f"{name}, with names", ["conform", "--names", "old.fbs", "new.fbs"], *(moved or [want]))
         count += 1
     tell("the pairs of schemas", count >= PAIRS, f"{count} of at least {PAIRS}")
 
@@ -299,8 +334,8 @@ def usage():
     for words in (["--help"], ["-h"], ["help"]):
         helped(f"help by {words}", words, b"Usage: flatc <COMMAND>")
     for job in ("binary", "json", "check", "conform"):
-        helped(f"help of {job}", [job, "--help"], f"Usage: flatc {job} ".encode())
-        helped(f"short help of {job}", [job, "-h"], f"Usage: flatc {job} ".encode())
+        for words in ([job, "--help"], [job, "-h"], ["help", job]):
+            helped(f"help by {words}", words, f"Usage: flatc {job} ".encode())
     helped("the version", ["--version"], f"flatc {version()}\n".encode())
     misused("no such job", ["nothing"])
     misused("a flag that no job has", ["check", "--nothing", "one.fbs"])
@@ -309,6 +344,8 @@ def usage():
     misused("one schema to compare", ["conform", "one.fbs"])
     misused("too many paths", ["json", "one.fbs", "seven.bin", "seven.bin"])
     misused("words that are no UTF-8", [b"check", b"\xff"])
+    for line in MISUSED:
+        misused(f"the line {line}", line.split())
 
 
 def examples():

@@ -164,6 +164,16 @@ def schemas(tests):
         grows(tests, what, make, count, [tests.program, "check", "--explain", "s.fbs"], 1)
 
 
+def namespaces(tests):
+    """`check` of a schema with many namespaces, each with a type of its own, under many types that they take over."""
+    def make(size):
+        outer = many(size, "table Row{0} {{ a:int; }}\n") + "table All {\n" + many(size, "  f{0}:Row{0};\n") + "}\n"
+        inner = many(size, "namespace N{0};\ntable T {{ t:T; r:Row{0}; }}\n")
+        write("s.fbs", f"{outer}{inner}namespace;\nroot_type All;".encode())
+
+    grows(tests, "namespaces under outer types", make, 2000, [tests.program, "check", "s.fbs"], 0, timed=5)
+
+
 def json_texts(tests):
     """`binary --explain` of a text with many members: the last is unknown, or isn't JSON there."""
     words = [tests.program, "binary", "--explain", "s.fbs", "v.json", "out.bin"]
@@ -207,5 +217,5 @@ def crafted(tests):
 
 if __name__ == "__main__":
     sys.exit(
-        Tests("costs", program_of(sys.argv, __doc__)).main((comparisons, unsupported, schemas, json_texts, crafted))
+        Tests("costs", program_of(sys.argv, __doc__)).main((comparisons, unsupported, schemas, namespaces, json_texts, crafted))
     )

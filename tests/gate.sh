@@ -1,7 +1,7 @@
 #!/usr/bin/env bash
 # The gate: all that rt ci proves and runs, whether each mutation can still be applied and each edit in not-compiled/ is
 # refused, whether copies of the version and of figures are right, and the built program: with words and files, with
-# what is done to OUT, with standard streams for paths, with many files in one call, with streams of messages, what it
+# schema texts and JSON texts, with what is done to OUT, with standard streams for paths, with many files in one call, with streams of messages, what it
 # lists of buffers, at a terminal, where memory, pipes and stack run out, what it explains, that explaining changes
 # nothing else, how costs grow, and how much memory it takes; the calls with growths refused, some thousand damaged
 # buffers, some thousand JSON texts in pieces, and the library for C with its examples. The last line counts all of it:
@@ -33,7 +33,7 @@ if [ ! -x "$parser" ]; then
     python3 tools/build.py bench_json_parse || status=1
 fi
 python3 tools/mutations.py --not-compiled | tee "$logs/not-compiled" || status=1
-for part in command outputs streams batches lines prefixed inspect terminal hostile explain told_alike costs; do
+for part in command texts outputs streams batches lines prefixed inspect terminal hostile explain told_alike costs; do
     python3 "tests/$part.py" "$program" | tee "$logs/$part" || status=1
 done
 for part in growths soak pieces; do

@@ -4,7 +4,7 @@
 usage: tests/soak.py PROGRAM [--seed N] [--schemas N] [--damages N] [--size FLATC]
 
 PROGRAM is built of crates/test_hostile. Each schema gets a JSON text; its buffer has to print as the value that was
-made here, and each damage of it has to be read alike by both readers, and where it still holds a value, print as a text
+made here, that value has to be built as the same bytes, and each damage of it has to be read alike by both readers, and where it still holds a value, print as a text
 that means this value and whose buffer holds it. With --size the program FLATC converts files of some gigabytes too. The
 last line is 'N passed, M failed'.
 """
@@ -36,6 +36,15 @@ TALLY = re.compile(r"(\d+) held, (\d+) unnamed, (\d+) refused")
 # As many rows go to one process.
 BATCH = 20
 LEVELS = 5
+HAND = (
+    "table P { x:int; } table T { n:int; s:string (required); qs:[P]; ts:[string]; ps:[P]; ns:[short]; } root_type T;"
+)
+TEXTS = (
+    '{"n":5,"s":"hi","qs":[],"ts":["a","bcd"],"ps":[{"x":1},{"x":2}],"ns":[1,-1]}',
+    '{"n":5,"s":"hi","qs":[],"ts":[],"ps":[],"ns":[1,-1]}',
+    '{"s":"hi"}',
+    '{"s":"hi","qs":[{"x":1}],"ts":["%s","%s"],"ps":[{"x":2}]}' % ("x" * 70_000, "y" * 90_001),
+)
 LETTERS = "abcXYZ 019_.,:;/\"\\\n\t{}[]\u00e4\u00df\u20ac\u4e2d\U0001f600\x01\x1f"
 
 
@@ -301,6 +310,15 @@ def soak_batch(tests, seed, count, damages):
     return sums
 
 
+def by_hand(tests):
+    """Entries and elements that come in one by one, and tables with one vtable behind long texts."""
+    lines = "".join(f"{HAND}\t{text}\t1\t0\n" for text in TEXTS)
+    done = subprocess.run([tests.program, "soak"], input=lines.encode(), capture_output=True, check=False)
+    for text, (head, printed) in zip(TEXTS, answers_of(done.stdout.decode()), strict=True):
+        tests.tell(f"a buffer of {text[:60]}", head == "1 held, 0 unnamed, 0 refused", head[:200])
+        tests.tell(f"the text of {text[:60]}", json.loads(printed) == json.loads(text), printed[:200])
+
+
 def soak(given):
     def part(tests):
         began = time.monotonic()
@@ -330,7 +348,7 @@ def main():
     parser.add_argument("--size", default="")
     given = parser.parse_args()
     tests = Tests("soak", os.path.abspath(given.program))
-    parts = [soak(given)]
+    parts = [by_hand, soak(given)]
     if given.size:
         parts.append(sizes(os.path.abspath(given.size)))
     return tests.main(parts)

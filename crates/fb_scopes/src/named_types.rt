@@ -78,34 +78,3 @@ impl NamedTypes {
         Ok(())
     }
 }
-
-#[cfg(test)]
-mod tests {
-    use super::NamedTypes;
-    use std::test::Fail;
-
-    #[test]
-    fn the_first_number_noted_stands(rt: HostRuntime) -> Result<(), Fail> {
-        let mut types = NamedTypes::new(rt.alloc(), 2, 3, 0)?;
-        types.note(1, 2, 7)?;
-        types.note(1, 2, 8)?;
-        assert_eq!(rt; types.get(1, 2), Some(7));
-        assert_eq!(rt; types.get(1, 0), None);
-        assert_eq!(rt; types.get(0, 2), None);
-        Ok(())
-    }
-
-    #[test]
-    fn a_path_inherits_what_it_has_not(rt: HostRuntime) -> Result<(), Fail> {
-        let mut types = NamedTypes::new(rt.alloc(), 2, 3, 0)?;
-        types.note(0, 0, 5)?;
-        types.note(0, 1, 6)?;
-        types.note(1, 1, 9)?;
-        types.inherit(1, 0)?;
-        assert_eq!(rt; types.get(1, 0), Some(5));
-        assert_eq!(rt; types.get(1, 1), Some(9));
-        assert_eq!(rt; types.get(0, 1), Some(6));
-        assert_eq!(rt; types.get(1, 2), None);
-        Ok(())
-    }
-}

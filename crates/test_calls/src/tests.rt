@@ -1,28 +1,29 @@
 //! What the calls make of worked examples.
-use fb_value::Limits;
-use flatc_tool::EncodeOptions;
+use flatc_tool::{EncodeOptions, Limits};
+use std::alloc::AllocError;
 
-mod builds;
 mod check;
-mod conform;
-mod explanations;
-mod fault_lines;
-mod fault_sentences;
+mod faults;
+mod integers;
+mod job_of;
 mod messages;
 mod options;
-mod pages;
 mod pieces;
 mod print_to;
 mod report;
-mod request_of;
-mod spaced;
-mod syntax;
 mod take_all;
-mod to_binary;
 mod values;
 mod views;
 mod writers;
 
 fn usual_limits() -> Limits {
     EncodeOptions::new().limits
+}
+
+/// Adds a piece so many times.
+fn push_times(text: &mut String, piece: &str, times: u32) -> Result<(), AllocError> {
+    for _ in 0..times {
+        text.push_str(piece)?;
+    }
+    Ok(())
 }

@@ -6,7 +6,7 @@ use fb_build::build;
 use fb_layout::Layout;
 use fb_read::{Entries, View, read, verify};
 use fb_text::{Noted, TextFault, WriteFault, text_of, write_text};
-use fb_value::{Limits, Value};
+use fb_value::{Limits, Value, whole};
 use flatc_tool::{schema_of, to_binary, to_json};
 use std::alloc::{AllocError, Global};
 use std::io;
@@ -132,6 +132,18 @@ fn judge<'a>(alloc: Global, layout: &'a Layout, bytes: &'a [u8]) -> Verdict {
     }
 }
 
+/// Whether the value that a buffer holds, whose entries came in one by one, is built as the same bytes.
+fn is_built_again(alloc: Global, layout: &Layout, bytes: &[u8]) -> bool {
+    let mut entries = Entries::new();
+    match read(alloc, layout, bytes, limits(), false, &mut entries) {
+        Ok(value) if whole(&value) => match build(alloc, layout, &value) {
+            Ok(again) => again.as_slice() == bytes,
+            Err(_) => false,
+        },
+        _ => false,
+    }
+}
+
 /// Judges a buffer as it is, and so many times damaged.
 fn judge_damages(
     alloc: Global,
@@ -142,10 +154,11 @@ fn judge_damages(
 ) -> Result<Tally, AllocError> {
     let mut dice = Dice::new(seed);
     let mut tally = Tally::new();
-    let whole = judge(alloc, layout, bytes.as_slice());
+    let is_held = judge(alloc, layout, bytes.as_slice()) == Verdict::Held;
+    let is_sound = is_held && is_built_again(alloc, layout, bytes.as_slice());
     tally.count(
-        if whole == Verdict::Held {
-            whole
+        if is_sound {
+            Verdict::Held
         } else {
             Verdict::Wrong
         },

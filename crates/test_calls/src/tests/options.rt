@@ -6,16 +6,9 @@ fn is_usual(limits: Limits) -> bool {
 }
 
 #[test]
-fn encoding_refuses_unknown_fields_by_default(rt: HostRuntime) {
-    let options = EncodeOptions::default();
-    assert!(rt; is_usual(options.limits));
-    assert!(rt; !options.unknown_json);
-}
-
-#[test]
-fn decoding_checks_the_identifier_and_leaves_defaults_out_by_default(rt: HostRuntime) {
-    let options = DecodeOptions::default();
-    assert!(rt; is_usual(options.limits));
-    assert!(rt; !options.raw_binary);
-    assert!(rt; !options.defaults_json);
+fn the_identifier_and_unknown_fields_matter_and_defaults_are_left_out(rt: HostRuntime) {
+    let encoding = EncodeOptions::default();
+    assert!(rt; is_usual(encoding.limits) && !encoding.unknown_json);
+    let decoding = DecodeOptions::default();
+    assert!(rt; is_usual(decoding.limits) && !decoding.raw_binary && !decoding.defaults_json);
 }

@@ -1,18 +1,13 @@
 //! Buffers that are printed to writers.
-use super::usual_limits;
-use super::writers::Short;
-use fb_json::Place;
-use fb_schema::TypeId;
-use fb_text::{Noted, TextFault, WriteFault};
-use fb_value::ReadFault;
-use flatc_tool::{ToolFault, print_to, to_binary, to_json};
-use std::alloc::Global;
-use std::process::Abort;
+use super::writers::Front;
+use super::{push_times, usual_limits};
+use flatc_tool::{Noted, print_to, to_binary};
+use std::alloc::{AllocError, Global};
 use std::test::Fail;
 
-const SCHEMA: &[u8] = b"table A { x:int; } union U { A } table T { u:U; s:string; } root_type T;";
+const UNION: &[u8] = b"table A { x:int; } union U { A } table T { u:U; s:string; } root_type T;";
 
-const TEXT: &str = "{
+const UNION_TEXT: &str = "{
   \"u_type\": \"A\",
   \"u\": {
     \"x\": 1
@@ -20,9 +15,6 @@ const TEXT: &str = "{
   \"s\": \"a\\n\"
 }
 ";
-
-const NEWER: &[u8] = b"table A { x:int; } table B { y:int; } union U { A, B } \
-    table T { u:U; s:string; } root_type T;";
 
 const TABLES: &[u8] = b"table P { x:int; } table T { ps:[P]; } root_type T;";
 
@@ -38,8 +30,7 @@ const TABLES_TEXT: &str = "{
 }
 ";
 
-/// Schemas, and texts of values under them as they are printed.
-const TEXTS: &[(&[u8], &str)] = &[(SCHEMA, TEXT), (TABLES, TABLES_TEXT)];
+const TEXTS: &[u8] = b"table T { v:[string]; } root_type T;";
 
 /// How many bytes a writer takes a call, and whether it fails once it takes no more.
 const WRITERS: &[(usize, bool)] = &[
@@ -50,107 +41,74 @@ const WRITERS: &[(usize, bool)] = &[
     (4096, false),
 ];
 
-/// Prints bytes to a writer that takes as many bytes as the front of the text has, and then as
-/// `WRITERS` says.
-fn expect_front(
-    rt: &impl Abort,
+/// Whether bytes are printed to a writer of `WRITERS` that takes these bytes and no more, where they are the whole text
+/// or else its front.
+fn is_printed(
     alloc: Global,
     schema: &[u8],
     bytes: &[u8],
-    (front, is_whole): (&[u8], bool),
-    (each, fails): (usize, bool),
-) {
-    let left = front.len();
-    let mut out = Noted::over(Short {
-        left,
-        each,
-        fails,
-        taken: Vec::new(alloc),
-    });
-    let printed = print_to(alloc, schema, bytes, usual_limits(), false, false, &mut out);
-    let want = if is_whole {
-        Ok(())
-    } else {
-        Err(ToolFault::Write(WriteFault::WriteFailed(left as u64)))
+    front: &[u8],
+    is_whole: bool,
+    writer: (usize, bool),
+) -> bool {
+    let mut out = Noted::over(Front::of(front, writer.0, writer.1));
+    let answer = print_to(alloc, schema, bytes, usual_limits(), false, false, &mut out);
+    let is_told = match answer {
+        Ok(()) => is_whole,
+        Err(fault) => !is_whole
+            && fault.number() == 82
+            && fault.written() == Some(front.len() as u64),
     };
-    assert!(rt; printed == want, "after {left} bytes, {each} a call");
-    assert!(rt; out.failed() == !is_whole);
-    assert!(rt; out.into_inner().taken.as_slice() == front);
+    is_told && out.failed() != is_whole && out.into_inner().is_written()
 }
 
-/// Prints bytes to each writer, after each number of bytes up to the whole text.
-fn expect_fronts(rt: &impl Abort, alloc: Global, schema: &[u8], text: &[u8], bytes: &[u8]) {
+/// Whether bytes are printed to each writer, after each number of bytes up to the whole text.
+fn is_each_front_printed(alloc: Global, schema: &[u8], bytes: &[u8], text: &[u8]) -> bool {
     for left in 0..=text.len() {
-        let front = &text[..left];
         for writer in WRITERS {
-            expect_front(
-                rt,
-                alloc,
-                schema,
-                bytes,
-                (front, left == text.len()),
-                *writer,
-            );
+            let is_whole = left == text.len();
+            if !is_printed(alloc, schema, bytes, &text[..left], is_whole, *writer) {
+                return false;
+            }
         }
     }
+    true
 }
 
 #[test]
 fn a_text_of_which_each_front_is_written(rt: HostRuntime) -> Result<(), Fail> {
-    let alloc = rt.alloc();
-    assert!(rt; TABLES_TEXT.len() == 69);
-    for (schema, text) in TEXTS {
-        let bytes = to_binary(alloc, schema, text.as_bytes(), usual_limits(), false)?;
-        expect_fronts(&rt, alloc, schema, text.as_bytes(), bytes.as_slice());
+    for (schema, text) in [(UNION, UNION_TEXT), (TABLES, TABLES_TEXT)] {
+        let text = text.as_bytes();
+        let bytes = to_binary(rt.alloc(), schema, text, usual_limits(), false)?;
+        assert!(rt; is_each_front_printed(rt.alloc(), schema, bytes.as_slice(), text));
     }
     Ok(())
 }
 
-#[test]
-fn a_code_without_a_name_is_told_before_the_first_byte(rt: HostRuntime) -> Result<(), Fail> {
-    let alloc = rt.alloc();
-    let json = b"{\"u_type\":\"B\",\"u\":{},\"s\":\"x\"}";
-    let bytes = to_binary(alloc, NEWER, json, usual_limits(), false)?;
-    let place = Place {
-        owner: TypeId(2),
-        slot: Some(1),
-    };
-    let mut out = Noted::over(Vec::new(alloc));
-    let printed = print_to(
-        alloc,
-        SCHEMA,
-        bytes.as_slice(),
-        usual_limits(),
-        false,
-        false,
-        &mut out,
-    );
-    assert!(rt; printed == Err(ToolFault::Write(WriteFault::NoMemberName(place))));
-    assert!(rt; out.into_inner().is_empty());
-    let text = to_json(
-        alloc,
-        SCHEMA,
-        bytes.as_slice(),
-        usual_limits(),
-        false,
-        false,
-    );
-    assert!(rt; text.err() == Some(ToolFault::Text(TextFault::NoMemberName(place))));
-    Ok(())
+/// A text with 20,000 short strings, and a long one behind them.
+fn long_text(alloc: Global) -> Result<String, AllocError> {
+    let mut text = String::from_str(alloc, "{\n  \"v\": [\n")?;
+    push_times(&mut text, "    \"abc\",\n", 20_000)?;
+    text.push_str("    \"")?;
+    push_times(&mut text, "x", 100_000)?;
+    text.push_str("\"\n  ]\n}\n")?;
+    Ok(text)
 }
 
 #[test]
-fn bytes_are_verified_before_the_first_byte(rt: HostRuntime) {
-    let mut out = Noted::over(Vec::new(rt.alloc()));
-    let printed = print_to(
-        rt.alloc(),
-        SCHEMA,
-        b"\x04\0\0\0",
-        usual_limits(),
-        false,
-        false,
-        &mut out,
+fn a_long_text_is_written_to_a_slow_writer(rt: HostRuntime) -> Result<(), Fail> {
+    let text = long_text(rt.alloc())?;
+    let text = text.as_bytes();
+    let bytes = to_binary(rt.alloc(), TEXTS, text, usual_limits(), false)?;
+    assert!(rt;
+        is_printed(
+            rt.alloc(),
+            TEXTS,
+            bytes.as_slice(),
+            text,
+            true,
+            (5_000, true)
+        )
     );
-    assert!(rt; printed == Err(ToolFault::Read(ReadFault::OutOfBounds(4))));
-    assert!(rt; out.into_inner().is_empty());
+    Ok(())
 }

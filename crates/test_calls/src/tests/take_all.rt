@@ -1,44 +1,46 @@
 //! Readers that are read to their end.
 use flatc_tool::ToolFault;
 use flatc_tool::command::{Heard, take_all};
+use std::alloc::Global;
 use std::io;
 use std::io::{ErrorKind, Read};
-use std::test::Fail;
 
-/// A reader that gives its bytes, and then fails.
+/// A reader that gives its bytes, and then fails or ends.
 #[derive(Drop)]
-struct Broken<'b>(&'b [u8]);
+struct Bytes<'b> {
+    left: &'b [u8],
+    fails: bool,
+}
 
-impl Read for Broken<'_> {
+impl Read for Bytes<'_> {
     fn read(&mut self, buf: &mut [u8]) -> io::Result<usize> {
-        if self.0.is_empty() {
+        if self.left.is_empty() && self.fails {
             return Err(io::Error::from(ErrorKind::BrokenPipe));
         }
-        self.0.read(buf)
+        self.left.read(buf)
     }
 }
 
-#[test]
-fn as_many_bytes_as_may_come(rt: HostRuntime) -> Result<(), Fail> {
-    let mut whole = Heard::over(b"abc".as_slice());
-    let taken = take_all(rt.alloc(), &mut whole, 3)?;
-    assert!(rt; taken.as_slice() == b"abc".as_slice());
-    assert!(rt; !whole.failed());
-    Ok(())
+/// Readers of which three bytes are taken at most: their bytes, whether they fail behind them, and the fault's number,
+/// 0 where all bytes are taken.
+const READERS: &[(&[u8], bool, u8)] = &[
+    (b"abc", false, 0),
+    (b"abcd", false, 112),
+    (b"ab", true, 110),
+];
+
+fn number_of(alloc: Global, left: &[u8], fails: bool) -> u8 {
+    let mut from = Heard::over(Bytes { left, fails });
+    let number = match take_all(alloc, &mut from, 3) {
+        Ok(taken) => if taken.as_slice() == left { 0 } else { 1 },
+        Err(fault) => fault.number(),
+    };
+    if from.failed() == fails { number } else { 1 }
 }
 
 #[test]
-fn a_byte_more_than_may_come(rt: HostRuntime) {
-    let mut long = Heard::over(b"abcd".as_slice());
-    let taken = take_all(rt.alloc(), &mut long, 3);
-    assert!(rt; taken.err() == Some(ToolFault::FileTooLong));
-    assert!(rt; !long.failed());
-}
-
-#[test]
-fn a_reader_that_fails_after_two_bytes(rt: HostRuntime) {
-    let mut broken = Heard::over(Broken(b"ab".as_slice()));
-    let taken = take_all(rt.alloc(), &mut broken, 3);
-    assert!(rt; taken.err() == Some(ToolFault::FileRead));
-    assert!(rt; broken.failed());
+fn as_many_bytes_as_may_come(rt: HostRuntime) {
+    for (bytes, fails, number) in READERS {
+        assert!(rt; number_of(rt.alloc(), bytes, *fails) == *number);
+    }
 }

@@ -1,18 +1,14 @@
 //! Values of buffers that are counted, copied and compared, and under other layouts than their own.
 //!
 //! Each is made of a JSON text under one schema, and read under the same or another.
-ghost use Rattle.std.specs.Prelude.{◌≤◌, IfOk};
+ghost use Rattle.std.specs.Prelude.{◌≤◌, IfSome};
 ghost use Rattle.fb_value.specs.View.{view};
 ghost use Rattle.fb_value.specs.Counts.{nesting};
 
-use super::pages::push_times;
-use super::usual_limits;
-use fb_build::BuildFault;
-use fb_read::{Entries, read};
+use super::{push_times, usual_limits};
 use fb_value::{Value, cells, copy, depth, fits, room, same, whole};
-use flatc_tool::{ToolFault, schema_of, to_binary};
-use std::alloc::{AllocError, Global};
-use std::test::Fail;
+use flatc_tool::{Entries, read, schema_of, to_binary};
+use std::alloc::Global;
 
 const INT: &[u8] = b"table T { a:int; } root_type T;";
 
@@ -63,24 +59,39 @@ const WIDE_TABLES: &[u8] = b"struct S0 { a:ulong; b:ulong; } struct S1 { a:S0; b
     struct S8 { a:S7; b:S7; } struct S9 { a:S8; b:S8; } struct S10 { a:S9; b:S9; } \
     struct S11 { a:S10; b:S10; } table N { v:[N]; s:S11; } root_type N;";
 
-/// The same with small structs.
-const SMALL_TABLES: &[u8] = b"struct S0 { a:bool; } struct S1 { a:bool; } struct S2 { a:bool; } \
-    struct S3 { a:bool; } struct S4 { a:bool; } struct S5 { a:bool; } struct S6 { a:bool; } \
-    struct S7 { a:bool; } struct S8 { a:bool; } struct S9 { a:bool; } struct S10 { a:bool; } \
-    struct S11 { a:bool; } table N { v:[N]; s:S11; } root_type N;";
-
 /// A schema text, a JSON text under it, and the schema text under which its buffer is read.
 type Sample = (&'static [u8], &'static str, &'static [u8]);
 
-/// Values, with their cells, their depth, and whether they are whole.
-const COUNTED: &[(Sample, (u32, u8, bool))] = &[
-    ((INT, "{\"a\":7}", INT), (1, 1, true)),
-    ((TEXT, "{\"s\":\"hi\"}", TEXT), (4, 1, true)),
-    ((TEXT, "{\"s\":\"héllo\"}", TEXT), (8, 1, true)),
-    ((TEXTS, "{\"v\":[\"a\",\"\"]}", TEXTS), (7, 1, true)),
+/// What is known of a value.
+#[derive(Clone, Copy)]
+enum Known {
+    /// Its cells, its depth, and whether it is whole.
+    Counts(u32, u8, bool),
+    /// Its room.
+    Room(u32),
+    /// Whether it fits the root of a schema.
+    Fits(&'static [u8], bool),
+    /// Another value, from which it differs.
+    Other(Sample),
+}
+
+const PAIR: &str = "{\"ps\":[{\"x\":1},{\"x\":2}]}";
+
+const FIRST: &str = "{\"u_type\":\"A\",\"u\":{}}";
+
+const SECOND_MEMBER: &str = "{\"u_type\":\"B\",\"u\":{}}";
+
+const COUNTED: &[(Sample, Known)] = &[
+    ((INT, "{\"a\":7}", INT), Known::Counts(1, 1, true)),
+    ((TEXT, "{\"s\":\"hi\"}", TEXT), Known::Counts(4, 1, true)),
+    ((TEXT, "{\"s\":\"héllo\"}", TEXT), Known::Counts(8, 1, true)),
+    (
+        (TEXTS, "{\"v\":[\"a\",\"\"]}", TEXTS),
+        Known::Counts(7, 1, true),
+    ),
     (
         (STRUCT, "{\"p\":{\"x\":-1,\"q\":{\"x\":1}}}", STRUCT),
-        (1, 1, true),
+        Known::Counts(1, 1, true),
     ),
     (
         (
@@ -88,172 +99,134 @@ const COUNTED: &[(Sample, (u32, u8, bool))] = &[
             "{\"u_type\":\"A\",\"u\":{\"v\":[\"é\",\"b\"]}}",
             MEMBERS,
         ),
-        (10, 2, true),
+        Known::Counts(10, 2, true),
     ),
-    (
-        (TABLES, "{\"ps\":[{\"x\":1},{\"x\":2}]}", TABLES),
-        (6, 2, true),
-    ),
-    (
-        (UNION, "{\"u_type\":\"B\",\"u\":{}}", NARROWER),
-        (1, 1, false),
-    ),
+    ((TABLES, PAIR, TABLES), Known::Counts(6, 2, true)),
+    ((UNION, SECOND_MEMBER, NARROWER), Known::Counts(1, 1, false)),
 ];
 
-/// Values, and their room.
-const SIZED: &[(Sample, u32)] = &[
-    ((INT, "{\"a\":7}", INT), 28),
-    ((TABLES, "{\"ps\":[{\"x\":1},{\"x\":2}]}", TABLES), 77),
+const SIZED: &[(Sample, Known)] = &[
+    ((INT, "{\"a\":7}", INT), Known::Room(28)),
+    ((TABLES, PAIR, TABLES), Known::Room(77)),
     (
         (
             WIDE_STRUCTS,
             "{\"s\":\"hi\",\"v\":[{\"a\":1},{\"a\":2}],\"n\":5}",
             WIDE_STRUCTS,
         ),
-        113,
+        Known::Room(113),
     ),
-    ((UNION, "{\"u_type\":\"B\",\"u\":{}}", UNION), 45),
+    ((UNION, SECOND_MEMBER, UNION), Known::Room(45)),
 ];
 
-/// Values of the first schema, and whether they fit the root of another.
-const FITTING: &[(Sample, &[u8], bool)] = &[
-    ((TEXT, "{\"s\":\"hi\"}", TEXT), TEXT, true),
-    ((SHORT, "{\"a\":0}", SHORT), UBYTE, true),
-    ((SHORT, "{\"a\":255}", SHORT), UBYTE, true),
-    ((SHORT, "{\"a\":256}", SHORT), UBYTE, false),
-    ((SHORT, "{\"a\":-1}", SHORT), UBYTE, false),
-    ((UNION, "{\"u_type\":\"B\",\"u\":{}}", UNION), UNION, true),
-    (
-        (TURNED, "{\"u_type\":\"A\",\"u\":{}}", TURNED),
-        UNION,
-        false,
-    ),
-    ((WIDER, "{\"u_type\":\"B\",\"u\":{}}", WIDER), UNION, false),
+const FITTING: &[(Sample, Known)] = &[
+    ((TEXT, "{\"s\":\"hi\"}", TEXT), Known::Fits(TEXT, true)),
+    ((SHORT, "{\"a\":0}", SHORT), Known::Fits(UBYTE, true)),
+    ((SHORT, "{\"a\":255}", SHORT), Known::Fits(UBYTE, true)),
+    ((SHORT, "{\"a\":256}", SHORT), Known::Fits(UBYTE, false)),
+    ((SHORT, "{\"a\":-1}", SHORT), Known::Fits(UBYTE, false)),
+    ((UNION, SECOND_MEMBER, UNION), Known::Fits(UNION, true)),
+    ((TURNED, FIRST, TURNED), Known::Fits(UNION, false)),
+    ((WIDER, SECOND_MEMBER, WIDER), Known::Fits(UNION, false)),
 ];
 
 /// Two values that differ: in a number, in their type, and in that one is a code without a member.
-const DIFFERENT: &[(Sample, Sample)] = &[
-    ((INT, "{\"a\":5}", INT), (INT, "{\"a\":6}", INT)),
-    ((INT, "{\"a\":5}", INT), (LATER, "{\"a\":5}", LATER)),
+const DIFFERENT: &[(Sample, Known)] = &[
+    (
+        (INT, "{\"a\":5}", INT),
+        Known::Other((INT, "{\"a\":6}", INT)),
+    ),
+    (
+        (INT, "{\"a\":5}", INT),
+        Known::Other((LATER, "{\"a\":5}", LATER)),
+    ),
     (
         (SECOND, "{\"b\":3}", SECOND),
-        (SECOND_UNION, "{\"u_type\":\"C\",\"u\":{}}", SECOND_NONE),
+        Known::Other((SECOND_UNION, "{\"u_type\":\"C\",\"u\":{}}", SECOND_NONE)),
     ),
 ];
 
-/// The value of a sample.
-fn value_of_sample(alloc: Global, sample: &Sample) -> Result<Value, Fail>
-    ensures { IfOk result (λ v. nesting (view v) ≤ 300) }
+/// The value that a JSON text means under a schema, where its buffer is read under the same or another.
+fn value_of(alloc: Global, schema: &[u8], json: &str, read_as: &[u8]) -> Option<Value>
+    ensures { IfSome result (λ v. nesting (view v) ≤ 300) }
 {
-    let (written, json, read_as) = *sample;
-    let bytes = to_binary(alloc, written, json.as_bytes(), usual_limits(), false)?;
-    let layout = schema_of(alloc, read_as)?;
+    let bytes = to_binary(alloc, schema, json.as_bytes(), usual_limits(), false).ok()?;
+    let layout = schema_of(alloc, read_as).ok()?;
     let mut entries = Entries::new();
-    let found = read(
+    read(
         alloc,
         &layout,
         bytes.as_slice(),
         usual_limits(),
         false,
         &mut entries,
-    );
-    Ok(found?)
+    )
+    .ok()
 }
 
-#[test]
-fn values_are_counted_and_copied(rt: HostRuntime) -> Result<(), Fail> {
-    for (sample, (most_cells, most_depth, is_whole)) in COUNTED {
-        let value = value_of_sample(rt.alloc(), sample)?;
-        assert!(rt; cells(&value) == Some(*most_cells));
-        assert!(rt; depth(&value) == Some(*most_depth));
-        assert!(rt; whole(&value) == *is_whole);
-        assert!(rt; same(&copy(rt.alloc(), &value)?, &value));
-    }
-    Ok(())
-}
-
-#[test]
-fn values_that_differ(rt: HostRuntime) -> Result<(), Fail> {
-    for (first, second) in DIFFERENT {
-        let first = value_of_sample(rt.alloc(), first)?;
-        let second = value_of_sample(rt.alloc(), second)?;
-        assert!(rt; !same(&first, &second));
-    }
-    Ok(())
-}
-
-/// The room of a value under the layout of a schema, whose root it fits.
-fn room_under(alloc: Global, schema: &[u8], value: &Value) -> Result<Option<u32>, Fail>
+fn is_counted(alloc: Global, value: &Value, counts: (u32, u8, bool)) -> Option<bool>
     requires { nesting (view value.now) ≤ 300 }
 {
-    let layout = schema_of(alloc, schema)?;
-    if !fits(&layout, layout.schema().root(), value) {
-        return Err("a value that fits")?;
+    let copied = copy(alloc, value).ok()?;
+    let is_known = (cells(value)?, depth(value)?, whole(value)) == counts;
+    Some(is_known && same(&copied, value))
+}
+
+/// Whether a value fits the root of a schema; where it does, its room.
+fn room_under(alloc: Global, schema: &[u8], value: &Value) -> Option<(bool, Option<u32>)>
+    requires { nesting (view value.now) ≤ 300 }
+{
+    let layout = schema_of(alloc, schema).ok()?;
+    if fits(&layout, layout.schema().root(), value) {
+        Some((true, room(&layout, value)))
+    } else {
+        Some((false, None))
     }
-    Ok(room(&layout, value))
 }
 
-#[test]
-fn values_have_room(rt: HostRuntime) -> Result<(), Fail> {
-    for (sample, want) in SIZED {
-        let value = value_of_sample(rt.alloc(), sample)?;
-        assert!(rt; room_under(rt.alloc(), sample.2, &value)? == Some(*want));
+/// Whether a value is as it is known; none where it can't be read.
+fn is_as_known(alloc: Global, sample: &Sample, known: Known) -> Option<bool> {
+    let (schema, json, read_as) = *sample;
+    let value = value_of(alloc, schema, json, read_as)?;
+    match known {
+        Known::Counts(cells, depth, is_whole) => is_counted(
+            alloc,
+            &value,
+            (cells, depth, is_whole),
+        ),
+        Known::Room(most) => Some(room_under(alloc, read_as, &value)? == (true, Some(most))),
+        Known::Fits(under, does) => Some(room_under(alloc, under, &value)?.0 == does),
+        Known::Other((schema, json, read_as)) => {
+            let other = value_of(alloc, schema, json, read_as)?;
+            Some(!same(&value, &other))
+        }
     }
-    Ok(())
 }
 
 #[test]
-fn values_fit_a_schema_or_not(rt: HostRuntime) -> Result<(), Fail> {
-    for (sample, schema, want) in FITTING {
-        let value = value_of_sample(rt.alloc(), sample)?;
-        let layout = schema_of(rt.alloc(), schema)?;
-        assert!(rt; fits(&layout, layout.schema().root(), &value) == *want);
+fn values_are_counted_compared_and_copied(rt: HostRuntime) {
+    for rows in [COUNTED, SIZED, FITTING, DIFFERENT] {
+        for (sample, known) in rows {
+            assert!(rt;
+                is_as_known(rt.alloc(), sample, *known) == Some(true),
+                "of {}",
+                sample.1
+            );
+        }
     }
-    Ok(())
 }
 
-/// A table with a vector of so many tables that have nothing, as JSON.
-fn tables_json(alloc: Global, count: u32) -> Result<String, AllocError> {
-    let mut json = String::from_str(alloc, "{\"v\":[{}")?;
-    push_times(&mut json, ",{}", count.saturating_sub(1))?;
-    json.push_str("]}")?;
-    Ok(json)
+/// The room of a table with so many tables in its vector, each of which might hold a wide struct.
+fn wide_room(alloc: Global, count: u32) -> Option<u32> {
+    let mut json = String::from_str(alloc, "{\"v\":[{}").ok()?;
+    push_times(&mut json, ",{}", count.saturating_sub(1)).ok()?;
+    json.push_str("]}").ok()?;
+    let value = value_of(alloc, WIDE_TABLES, json.as_str(), WIDE_TABLES)?;
+    room_under(alloc, WIDE_TABLES, &value)?.1
 }
 
-/// The room of a value with so many tables, each of which might hold a wide struct.
-fn wide_room(alloc: Global, count: u32) -> Result<Option<u32>, Fail> {
-    let json = tables_json(alloc, count)?;
-    let bytes = to_binary(alloc, SMALL_TABLES, json.as_bytes(), usual_limits(), false)?;
-    let layout = schema_of(alloc, SMALL_TABLES)?;
-    let mut entries = Entries::new();
-    let found = read(
-        alloc,
-        &layout,
-        bytes.as_slice(),
-        usual_limits(),
-        false,
-        &mut entries,
-    );
-    room_under(alloc, WIDE_TABLES, &found?)
-}
-
+// A table more has no room: tests/command.py has it.
 #[test]
-fn the_greatest_room(rt: HostRuntime) -> Result<(), Fail> {
-    assert!(rt; wide_room(rt.alloc(), 65_481)? == Some(2_147_482_208));
-    assert!(rt; wide_room(rt.alloc(), 65_482)?.is_none());
-    Ok(())
-}
-
-#[test]
-fn a_value_without_room_is_too_big(rt: HostRuntime) -> Result<(), Fail> {
-    let json = tables_json(rt.alloc(), 65_482)?;
-    let built = to_binary(
-        rt.alloc(),
-        WIDE_TABLES,
-        json.as_bytes(),
-        usual_limits(),
-        false,
-    );
-    assert!(rt; built.err() == Some(ToolFault::Build(BuildFault::TooBig)));
-    Ok(())
+fn the_greatest_room(rt: HostRuntime) {
+    assert!(rt; wide_room(rt.alloc(), 65_481) == Some(2_147_482_208));
 }

@@ -1,4 +1,0 @@
-//! What schema texts are parsed to.
-mod declarations;
-mod integers;
-mod parse;
