@@ -98,6 +98,8 @@ def flags(tests):
     tests.expect(
         "a raw text", ["json", "--raw-binary", "-o", "out", "id.fbs", *bins(1)], 0, holds={"out/1.json": two(1)[1]}
     )
+    words = ["json", "id.fbs", "--out-dir=out", "--explain", *bins(2), "--raw-binary"]
+    tests.expect("flags between paths and behind them", words, 0, holds={"out/2.json": two(2)[1]})
 
 
 def refused(tests):
@@ -245,6 +247,9 @@ def streams(tests):
     with open("in/cut.bin", "rb") as buffer:
         told = b"-: 54 OutOfBounds at 16\n"
         tests.expect("a buffer comes in", ["check", "one.fbs", *bins(1), "-"], 1, err=told, stdin=buffer)
+    shutil.copy("in/1.bin", "-o")
+    with open("in/cut.bin", "rb") as buffer:
+        tests.expect("behind two dashes", ["check", "one.fbs", "--", "-", "-o"], 1, err=told, stdin=buffer)
     with open("/dev/full", "wb") as full:
         tests.expect("no room for ok", ["check", "one.fbs", *bins(1, 2)], 1, stdout=full)
     read, write_end = os.pipe()

@@ -1,11 +1,11 @@
 #!/usr/bin/env bash
 # The gate: all that rt ci proves and runs, whether each mutation can still be applied and each edit in not-compiled/ is
 # refused, whether copies of the version and of figures are right, and the built program: with words and files, with
-# schema texts and JSON texts, with what is done to OUT, with standard streams for paths, with many files in one call, with streams of messages, what it
-# lists of buffers, at a terminal, where memory, pipes and stack run out, what it explains, that explaining changes
-# nothing else, how costs grow, and how much memory it takes; the calls with growths refused, some thousand damaged
-# buffers, some thousand JSON texts in pieces, and the library for C with its examples. The last line counts all of it:
-# 'N passed, M failed'.
+# texts that are cut off, long or no texts at all, with what is done to OUT, with standard streams for paths, with many
+# files in one call, with streams of messages, what it lists of buffers, at a terminal, where memory, pipes and stack run
+# out, what it explains, that explaining changes nothing else, how costs grow, and how much memory it takes; the calls
+# with growths refused, some thousand damaged buffers, some thousand JSON texts in pieces, and the library for C with its
+# examples. The last line counts all of it: 'N passed, M failed'.
 set -uo pipefail
 cd "$(dirname "$0")/.."
 program=crates/flatc/out/flatc

@@ -740,6 +740,7 @@ def headers(tests):
         write("b.bin", data)
         out = "".join(f"{one}\n" for one in lines).encode()
         tests.expect(name, ["inspect", "--header", "b.bin"], 0, out=out)
+        tests.expect(f"{name}, with --terse", ["inspect", "--header", "--terse", "b.bin"], 0, out=out)
 
 
 if __name__ == "__main__":

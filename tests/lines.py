@@ -104,6 +104,8 @@ def files(tests):
     write("defaults.bin", b"".join(map(number, (0, 5))))
     defaults = ["json", "--lines", "--defaults-json", "one.fbs", "defaults.bin"]
     tests.expect("with defaults", defaults, 0, b'{"a":0}\n{"a":5}\n')
+    write("id.fbs", ONE + b' file_identifier "TEST";')
+    tests.expect("raw buffers", ["json", "--raw-binary", "--lines", "id.fbs", "three.bin"], 0, lines)
     long = b"x" * 300_000
     write("long.bin", string(b"a") + string(long) + string(b"b"))
     write("long.json", b'{"s":"a"}\n{"s":"%s"}\n{"s":"b"}\n' % long)

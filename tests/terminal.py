@@ -36,6 +36,7 @@ READ = "to every program that reads by name"
 WARNINGS = wrapped(
     f"warning: U.hp was field 0 (old.fbs:1), is field 1 (moved.fbs:1): {SHOWN} hp as shield, {READ}"
 ) + wrapped(f"warning: U.mp was field 1 (old.fbs:1), is field 2 (moved.fbs:1): {SHOWN} mp as hp, {READ}")
+MOVED_LINE = "103 NameMoved in type 0 slot 0\n"
 SHORT = "short.bin: 50 Short at 2\n"
 SHORT_SENTENCE = "short.bin: the buffer's length is 2: too short for the root's offset and the file identifier\n"
 SHORT_BYTES = f"{0:10} {' 0c 00':<48}  ..\n"
@@ -58,6 +59,8 @@ ROWS = [
     ("names that moved", ["conform", "old.fbs", "moved.fbs"], {}, 0, WARNINGS, ""),
     ("names that moved, with --explain", ["conform", "--explain", "old.fbs", "moved.fbs"], {}, 0, WARNINGS, WARNINGS),
     ("names that moved, with --terse", ["conform", "--terse", "old.fbs", "moved.fbs"], {}, 0, "", ""),
+    ("names that moved and are refused, with --explain and --terse",
+     ["conform", "--explain", "--names", "--terse", "old.fbs", "moved.fbs"], {}, 1, MOVED_LINE, MOVED_LINE),
     ("no name that moved", ["conform", "old.fbs", "old.fbs"], {}, 0, "", ""),
     ("files that are refused", ["check", "one.fbs", "short.bin", "seven.bin"], {}, 1,
      f"{SHORT}{SHORT_SENTENCE}{SHORT_BYTES}{' ' * (12 + 3 * 2)}{RED}^^{PLAIN}\n", SHORT),
