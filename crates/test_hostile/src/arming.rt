@@ -1,4 +1,5 @@
 //! The part of a run whose growths may be refused, and what came of a call there.
+use flatc_tool::ToolFault;
 use std::io::{self, Write};
 
 /// What came of a call: the right answer, that memory ran out by the number of its layer, or anything else.
@@ -25,6 +26,30 @@ impl Outcome {
             7 | 23 | 32 | 41 | 64 | 80 | 84 | 114 => Outcome::Short(number),
             _ => Outcome::Wrong,
         }
+    }
+}
+
+/// What came of a call that returns bytes.
+pub(crate) fn of_bytes(answer: Result<Vec<u8>, ToolFault>, want: &[u8]) -> Outcome {
+    match answer {
+        Ok(bytes) => Outcome::of(bytes.as_slice() == want),
+        Err(fault) => Outcome::of_refusal(fault.number()),
+    }
+}
+
+/// What came of a call that returns a text.
+pub(crate) fn of_text(answer: Result<String, ToolFault>, want: &str) -> Outcome {
+    match answer {
+        Ok(text) => Outcome::of(text.as_str() == want),
+        Err(fault) => Outcome::of_refusal(fault.number()),
+    }
+}
+
+/// What came of a call that returns nothing.
+pub(crate) fn of_done(answer: Result<(), ToolFault>) -> Outcome {
+    match answer {
+        Ok(()) => Outcome::Right,
+        Err(fault) => Outcome::of_refusal(fault.number()),
     }
 }
 

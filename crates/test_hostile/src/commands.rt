@@ -1,9 +1,9 @@
 //! The calls of the command: its words, what it reads, and the line of a fault.
-use crate::arming::{Matching, Outcome, arm, disarm};
+use crate::arming::{Matching, Outcome, arm, disarm, of_bytes};
 use crate::examples::Example;
 use clap::error::ErrorKind;
 use flatc_cli::request_of;
-use flatc_request::{Explaining, Job, Request};
+use flatc_request::Request;
 use flatc_tool::command::{Heard, fault_line, report, report_noted, take_all};
 use flatc_tool::{JsonFault, Noted, Place, ToolFault, TypeId};
 use std::alloc::{AllocError, Global};
@@ -28,31 +28,25 @@ fn try_take(rt: &HostRuntime, example: &Example, arms: bool) -> Outcome {
     arm(rt, arms);
     let answer = take_all(rt.alloc(), &mut from, MOST);
     disarm(rt, arms);
-    match answer {
-        Ok(bytes) => Outcome::of(bytes.as_slice() == example.bytes),
-        Err(fault) => Outcome::of_refusal(fault.number()),
-    }
+    of_bytes(answer, example.bytes)
 }
+
+/// A line of words, and the request that it is.
+const WORDS: &str = "check --raw-binary s b";
+
+const ASKED: &str = "Do(Check { schema: \"s\", bin: Some(\"b\"), raw: true }, AtTerminal)";
 
 fn words(alloc: Global) -> Result<Vec<String>, AllocError> {
-    let raw = String::from_str(alloc, "--raw-binary")?;
-    let job = String::from_str(alloc, "check")?;
-    let schema = String::from_str(alloc, "s")?;
-    let bin = String::from_str(alloc, "b")?;
-    Ok(vec![in alloc; job, raw, schema, bin]?)
+    WORDS
+        .split(' ')
+        .map(|word| word.to_string(alloc))
+        .try_collect(alloc)
 }
 
-fn is_asked(request: &Request) -> bool {
-    match request {
-        Request::Do(
-            Job::Check {
-                schema,
-                bin: Some(bin),
-                raw: true,
-            },
-            Explaining::AtTerminal,
-        ) => schema.as_str() == "s" && bin.as_str() == "b",
-        _ => false,
+fn is_asked(alloc: Global, request: &Request) -> bool {
+    match format!(in alloc; "{request:?}") {
+        Ok(text) => text.as_str() == ASKED,
+        Err(_) => false,
     }
 }
 
@@ -64,7 +58,7 @@ fn try_request_of(rt: &HostRuntime, arms: bool) -> Outcome {
     let answer = request_of(rt.alloc(), words.as_slice());
     disarm(rt, arms);
     match answer {
-        Ok(request) => Outcome::of(is_asked(&request)),
+        Ok(request) => Outcome::of(is_asked(rt.alloc(), &request)),
         Err(error) if error.kind() == ErrorKind::OutOfMemory => Outcome::Short(0),
         Err(_) => Outcome::Wrong,
     }

@@ -1,5 +1,5 @@
 //! The calls of the tool over texts and bytes.
-use crate::arming::{Matching, Outcome, arm, disarm};
+use crate::arming::{Matching, Outcome, arm, disarm, of_bytes, of_done, of_text};
 use crate::examples::Example;
 use crate::meanings::limits;
 use flatc_tool::{
@@ -11,10 +11,7 @@ fn try_binary(rt: &HostRuntime, example: &Example, arms: bool) -> Outcome {
     arm(rt, arms);
     let answer = to_binary(rt.alloc(), schema, json, limits, false);
     disarm(rt, arms);
-    match answer {
-        Ok(bytes) => Outcome::of(bytes.as_slice() == example.bytes),
-        Err(fault) => Outcome::of_refusal(fault.number()),
-    }
+    of_bytes(answer, example.bytes)
 }
 
 fn try_json(rt: &HostRuntime, example: &Example, arms: bool) -> Outcome {
@@ -22,10 +19,7 @@ fn try_json(rt: &HostRuntime, example: &Example, arms: bool) -> Outcome {
     arm(rt, arms);
     let answer = to_json(rt.alloc(), schema, bytes, limits, false, false);
     disarm(rt, arms);
-    match answer {
-        Ok(text) => Outcome::of(text.as_str() == example.text),
-        Err(fault) => Outcome::of_refusal(fault.number()),
-    }
+    of_text(answer, example.text)
 }
 
 /// What is printed of an example's bytes. A refusal comes before the first byte.
@@ -48,20 +42,14 @@ fn try_check(rt: &HostRuntime, example: &Example, arms: bool) -> Outcome {
     arm(rt, arms);
     let answer = check(rt.alloc(), schema, Some(bytes), limits, false);
     disarm(rt, arms);
-    match answer {
-        Ok(()) => Outcome::Right,
-        Err(fault) => Outcome::of_refusal(fault.number()),
-    }
+    of_done(answer)
 }
 
 fn try_conform(rt: &HostRuntime, example: &Example, arms: bool) -> Outcome {
     arm(rt, arms);
     let answer = conform_texts(rt.alloc(), example.schema, example.newer);
     disarm(rt, arms);
-    match answer {
-        Ok(()) => Outcome::Right,
-        Err(fault) => Outcome::of_refusal(fault.number()),
-    }
+    of_done(answer)
 }
 
 /// A name that is moved, or that memory ran out.

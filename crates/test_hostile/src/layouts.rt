@@ -1,5 +1,5 @@
 //! The calls under a layout.
-use crate::arming::{Outcome, arm, disarm};
+use crate::arming::{Outcome, arm, disarm, of_bytes, of_text};
 use crate::diagnoses::{try_breaches, try_json_path, try_path};
 use crate::examples::Example;
 use crate::meanings::limits;
@@ -18,10 +18,7 @@ fn try_encode(rt: &HostRuntime, example: &Example, layout: &Layout, arms: bool) 
     arm(rt, arms);
     let answer = encode(rt.alloc(), layout, example.json, &options);
     disarm(rt, arms);
-    match answer {
-        Ok(bytes) => Outcome::of(bytes.as_slice() == example.bytes),
-        Err(fault) => Outcome::of_refusal(fault.number()),
-    }
+    of_bytes(answer, example.bytes)
 }
 
 fn try_owned(rt: &HostRuntime, example: &Example, layout: &Layout, arms: bool) -> Outcome {
@@ -32,10 +29,7 @@ fn try_owned(rt: &HostRuntime, example: &Example, layout: &Layout, arms: bool) -
     arm(rt, arms);
     let answer = encode_owned(rt.alloc(), layout, json, &options);
     disarm(rt, arms);
-    match answer {
-        Ok(bytes) => Outcome::of(bytes.as_slice() == example.bytes),
-        Err(fault) => Outcome::of_refusal(fault.number()),
-    }
+    of_bytes(answer, example.bytes)
 }
 
 /// An example's buffer, whose text is read in pieces of a few bytes.
@@ -57,10 +51,7 @@ fn try_decode(rt: &HostRuntime, example: &Example, layout: &Layout, arms: bool) 
     arm(rt, arms);
     let answer = decode(rt.alloc(), layout, example.bytes, &options);
     disarm(rt, arms);
-    match answer {
-        Ok(text) => Outcome::of(text.as_str() == example.text),
-        Err(fault) => Outcome::of_refusal(fault.number()),
-    }
+    of_text(answer, example.text)
 }
 
 fn try_read(rt: &HostRuntime, example: &Example, layout: &Layout, arms: bool) -> Outcome {

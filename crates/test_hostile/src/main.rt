@@ -129,6 +129,19 @@ fn show_one(rt: &HostRuntime, call: &str, name: &str) -> io::Result<bool> {
     Ok(false)
 }
 
+/// Soaks each line of the input, or tells its outcomes in pieces.
+fn take_lines(rt: &HostRuntime, are_pieces: bool) -> io::Result<()> {
+    let text = io::read_to_string(rt.alloc(), rt.reader())?;
+    for line in text.lines() {
+        if are_pieces {
+            tell_pieces(rt, line)?;
+        } else {
+            soak(rt, line)?;
+        }
+    }
+    Ok(())
+}
+
 /// Does what the words ask for, and returns whether all is right.
 fn run(rt: &HostRuntime, words: &[String]) -> io::Result<bool> {
     match words {
@@ -138,12 +151,8 @@ fn run(rt: &HostRuntime, words: &[String]) -> io::Result<bool> {
             Ok(levels) => go_deep(rt, call.as_str(), levels),
             Err(_) => Ok(false),
         },
-        [word] if word.as_str() == "pieces" => {
-            tell_pieces(rt)?;
-            Ok(true)
-        }
-        _ => {
-            soak(rt)?;
+        [word, ..] => {
+            take_lines(rt, word.as_str() == "pieces")?;
             Ok(true)
         }
     }

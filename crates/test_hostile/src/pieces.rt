@@ -50,32 +50,29 @@ fn print_outcome(rt: &HostRuntime, layout: &Layout, json: &[u8], unknown: bool) 
     if let Some(piece) = other_outcome(rt.alloc(), layout, json, unknown, &whole) {
         return println!(rt; "another outcome in pieces of {piece}");
     }
-    match whole {
-        Ok(_) => println!(rt; "a buffer"),
-        Err(TextFault::BadJson) => println!(rt; "no JSON"),
-        Err(TextFault::Memory) => println!(rt; "no memory"),
-        Err(TextFault::Encode(fault)) => println!(rt; "{fault}"),
+    let told = match whole {
+        Ok(_) => "a buffer",
+        Err(TextFault::BadJson) => "no JSON",
+        Err(TextFault::Memory) => "no memory",
+        Err(TextFault::Encode(fault)) => return println!(rt; "{fault}"),
+    };
+    println!(rt; "{told}")
+}
+
+fn tell_outcomes(rt: &HostRuntime, schema: &[u8], json: &[u8]) -> io::Result<()> {
+    match schema_of(rt.alloc(), schema) {
+        Ok(layout) => {
+            print_outcome(rt, &layout, json, false)?;
+            print_outcome(rt, &layout, json, true)
+        }
+        Err(_) => println!(rt; "the schema is refused"),
     }
 }
 
-/// A line has a schema text and a JSON text, with a tab between the two.
-fn tell_line(rt: &HostRuntime, line: &str) -> io::Result<()> {
-    let mut parts = line.split('\t');
-    let (Some(schema), Some(json)) = (parts.next(), parts.next()) else {
-        return println!(rt; "no row");
-    };
-    let Ok(layout) = schema_of(rt.alloc(), schema.as_bytes()) else {
-        return println!(rt; "the schema is refused");
-    };
-    print_outcome(rt, &layout, json.as_bytes(), false)?;
-    print_outcome(rt, &layout, json.as_bytes(), true)
-}
-
-/// Tells the outcomes of each line of the input.
-pub(crate) fn tell_pieces(rt: &HostRuntime) -> io::Result<()> {
-    let text = io::read_to_string(rt.alloc(), rt.reader())?;
-    for line in text.lines() {
-        tell_line(rt, line)?;
+/// Tells the outcomes of a line, which has a schema text and a JSON text, with a tab between the two.
+pub(crate) fn tell_pieces(rt: &HostRuntime, line: &str) -> io::Result<()> {
+    match line.split_once('\t') {
+        Some((schema, json)) => tell_outcomes(rt, schema.as_bytes(), json.as_bytes()),
+        None => println!(rt; "no row"),
     }
-    Ok(())
 }

@@ -214,27 +214,19 @@ fn soak_row(rt: &HostRuntime, schema: &str, json: &str, seed: u64, count: u64) -
     }
 }
 
-/// A line has a schema text, a JSON text, a seed and how often its buffer is damaged, with a tab between
-/// two of them.
-fn soak_line(rt: &HostRuntime, line: &str) -> io::Result<()> {
-    let mut parts = line.split('\t');
-    let (Some(schema), Some(json)) = (parts.next(), parts.next()) else {
-        return println!(rt; "no row");
-    };
-    let (Some(seed), Some(count)) = (parts.next(), parts.next()) else {
-        return println!(rt; "no row");
-    };
-    let (Ok(seed), Ok(count)) = (seed.parse::<u64>(), count.parse::<u64>()) else {
-        return println!(rt; "no row");
-    };
-    soak_row(rt, schema, json, seed, count)
+/// The two numbers of a text, with a tab between the two.
+fn numbers_of(text: &str) -> Option<(u64, u64)> {
+    let (seed, count) = text.split_once('\t')?;
+    Some((seed.parse().ok()?, count.parse().ok()?))
 }
 
-/// Soaks each line of the input.
-pub(crate) fn soak(rt: &HostRuntime) -> io::Result<()> {
-    let text = io::read_to_string(rt.alloc(), rt.reader())?;
-    for line in text.lines() {
-        soak_line(rt, line)?;
+/// Soaks a line, which has a schema text, a JSON text, a seed and how often its buffer is damaged, with a tab between two
+/// of them.
+pub(crate) fn soak(rt: &HostRuntime, line: &str) -> io::Result<()> {
+    let (schema, rest) = line.split_once('\t').unwrap_or((line, ""));
+    let (json, numbers) = rest.split_once('\t').unwrap_or((rest, ""));
+    match numbers_of(numbers) {
+        Some((seed, count)) => soak_row(rt, schema, json, seed, count),
+        None => println!(rt; "no row"),
     }
-    Ok(())
 }
