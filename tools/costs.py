@@ -1,12 +1,12 @@
 #!/usr/bin/env python3
 """Tells what a check of a crate spends its time on.
 
-usage: tools/costs.py CRATE [--over FOLDER] [--lines N]
+usage: tools/costs.py CRATE [--test] [--over FOLDER] [--lines N]
 
 rt ci proves the crates below, in a copy of the tree; with --over it has left them in FOLDER. Then one job checks the
 crate from nothing. The prover writes a file for each module that it has checked, so the time between two files is what
 the second one took, by the clock. Prints the seconds by kind of module, by function, and of single modules, N lines of
-each. Test functions aren't checked.
+each. With --test the crate's tests are checked too.
 
 The kinds that matter: Lts is the model of a function's body, and grows with its statements, and with how many values
 live across them. Proof has the goals that no answer is written for, which tactics look for. Answers has those that
@@ -22,9 +22,9 @@ from build import ROOT, below, copy_crates, over_gate, prove, read_crates
 from mutations import run
 
 
-def check(crates, name, top, kept):
+def check(crates, name, top, kept, flags):
     """Checks a crate from nothing, and leaves a file for each module in a folder. Returns whether it is proved."""
-    words = [*over_gate(crates, name, "check", top)[1], "--jobs", "1", "--incremental", kept]
+    words = [*over_gate(crates, name, "check", top)[1], "--jobs", "1", "--incremental", kept, *flags]
     if os.path.exists(f"{ROOT}/crates/{name}/src/main.rt"):
         words[words.index("src/lib.rt")] = "src/main.rt"
     status, lines = run(words, f"{ROOT}/crates/{name}")
@@ -67,6 +67,7 @@ def report(modules, most):
 def main():
     parser = argparse.ArgumentParser(description=__doc__.split("\n", 1)[0])
     parser.add_argument("crate")
+    parser.add_argument("--test", action="store_true", help="with the crate's tests")
     parser.add_argument("--over", metavar="FOLDER", help="a tree where rt ci has left the crates below")
     parser.add_argument("--lines", type=int, default=20)
     given = parser.parse_args()
@@ -78,7 +79,7 @@ def main():
             if not prove(room, len(names)):
                 return 1
         kept = tempfile.mkdtemp(dir=room)
-        proved = check(crates, given.crate, given.over or room, kept)
+        proved = check(crates, given.crate, given.over or room, kept, ["--test"] if given.test else [])
         report(modules_in(kept, given.crate), given.lines)
     return 0 if proved else 1
 
