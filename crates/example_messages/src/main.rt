@@ -5,8 +5,8 @@
 #![tactic(auto)]
 
 use flatc_tool::{
-    DecodeOptions, EncodeOptions, Entries, Layout, ToolFault, Value, View, build, carry, conform,
-    decode, encode, read, schema_of, verify, whole,
+    DecodeOptions, EncodeOptions, Entries, Layout, SchemaTextFault, ToolFault, Value, View, build,
+    carry, conform, decode, encode, read, schema_of, verify, whole,
 };
 use std::alloc::Global;
 use std::io::{self, Write};
@@ -40,19 +40,19 @@ fn there_and_back(
     Ok((bytes, text))
 }
 
-/// Reads a buffer as a value, and lays that value again; `None` where it has a union member that the
-/// schema doesn't know.
-fn rebuilt(alloc: Global, layout: &Layout, bytes: &[u8]) -> Result<Option<Vec<u8>>, ToolFault> {
+/// Reads a buffer as a value, and lays that value again. Whether that gives the same bytes; not where it has a union
+/// member that the schema doesn't know.
+fn is_laid_alike(alloc: Global, layout: &Layout, bytes: &[u8]) -> Result<bool, ToolFault> {
     let limits = DecodeOptions::new().limits;
     let value = match read(alloc, layout, bytes, limits, false, &mut Entries::new()) {
         Ok(value) => value,
         Err(fault) => return Err(ToolFault::Read(fault)),
     };
     if !whole(&value) {
-        return Ok(None);
+        return Ok(false);
     }
     match build(alloc, layout, &value) {
-        Ok(again) => Ok(Some(again)),
+        Ok(again) => Ok(again.as_slice() == bytes),
         Err(fault) => Err(ToolFault::Build(fault)),
     }
 }
@@ -78,6 +78,14 @@ fn carried(
     }
 }
 
+/// How many slots a table has.
+fn slot_count(value: &Value) -> usize {
+    match value {
+        Value::Fields(_, entries) => entries.len(),
+        _ => 0,
+    }
+}
+
 /// Writes what comes of a buffer that is read as a value.
 fn compare<W: Write>(
     alloc: Global,
@@ -86,19 +94,25 @@ fn compare<W: Write>(
     bytes: &[u8],
     out: &mut W,
 ) -> io::Result<()> {
-    match rebuilt(alloc, layout, bytes) {
-        Ok(Some(again)) if again.as_slice() == bytes => writeln!(
-            out,
-            "laid again: the same bytes"
-        )?,
-        Ok(_) => writeln!(out, "laid again: other bytes")?,
+    match is_laid_alike(alloc, layout, bytes) {
+        Ok(true) => writeln!(out, "laid again: the same bytes")?,
+        Ok(false) => writeln!(out, "laid again: other bytes")?,
         Err(fault) => writeln!(out, "laid again: {fault}")?,
     }
     match carried(alloc, layout, next, bytes) {
-        Ok(Value::Fields(_, entries)) => writeln!(out, "carried: {} slots", entries.len()),
-        Ok(_) => writeln!(out, "carried: no table"),
+        Ok(value) => writeln!(out, "carried: {} slots", slot_count(&value)),
         Err(fault) => writeln!(out, "carried: {fault}"),
     }
+}
+
+/// Writes what a buffer holds, and the JSON text that it prints as.
+fn show<W: Write>(layout: &Layout, bytes: &[u8], text: &str, out: &mut W) -> io::Result<()> {
+    let limits = DecodeOptions::new().limits;
+    match verify(layout, bytes, limits, false, &mut Entries::new()) {
+        Ok(view) => greet(layout, view, out)?,
+        Err(fault) => return writeln!(out, "refused: {fault}"),
+    }
+    write!(out, "{text}")
 }
 
 /// Writes what comes of a message, or why it is refused.
@@ -109,35 +123,45 @@ fn take_message<W: Write>(
     json: &str,
     out: &mut W,
 ) -> io::Result<()> {
-    let (bytes, text) = match there_and_back(alloc, layout, json) {
-        Ok(both) => both,
-        Err(fault) => return writeln!(out, "refused: {} {}", fault.number(), fault.name()),
-    };
-    let limits = DecodeOptions::new().limits;
-    match verify(layout, bytes.as_slice(), limits, false, &mut Entries::new()) {
-        Ok(view) => greet(layout, view, out)?,
-        Err(fault) => return writeln!(out, "refused: {fault}"),
+    match there_and_back(alloc, layout, json) {
+        Ok((bytes, text)) => {
+            show(layout, bytes.as_slice(), text.as_str(), out)?;
+            compare(alloc, layout, next, bytes.as_slice(), out)
+        }
+        Err(fault) => writeln!(out, "refused: {} {}", fault.number(), fault.name()),
     }
-    write!(out, "{text}")?;
-    compare(alloc, layout, next, bytes.as_slice(), out)
+}
+
+/// The layouts of a schema text and of its next version.
+fn layouts_of(
+    alloc: Global,
+    schema: &str,
+    next: &str,
+) -> Result<(Layout, Layout), SchemaTextFault> {
+    let layout = schema_of(alloc, schema.as_bytes())?;
+    let next = schema_of(alloc, next.as_bytes())?;
+    Ok((layout, next))
+}
+
+/// Writes what comes of each message of a text, whose first two lines are the schemas.
+fn take_text<W: Write>(alloc: Global, text: &str, out: &mut W) -> io::Result<ExitCode> {
+    let (schema, rest) = text.split_once('\n').unwrap_or((text, ""));
+    let (next, messages) = rest.split_once('\n').unwrap_or((rest, ""));
+    match layouts_of(alloc, schema, next) {
+        Ok((layout, next)) => {
+            for json in messages.lines() {
+                take_message(alloc, &layout, &next, json, out)?;
+            }
+            Ok(ExitCode::SUCCESS)
+        }
+        Err(fault) => {
+            writeln!(out, "a schema is refused: {fault}")?;
+            Ok(ExitCode::FAILURE)
+        }
+    }
 }
 
 fn main(rt: HostRuntime) -> io::Result<ExitCode> {
-    let alloc = rt.alloc();
-    let mut out = rt.stdout();
-    let input = io::read_to_string(alloc, rt.reader())?;
-    let mut lines = input.lines();
-    let schema = schema_of(alloc, lines.next().unwrap_or("").as_bytes());
-    let next = schema_of(alloc, lines.next().unwrap_or("").as_bytes());
-    let (layout, next) = match (schema, next) {
-        (Ok(layout), Ok(next)) => (layout, next),
-        (Err(fault), _) | (_, Err(fault)) => {
-            writeln!(out, "a schema is refused: {fault}")?;
-            return Ok(ExitCode::FAILURE);
-        }
-    };
-    for json in lines {
-        take_message(alloc, &layout, &next, json, &mut out)?;
-    }
-    Ok(ExitCode::SUCCESS)
+    let text = io::read_to_string(rt.alloc(), rt.reader())?;
+    take_text(rt.alloc(), text.as_str(), &mut rt.stdout())
 }
