@@ -59,12 +59,12 @@ fn try_layout(
     row: &mut Fields<'_>,
     line: &mut String,
 ) -> Result<&'static str, RowFault> {
-    if let Some(ask) = row.value("ask") {
-        write_asked(layout.schema(), &ask, line)?;
+    if let Some(ask) = row.optional_text("ask")? {
+        write_asked(layout.schema(), ask, line)?;
         return Ok("asked");
     }
-    if let Some(ask) = row.value("laid") {
-        write_laid(layout, &ask, line)?;
+    if let Some(ask) = row.optional_text("laid")? {
+        write_laid(layout, ask, line)?;
         return Ok("asked");
     }
     write_schema(layout.schema(), line)?;
@@ -77,8 +77,8 @@ fn try_fault(
     row: &mut Fields<'_>,
     line: &mut String,
 ) -> Result<&'static str, RowFault> {
-    let _ask = row.value("ask");
-    let _laid = row.value("laid");
+    let _ask = row.optional_text("ask")?;
+    let _laid = row.optional_text("laid")?;
     write_fault(fault, line)?;
     Ok("refused")
 }

@@ -21,15 +21,15 @@ use fb_value::Limits;
 use flatc_tool::schema_of;
 use std::alloc::Global;
 
-/// What a row is tried under: its schema text and the layout that it has, limits, and whether the count of its
-/// buffers' bytes is in front of them.
+/// What a row is tried under: the layout of its schema text, limits, whether the count of its buffers' bytes is in
+/// front of them, and whether texts are printed without blanks and line feeds.
 #[derive(Clone, Copy)]
-pub(crate) struct Case<'s, 'l> {
+pub(crate) struct Case<'l> {
     pub(crate) alloc: Global,
-    pub(crate) schema: &'s [u8],
     pub(crate) layout: &'l Layout,
     pub(crate) limits: Limits,
     pub(crate) prefixed: bool,
+    pub(crate) compact: bool,
 }
 
 /// A row of values: a schema text, with a JSON text, with bytes in hexadecimal or with both, and what
@@ -41,7 +41,7 @@ pub(crate) struct Case<'s, 'l> {
 /// that are `damaged` what comes of each damage is counted. Of a JSON text beside a `later` schema
 /// the value that it means is wanted as it is under that schema, or the breach; of a `later` schema alone
 /// the names that stand for something else in it, or the breach. Wherever bytes hold
-/// a value they print as that value's text, or both name the same union without a name; and each cut
+/// a value they print as that value's text, `compact` or not, or both name the same union without a name; and each cut
 /// of a schema text gives a schema or a fault.
 pub(crate) fn try_value_row(
     alloc: Global,
@@ -51,23 +51,23 @@ pub(crate) fn try_value_row(
     let depth = row.number("depth")?;
     let cells = row.number("cells")?;
     let prefixed = row.flag("prefixed")?;
+    let compact = row.flag("compact")?;
     let text = row.text("schema")?;
-    let schema = text.as_bytes();
     if !are_cuts_settled(alloc, text) {
         line.push_str("a cut of the schema runs out of memory; ")?;
     }
     let Some(limits) = limits_of(depth, cells) else {
         return Err(RowFault::Invalid("depth"));
     };
-    let Ok(layout) = schema_of(alloc, schema) else {
+    let Ok(layout) = schema_of(alloc, text.as_bytes()) else {
         return Err(RowFault::Invalid("schema"));
     };
     let case = Case {
         alloc,
-        schema,
         layout: &layout,
         limits,
         prefixed,
+        compact,
     };
     try_case(&case, row, line)
 }
@@ -85,12 +85,15 @@ fn try_case(
     line: &mut String,
 ) -> Result<&'static str, RowFault> {
     let json = row.optional_text("json")?;
-    let hex = row.optional_text("bytes")?;
-    match (json, hex) {
-        (Some(json), Some(hex)) => try_built(case, row, json, hex, line),
-        (Some(json), None) => try_json(case, row, json, line),
-        (None, Some(hex)) => try_hex(case, row, hex, line),
-        (None, None) => try_names(case, row, line),
+    match row.optional_text("bytes")? {
+        Some(hex) => match json {
+            Some(json) => try_built(case, row, json, hex, line),
+            None => try_hex(case, row, hex, line),
+        },
+        None => match json {
+            Some(json) => try_json(case, row, json, line),
+            None => try_names(case, row, line),
+        },
     }
 }
 
@@ -134,11 +137,8 @@ fn try_versions(
         return Err(RowFault::Invalid("later"));
     };
     let later = Case {
-        alloc: case.alloc,
-        schema,
         layout: &layout,
-        limits: case.limits,
-        prefixed: case.prefixed,
+        ..*case
     };
     try_later(case, &later, json, line)?;
     Ok("carried")

@@ -2,52 +2,7 @@
 use crate::faults::RowFault;
 use crate::schemas::shown::write_field;
 use fb_schema::{FieldInfo, Schema, TypeId};
-use json::Value;
 use std::alloc::AllocError;
-
-/// One look-up in a schema, with the type's number before what is sought in it.
-#[derive(Clone, Copy)]
-enum Ask<'a> {
-    Size,
-    Find(&'a str),
-    FieldOf(TypeId, &'a str),
-    MemberOf(TypeId, u8),
-    ValueOf(TypeId, i128),
-}
-
-/// What a word asks for in a type.
-fn ask_in<'a>(word: &str, owner: &Value<'a>, sought: &Value<'a>) -> Option<Ask<'a>> {
-    let owner = TypeId(owner.as_u64()?);
-    match word {
-        "field_of" => Some(Ask::FieldOf(owner, sought.as_str()?)),
-        "member_of" => Some(Ask::MemberOf(owner, u8::try_from(sought.as_u64()?).ok()?)),
-        "value_of" => Some(Ask::ValueOf(owner, i128::from(sought.as_i64()?))),
-        _ => None,
-    }
-}
-
-/// What a word asks for with a name, or with a type and what is sought in it.
-fn ask_with<'a>(word: &str, sought: &Value<'a>) -> Option<Ask<'a>> {
-    match sought {
-        Value::String(name) if word == "find" => Some(Ask::Find(name)),
-        Value::Array(pair) => match pair.as_slice() {
-            [owner, sought] => ask_in(word, owner, sought),
-            _ => None,
-        },
-        _ => None,
-    }
-}
-
-fn ask_of<'a>(value: &Value<'a>) -> Option<Ask<'a>> {
-    match value {
-        Value::String(word) if *word == "size" => Some(Ask::Size),
-        Value::Object(members) => match members.as_slice() {
-            [(word, sought)] => ask_with(word, sought),
-            _ => None,
-        },
-        _ => None,
-    }
-}
 
 /// Writes a type's number.
 fn write_type(found: Option<TypeId>, line: &mut String) -> Result<(), AllocError> {
@@ -72,28 +27,43 @@ fn write_size(schema: &Schema, line: &mut String) -> Result<(), AllocError> {
     write!(line, "{count} types, root {root}")
 }
 
-/// Writes what a schema answers, `none` where it has nothing of the kind.
-fn write_answer(schema: &Schema, ask: Ask, line: &mut String) -> Result<(), AllocError> {
-    match ask {
-        Ask::Size => write_size(schema, line),
-        Ask::Find(name) => write_type(schema.find(name), line),
-        Ask::FieldOf(owner, name) => write_found(schema.field_by_name(owner, name), line),
-        Ask::MemberOf(union, code) => write_type(schema.member_by_code(union, code), line),
-        Ask::ValueOf(enumeration, number) => {
-            let name = schema.name_of_number(enumeration, number);
-            line.push_str(name.unwrap_or("none"))
-        }
+/// Writes what a schema answers of one of its types, `none` where it has nothing of the kind.
+fn write_of_type(
+    schema: &Schema,
+    word: &str,
+    owner: TypeId,
+    sought: &str,
+    line: &mut String,
+) -> Result<(), RowFault> {
+    match word {
+        "field_of" => Ok(write_found(schema.field_by_name(owner, sought), line)?),
+        "member_of" => match sought.parse() {
+            Ok(code) => Ok(write_type(schema.member_by_code(owner, code), line)?),
+            Err(_) => Err(RowFault::Invalid("ask")),
+        },
+        "value_of" => match sought.parse() {
+            Ok(number) => Ok(line.push_str(
+                schema.name_of_number(owner, number).unwrap_or("none"),
+            )?),
+            Err(_) => Err(RowFault::Invalid("ask")),
+        },
+        _ => Err(RowFault::Invalid("ask")),
     }
 }
 
-/// Writes what a schema answers where it is asked.
-pub(crate) fn write_asked(
-    schema: &Schema,
-    value: &Value,
-    line: &mut String,
-) -> Result<(), RowFault> {
-    match ask_of(value) {
-        Some(ask) => Ok(write_answer(schema, ask, line)?),
-        None => Err(RowFault::Invalid("ask")),
+/// Writes what a schema answers where it is asked for its `size`, to `find` a type, or for a field, a member or a value
+/// of the type with a number: a word, and behind blanks what is sought.
+pub(crate) fn write_asked(schema: &Schema, ask: &str, line: &mut String) -> Result<(), RowFault> {
+    let (word, sought) = ask.split_once(' ').unwrap_or((ask, ""));
+    match word {
+        "size" => Ok(write_size(schema, line)?),
+        "find" => Ok(write_type(schema.find(sought), line)?),
+        _ => {
+            let (owner, sought) = sought.split_once(' ').unwrap_or((sought, ""));
+            match owner.parse() {
+                Ok(owner) => write_of_type(schema, word, TypeId(owner), sought, line),
+                Err(_) => Err(RowFault::Invalid("ask")),
+            }
+        }
     }
 }

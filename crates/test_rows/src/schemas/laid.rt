@@ -2,37 +2,7 @@
 use crate::faults::RowFault;
 use fb_layout::Layout;
 use fb_schema::{Kind, TypeId};
-use json::Value;
 use std::alloc::AllocError;
-
-/// One look into a layout: a type's number behind what it is looked into for.
-#[derive(Clone, Copy)]
-enum Ask {
-    Greatest,
-    Struct(TypeId),
-    Table(TypeId),
-}
-
-/// What a word asks for of a type.
-fn ask_with(word: &str, sought: &Value) -> Option<Ask> {
-    let id = TypeId(sought.as_u64()?);
-    match word {
-        "struct" => Some(Ask::Struct(id)),
-        "table" => Some(Ask::Table(id)),
-        _ => None,
-    }
-}
-
-fn ask_of(value: &Value) -> Option<Ask> {
-    match value {
-        Value::String(word) if *word == "greatest" => Some(Ask::Greatest),
-        Value::Object(members) => match members.as_slice() {
-            [(word, sought)] => ask_with(word, sought),
-            _ => None,
-        },
-        _ => None,
-    }
-}
 
 /// Writes where a struct's fields begin.
 fn write_offsets(layout: &Layout, id: TypeId, line: &mut String) -> Result<(), AllocError> {
@@ -58,16 +28,15 @@ fn write_table(layout: &Layout, id: TypeId, line: &mut String) -> Result<(), All
     write!(line, "widest {widest}, align {align}")
 }
 
-/// Writes what a layout answers where it is asked.
-pub(crate) fn write_laid(
-    layout: &Layout,
-    value: &Value,
-    line: &mut String,
-) -> Result<(), RowFault> {
-    match ask_of(value) {
-        Some(Ask::Greatest) => Ok(write!(line, "greatest {}", layout.greatest())?),
-        Some(Ask::Struct(id)) => Ok(write_struct(layout, id, line)?),
-        Some(Ask::Table(id)) => Ok(write_table(layout, id, line)?),
-        None => Err(RowFault::Invalid("laid")),
+/// Writes what a layout answers where it is asked for the `greatest` alignment, or for the struct or table with a number.
+pub(crate) fn write_laid(layout: &Layout, ask: &str, line: &mut String) -> Result<(), RowFault> {
+    if ask == "greatest" {
+        return Ok(write!(line, "greatest {}", layout.greatest())?);
+    }
+    let (word, number) = ask.split_once(' ').unwrap_or((ask, ""));
+    match (word, number.parse()) {
+        ("struct", Ok(number)) => Ok(write_struct(layout, TypeId(number), line)?),
+        ("table", Ok(number)) => Ok(write_table(layout, TypeId(number), line)?),
+        _ => Err(RowFault::Invalid("laid")),
     }
 }

@@ -23,6 +23,15 @@ fn push_table(all: &mut String, number: u64) -> Result<(), AllocError> {
     write!(all, "next:Link{next}; }}\n")
 }
 
+/// So many pieces one behind the other; in each its number, from 0, is between its head and its tail.
+fn numbered(alloc: Global, pieces: u64, head: &str, tail: &str) -> Result<String, AllocError> {
+    let mut all = String::new(alloc);
+    for number in 0..pieces {
+        write!(&mut all, "{head}{number}{tail}")?;
+    }
+    Ok(all)
+}
+
 /// A text with pieces in the place of its `@`; in each its number, from 0, stands for the `#`.
 pub(crate) fn with_pieces(
     alloc: Global,
@@ -30,16 +39,8 @@ pub(crate) fn with_pieces(
     piece: &str,
     text: &str,
 ) -> Result<String, RowFault> {
-    let Some((before, after)) = text.split_once('@') else {
-        return Err(RowFault::Invalid("text"));
-    };
-    let Some((head, tail)) = piece.split_once('#') else {
-        return Err(RowFault::Invalid("piece"));
-    };
-    let mut all = String::from_str(alloc, before)?;
-    for number in 0..pieces {
-        write!(&mut all, "{head}{number}{tail}")?;
-    }
-    all.push_str(after)?;
-    Ok(all)
+    let (before, after) = text.split_once('@').unwrap_or((text, ""));
+    let (head, tail) = piece.split_once('#').unwrap_or((piece, ""));
+    let all = numbered(alloc, pieces, head, tail)?;
+    Ok(format!(in alloc; "{before}{all}{after}")?)
 }

@@ -8,7 +8,7 @@ use crate::values::Case;
 use crate::values::texts::try_alike;
 use fb_json::{JsonFault, value_of};
 use fb_value::Value;
-use flatc_tool::{EncodeOptions, ToolFault, encode, to_binary};
+use flatc_tool::{EncodeOptions, ToolFault, encode};
 use serde_json::Value as Json;
 use std::alloc::AllocError;
 
@@ -45,21 +45,12 @@ pub(crate) fn write_unmeant(unmeant: Unmeant, line: &mut String) -> Result<(), A
 
 /// The buffer that the tool makes of a JSON text.
 pub(crate) fn buffer_of(case: &Case, json: &str, unknown: bool) -> Result<Vec<u8>, ToolFault> {
-    if case.prefixed {
-        let options = EncodeOptions {
-            limits: case.limits,
-            unknown_json: unknown,
-            size_prefixed: true,
-        };
-        return encode(case.alloc, case.layout, json.as_bytes(), &options);
-    }
-    to_binary(
-        case.alloc,
-        case.schema,
-        json.as_bytes(),
-        case.limits,
-        unknown,
-    )
+    let options = EncodeOptions {
+        limits: case.limits,
+        unknown_json: unknown,
+        size_prefixed: case.prefixed,
+    };
+    encode(case.alloc, case.layout, json.as_bytes(), &options)
 }
 
 /// Whether the tool refuses a JSON text as its meaning is refused.

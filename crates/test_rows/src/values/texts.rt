@@ -1,8 +1,8 @@
 //! Texts of values beside those of their bytes.
 use crate::values::Case;
-use fb_text::{TextFault, text_of};
+use fb_text::{Spacing, TextFault, spaced_text_of};
 use fb_value::Value;
-use flatc_tool::{DecodeOptions, ToolFault, decode, to_json};
+use flatc_tool::{DecodeOptions, ToolFault, decode};
 use std::alloc::AllocError;
 
 /// The text that the tool prints of bytes.
@@ -12,17 +12,29 @@ pub(crate) fn printed_of(
     raw: bool,
     defaults: bool,
 ) -> Result<String, ToolFault> {
-    if !case.prefixed {
-        return to_json(case.alloc, case.schema, bytes, case.limits, raw, defaults);
-    }
     let options = DecodeOptions {
         limits: case.limits,
         raw_binary: raw,
         defaults_json: defaults,
-        size_prefixed: true,
-        compact: false,
+        size_prefixed: case.prefixed,
+        compact: case.compact,
     };
     decode(case.alloc, case.layout, bytes, &options)
+}
+
+fn is_printed(case: &Case, bytes: &[u8], raw: bool, defaults: bool, text: &str) -> bool {
+    match printed_of(case, bytes, raw, defaults) {
+        Ok(printed) => printed.as_str() == text,
+        Err(_) => false,
+    }
+}
+
+/// Whether bytes are refused with a fault of their text that isn't memory's.
+fn is_unprinted(case: &Case, bytes: &[u8], raw: bool, defaults: bool, fault: TextFault) -> bool {
+    match printed_of(case, bytes, raw, defaults) {
+        Ok(_) => false,
+        Err(told) => fault != TextFault::Memory && told == ToolFault::Text(fault),
+    }
 }
 
 /// Whether bytes print as the text of the value that they hold, or both are refused for the same
@@ -34,13 +46,14 @@ pub(crate) fn is_printed_alike(
     defaults: bool,
     value: &Value,
 ) -> bool {
-    let printed = printed_of(case, bytes, raw, defaults);
-    match (printed, text_of(case.alloc, case.layout, value, defaults)) {
-        (Ok(printed), Ok(text)) => printed == text,
-        (Err(ToolFault::Text(told)), Err(TextFault::NoMemberName(place))) => {
-            told == TextFault::NoMemberName(place)
-        }
-        _ => false,
+    let spacing = if case.compact {
+        Spacing::Compact
+    } else {
+        Spacing::Indented
+    };
+    match spaced_text_of(case.alloc, case.layout, value, defaults, spacing) {
+        Ok(text) => is_printed(case, bytes, raw, defaults, text.as_str()),
+        Err(fault) => is_unprinted(case, bytes, raw, defaults, fault),
     }
 }
 
