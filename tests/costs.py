@@ -216,6 +216,5 @@ def crafted(tests):
 
 
 if __name__ == "__main__":
-    sys.exit(
-        Tests("costs", program_of(sys.argv, __doc__)).main((comparisons, unsupported, schemas, namespaces, json_texts, crafted))
-    )
+    parts = (comparisons, unsupported, schemas, namespaces, json_texts, crafted)
+    sys.exit(Tests("costs", program_of(sys.argv, __doc__)).main(parts))

@@ -3,10 +3,10 @@
 
 usage: tests/soak.py PROGRAM [--seed N] [--schemas N] [--damages N] [--size FLATC]
 
-PROGRAM is built of crates/test_hostile. Each schema gets a JSON text; its buffer has to print as the value that was
-made here, that value has to be built as the same bytes, and each damage of it has to be read alike by both readers, and where it still holds a value, print as a text
-that means this value and whose buffer holds it. With --size the program FLATC converts files of some gigabytes too. The
-last line is 'N passed, M failed'.
+PROGRAM is built of crates/test_hostile. Each schema gets a JSON text. Its buffer has to print as the value that was
+made here, and that value has to be built as the same bytes. Each damage of it has to be read alike by both readers, and
+where it still holds a value, print as a text that means this value and whose buffer holds it. With --size the program
+FLATC converts files of some gigabytes too. The last line is 'N passed, M failed'.
 """
 import argparse
 import json

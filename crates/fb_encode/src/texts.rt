@@ -29,8 +29,8 @@ fn first_fault(fault: JsonFault) -> TextFault
     }
 }
 
-/// Notes the value that a text means, which is read in pieces, on a tape of nothing. None where a piece can't be read on
-/// its own.
+/// Notes the value that a text means, which is read in pieces, on a tape of nothing. None where a piece can't be read
+/// on its own.
 fn note_pieces(
     source: Source,
     walk: &mut TextWalk<'_>,

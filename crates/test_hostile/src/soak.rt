@@ -220,8 +220,8 @@ fn numbers_of(text: &str) -> Option<(u64, u64)> {
     Some((seed.parse().ok()?, count.parse().ok()?))
 }
 
-/// Soaks a line, which has a schema text, a JSON text, a seed and how often its buffer is damaged, with a tab between two
-/// of them.
+/// Soaks a line, which has a schema text, a JSON text, a seed and how often its buffer is damaged, with a tab between
+/// two of them.
 pub(crate) fn soak(rt: &HostRuntime, line: &str) -> io::Result<()> {
     let (schema, rest) = line.split_once('\t').unwrap_or((line, ""));
     let (json, numbers) = rest.split_once('\t').unwrap_or((rest, ""));

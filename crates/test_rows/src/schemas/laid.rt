@@ -28,7 +28,8 @@ fn write_table(layout: &Layout, id: TypeId, line: &mut String) -> Result<(), All
     write!(line, "widest {widest}, align {align}")
 }
 
-/// Writes what a layout answers where it is asked for the `greatest` alignment, or for the struct or table with a number.
+/// Writes what a layout answers where it is asked for the `greatest` alignment, or for the struct or table with a
+/// number.
 pub(crate) fn write_laid(layout: &Layout, ask: &str, line: &mut String) -> Result<(), RowFault> {
     if ask == "greatest" {
         return Ok(write!(line, "greatest {}", layout.greatest())?);
