@@ -3,7 +3,7 @@ use crate::arming::{Matching, Outcome, arm, disarm, of_bytes};
 use crate::examples::Example;
 use clap::error::ErrorKind;
 use flatc_cli::request_of;
-use flatc_request::Request;
+use flatc_request::{Explaining, Job, Request};
 use flatc_tool::command::{Heard, fault_line, report, report_noted, take_all};
 use flatc_tool::{JsonFault, Noted, Place, ToolFault, TypeId};
 use std::alloc::{AllocError, Global};
@@ -31,10 +31,8 @@ fn try_take(rt: &HostRuntime, example: &Example, arms: bool) -> Outcome {
     of_bytes(answer, example.bytes)
 }
 
-/// A line of words, and the request that it is.
+/// A line of words.
 const WORDS: &str = "check --raw-binary s b";
-
-const ASKED: &str = "Do(Check { schema: \"s\", bin: Some(\"b\"), raw: true }, AtTerminal)";
 
 fn words(alloc: Global) -> Result<Vec<String>, AllocError> {
     WORDS
@@ -43,10 +41,21 @@ fn words(alloc: Global) -> Result<Vec<String>, AllocError> {
         .try_collect(alloc)
 }
 
-fn is_asked(alloc: Global, request: &Request) -> bool {
-    match format!(in alloc; "{request:?}") {
-        Ok(text) => text.as_str() == ASKED,
-        Err(_) => false,
+fn is_asked(request: &Request) -> bool {
+    match request {
+        Request::Do(job, Explaining::AtTerminal) => is_check(job),
+        _ => false,
+    }
+}
+
+fn is_check(job: &Job) -> bool {
+    match job {
+        Job::Check {
+            schema,
+            bin: Some(bin),
+            raw: true,
+        } => schema.as_str() == "s" && bin.as_str() == "b",
+        _ => false,
     }
 }
 
@@ -58,7 +67,7 @@ fn try_request_of(rt: &HostRuntime, arms: bool) -> Outcome {
     let answer = request_of(rt.alloc(), words.as_slice());
     disarm(rt, arms);
     match answer {
-        Ok(request) => Outcome::of(is_asked(rt.alloc(), &request)),
+        Ok(request) => Outcome::of(is_asked(&request)),
         Err(error) if error.kind() == ErrorKind::OutOfMemory => Outcome::Short(0),
         Err(_) => Outcome::Wrong,
     }
