@@ -1,2 +1,3 @@
 -- What the proofs of src/extents.rt use.
 pub mod UnknownStructTakesNothing
+pub mod StructsStandAtTheirNumbers

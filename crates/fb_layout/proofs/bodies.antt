@@ -1,0 +1,2 @@
+-- What the proofs of src/bodies.rt use.
+pub mod BodiesStandAtTheirNumbers
