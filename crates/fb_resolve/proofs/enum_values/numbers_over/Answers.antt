@@ -1,13 +1,16 @@
-use Rattle.std.proofs.Common.{List, sym, arith, ◌≡◌, ◌∷◌, [], None, take, map, FitsSigned, rules, refl, Bool, Some}
-use Rattle.std.proofs.Common.{cond, ◌+◌, ap, ◌∙◌, true, false, ℤ, Option, ◌++◌}
+use Rattle.std.proofs.Common.{List, sym, arith, ◌≡◌, ◌∷◌, [], None, take, map, rules, refl, Bool, Some}
+use Rattle.std.proofs.Common.{length, get_or, drop, ℕ, ◌<◌, cond, ◌+◌, ap, ◌∙◌, true, false, ℤ, Option, ◌++◌}
 use Rattle.std.specs.Int.{w128}
+use mir.Val.{to_z, of_z}
 use Rattle.std.specs.List.{find, list_any}
 use Rattle.std.specs.Option.{is_some, option_or, option_map}
 use Rattle.std.specs.Str.{bytes_eq}
 use Rattle.std.proofs.lemmas.Grind.{common_steps}
 use Rattle.std.proofs.lemmas.Int.{to_z-of_z}
-use Rattle.fb_resolve.specs.EnumValues.{name_of_value, value_over, number_named, number_of}
+use Rattle.fb_resolve.specs.EnumValues.{name_of_value, value_number, value_over, number_named, number_of}
+use Rattle.fb_resolve.specs.RepeatedNames.{again_behind, repeated_names}
 use Rattle.fb_resolve.specs.ResolvedFields.{ResolvedValue}
+use Rattle.fb_syntax.specs.declared.declarations.EnumValue.{EnumValue}
 use Rattle.fb_schema.specs.Schema.{Name}
 use Rattle.fb_schema.specs.declared.kinds.Base.{Base}
 use Rattle.fb_resolve.proofs.enum_values.numbers_over.Goals as goal
@@ -41,8 +44,19 @@ named_more (w ∷ vs) v name = by (bytes_eq name w.0) (named_more vs v name)
     by true h = refl
     by false h = h
 
+-- the marks of one value more
+marked_more : (vs : List ResolvedValue) (i : ℕ) (v : ResolvedValue) (again : Bool) (marks more : List Bool)
+    → i < length vs → v ≡ get_or vs i v → again ≡ list_any (bytes_eq (name_of_value v)) (map name_of_value (take i vs))
+    → more ≡ marks ++ again ∷ []
+    → marks ++ again_behind bytes_eq name_of_value (take i vs) (drop i vs) ≡ repeated_names name_of_value vs
+    → more ++ again_behind bytes_eq name_of_value (take (i + 1) vs) (drop (i + 1) vs) ≡ repeated_names name_of_value vs
+marked_more vs i v again marks more within at is grown so_far = grind (arith, common_steps)
+
+mapped_more : {A B : Type 0} (f : A → B) (vs : List A) (i : ℕ) (v : A) → i < length vs → v ≡ get_or vs i v
+    → map f (take (i + 1) vs) ≡ map f (take i vs) ++ f v ∷ []
+mapped_more f vs i v within at = grind (arith, common_steps)
+
 pub loop-resolved-preserved : goal.loop-resolved-preserved
-unfolding number_named
 loop-resolved-preserved c =
     let r = c.resolved-item.result in
     let name = r.value.name.bytes in
@@ -51,25 +65,34 @@ loop-resolved-preserved c =
     let i = c.loop-resolved.resolved-index in
     let old = c.loop-resolved.numbers in
     let number = c.value_number-number.result in
+    let name_is = ap (λ (v : EnumValue). v.name.bytes) c.value.view_is
+    ∙ ap (λ (v : ResolvedValue). v.value.name.bytes) c.resolved.view_is in
     record {
       room = omega arith;
       repeats =
           let again : c.in_ok-note_number.field-0 ≡ list_any (bytes_eq name) (map name_of_value (take i values)) =
-          grind (
-            arith,
-            rules,
-            c.loop-resolved.invariant.numbers name,
-            named_again c.args.base c.args.flags (take i values) name,
-          ) in
-          grind (arith, common_steps, again, c.loop-resolved.invariant.repeats);
+          c.in_ok-note_number.ensures.again
+          ∙ ap (λ n. is_some (number_of old n))
+          name_is
+          ∙ ap is_some (c.loop-resolved.invariant.numbers name)
+          ∙ named_again c.args.base c.args.flags (take i values) name in
+          marked_more values i r c.in_ok-note_number.field-0 c.loop-resolved.repeats.items _ c.loop-resolved-test.true
+          c.resolved-item.is again c.push_reserved.ensures.items c.loop-resolved.invariant.repeats;
       numbers = λ other.
-          let more : map value (take (i + 1) values) ≡ map value (take i values) ++ value r ∷ [] =
-          grind (arith, common_steps) in
-          let same : (value r).1 ≡ number = grind rules in
-          let fits : FitsSigned w128 number = search rules in
+          let more = mapped_more value values i r c.loop-resolved-test.true c.resolved-item.is in
+          let same : (value r).1 ≡ number =
+          sym
+          (c.value_number-number.ensures
+          ∙ ap (value_number c.args.base c.args.flags)
+          (to_z-of_z w128 c.resolved.inside.number (search rules)
+          ∙ ap (λ (v : ResolvedValue). v.number) c.resolved.view_is)) in
           let noted : number_of c.note_number.new.numbers other ≡ option_or (number_of old other)
           (cond (bytes_eq other name) (Some number) None) =
-          grind (arith, rules, c.in_ok-note_number.ensures.numbers other, to_z-of_z w128 number fits) in
+          c.in_ok-note_number.ensures.numbers other
+          ∙ ap (λ n. option_or (number_of old other)
+          (cond (bytes_eq other n) (Some (to_z w128 (of_z w128 number))) None)) name_is
+          ∙ ap (λ n. option_or (number_of old other) (cond (bytes_eq other name) (Some n) None))
+          (to_z-of_z w128 number (search rules)) in
           noted
           ∙ ap (λ o. option_or o (cond (bytes_eq other name) (Some number) None))
           (c.loop-resolved.invariant.numbers other)
