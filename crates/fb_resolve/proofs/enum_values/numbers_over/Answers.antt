@@ -1,5 +1,5 @@
 use Rattle.std.proofs.Common.{List, sym, arith, ◌≡◌, ◌∷◌, [], None, take, map, rules, refl, Bool, Some}
-use Rattle.std.proofs.Common.{length, get_or, drop, ℕ, ◌<◌, cond, ◌+◌, ap, ◌∙◌, true, false, ℤ, Option, ◌++◌}
+use Rattle.std.proofs.Common.{length, get_or, drop, ℕ, ◌<◌, ◌≤◌, cond, ◌+◌, ap, ◌∙◌, true, false, ℤ, Option, ◌++◌}
 use Rattle.std.specs.Int.{w128}
 use mir.Val.{to_z, of_z}
 use Rattle.std.specs.List.{find, list_any}
@@ -7,6 +7,7 @@ use Rattle.std.specs.Option.{is_some, option_or, option_map}
 use Rattle.std.specs.Str.{bytes_eq}
 use Rattle.std.proofs.lemmas.Grind.{common_steps}
 use Rattle.std.proofs.lemmas.Int.{to_z-of_z}
+use Rattle.std.proofs.lemmas.List.{take_all}
 use Rattle.fb_resolve.specs.EnumValues.{name_of_value, value_number, value_over, number_named, number_of}
 use Rattle.fb_resolve.specs.RepeatedNames.{again_behind, repeated_names}
 use Rattle.fb_resolve.specs.ResolvedFields.{ResolvedValue}
@@ -56,6 +57,19 @@ mapped_more : {A B : Type 0} (f : A → B) (vs : List A) (i : ℕ) (v : A) → i
     → map f (take (i + 1) vs) ≡ map f (take i vs) ++ f v ∷ []
 mapped_more f vs i v within at = grind (arith, common_steps)
 
+-- the marks of all values
+marked_all : (vs : List ResolvedValue) (i : ℕ) (marks all : List Bool) → length vs ≤ i
+    → marks ++ again_behind bytes_eq name_of_value (take i vs) (drop i vs) ≡ all → marks ≡ all
+marked_all vs i marks all past so_far = grind (arith, common_steps)
+
+pub loop-resolved-init : goal.loop-resolved-init
+unfolding number_named
+loop-resolved-init c = record {
+  room = omega (arith, c.in_ok-repeats.ensures.len, c.in_ok-repeats.ensures.capacity);
+  repeats = rw c.in_ok-repeats.ensures.items refl;
+  numbers = λ name. rw c.in_ok-numbers.ensures.empty refl;
+}
+
 pub loop-resolved-preserved : goal.loop-resolved-preserved
 loop-resolved-preserved c =
     let r = c.resolved-item.result in
@@ -100,3 +114,13 @@ loop-resolved-preserved c =
           (cond (bytes_eq other name) (Some n) None)) (sym same)
           ∙ sym (ap (λ vs. number_named vs other) more ∙ named_more (map value (take i values)) (value r) other);
     }
+
+pub returns-clause-repeats : goal.returns-clause-repeats
+returns-clause-repeats c = marked_all c.args.values.now c.loop-resolved.resolved-index c.loop-resolved.repeats.items _
+    c.loop-resolved-test.false c.loop-resolved.invariant.repeats
+
+pub returns-clause-numbers : goal.returns-clause-numbers
+returns-clause-numbers c = λ name.
+    c.loop-resolved.invariant.numbers name
+    ∙ ap (λ vs. number_named (map (value_over c.args.base c.args.flags) vs) name)
+    (take_all c.loop-resolved.resolved-index c.args.values.now c.loop-resolved-test.false)
