@@ -2,6 +2,7 @@
 ghost use Rattle.std.specs.Prelude.{◌≡◌};
 
 use fb_schema::TypeId;
+use std::fmt;
 use thiserror::Error;
 
 /// What in a new schema breaks with the old one; types and slots by the old schema's numbers.
@@ -11,44 +12,31 @@ use thiserror::Error;
 #[derive(Clone, Copy, Debug, PartialEq, Eq, Drop, Error)]
 pub enum Breach {
     /// The roots' full names differ.
-    #[error("the root is a type of another name")]
     RootChanged,
     /// One schema has a file identifier and the other not, or they differ.
-    #[error("the file identifier changed")]
     IdentifierChanged,
     /// No new type has the old one's full name.
-    #[error("type {} is gone", .0.0)]
     TypeGone(TypeId),
     /// It was a table, struct, enum or union, and is another of these.
-    #[error("type {} is of another kind", .0.0)]
     KindChanged(TypeId),
     /// The struct's fields have other types, or it is aligned otherwise.
-    #[error("the struct, type {}, has another layout", .0.0)]
     StructChanged(TypeId),
     /// The new table has no such slot.
-    #[error("slot {} of type {} is gone", .1, .0.0)]
     SlotGone(TypeId, u16),
     /// The field has another type.
-    #[error("slot {} of type {} has another type", .1, .0.0)]
     FieldTypeChanged(TypeId, u16),
     /// The number has another default, or was optional and isn't, or the other way round.
-    #[error("slot {} of type {} has another default", .1, .0.0)]
     DefaultChanged(TypeId, u16),
     /// The field was required and isn't, or the other way round; a deprecated one never is.
-    #[error("slot {} of type {} is required in one schema alone", .1, .0.0)]
     RequiredChanged(TypeId, u16),
     /// The field was deprecated and isn't any more.
-    #[error("slot {} of type {} isn't deprecated any more", .1, .0.0)]
     DeprecatedTakenBack(TypeId, u16),
     /// A new field is required.
-    #[error("the new slot {} of type {} is required", .1, .0.0)]
     NewRequired(TypeId, u16),
     /// The enum has another underlying type or another `bit_flags` mark, or an old name is gone or
     /// has another number.
-    #[error("the enum, type {}, has lost values", .0.0)]
     EnumChanged(TypeId),
     /// An old code of the union is gone, or names a table of another full name.
-    #[error("the union, type {}, has lost members", .0.0)]
     UnionChanged(TypeId),
 }
 
@@ -124,5 +112,38 @@ impl Breach {
             | Breach::NewRequired(_, slot) => Some(slot),
             _ => None,
         }
+    }
+
+    // What is told of it before its slot and type, and behind them.
+    fn text(self) -> (&'static str, &'static str) {
+        match self {
+            Breach::RootChanged => ("the root is a type of another name", ""),
+            Breach::IdentifierChanged => ("the file identifier changed", ""),
+            Breach::TypeGone(_) => ("", " is gone"),
+            Breach::KindChanged(_) => ("", " is of another kind"),
+            Breach::StructChanged(_) => ("the struct, ", ", has another layout"),
+            Breach::SlotGone(_, _) => ("", " is gone"),
+            Breach::FieldTypeChanged(_, _) => ("", " has another type"),
+            Breach::DefaultChanged(_, _) => ("", " has another default"),
+            Breach::RequiredChanged(_, _) => ("", " is required in one schema alone"),
+            Breach::DeprecatedTakenBack(_, _) => ("", " isn't deprecated any more"),
+            Breach::NewRequired(_, _) => ("the new ", " is required"),
+            Breach::EnumChanged(_) => ("the enum, ", ", has lost values"),
+            Breach::UnionChanged(_) => ("the union, ", ", has lost members"),
+        }
+    }
+}
+
+impl fmt::Display for Breach {
+    fn fmt<W: fmt::Write>(&self, f: &mut fmt::Formatter<W>) -> fmt::Result {
+        let (front, behind) = self.text();
+        f.write_str(front)?;
+        if let Some(slot) = self.slot() {
+            write!(f, "slot {slot} of ")?;
+        }
+        if let Some(TypeId(number)) = self.type_id() {
+            write!(f, "type {number}")?;
+        }
+        f.write_str(behind)
     }
 }
