@@ -118,3 +118,24 @@ returns-in_default g c =
     body_walked A B _ t _ _ c.report.result u twins (KindChanged c.args.type_id) refl refl (omega arith) own
     c.requires.before (reported A B _ (KindChanged c.args.type_id) _ _ c.report.result (kind_stands A B t u twins own)
     c.report.ensures.more c.report.ensures.stopped)
+
+pub body_of-was-requires : goal.body_of-was-requires
+body_of-was-requires g c = rw c.schema.ensures.schema c.requires.known
+
+pub body_of-is-requires : goal.body_of-is-requires
+body_of-is-requires g c = rw c.schema-2.ensures.schema c.requires.found
+
+pub walk_slots-requires-clause-tables : goal.walk_slots-requires-clause-tables
+walk_slots-requires-clause-tables g c =
+    let was = ap (λ (S : DeclaredSchema). body_at S c.args.type_id.0) (sym c.schema.ensures.schema)
+    ∙ sym c.body_of-was.ensures ∙ ap body_seen c.in-Table-Table.is-0 in
+    let is = ap (λ (S : DeclaredSchema). body_at S c.args.twin.0) (sym c.schema-2.ensures.schema)
+    ∙ sym c.body_of-is.ensures ∙ ap body_seen c.in-Table-Table.is-1 in
+    record { twins = c.requires.twins; old = rw was refl; new = rw is refl }
+
+pub has_values-kept-requires : goal.has_values-kept-requires
+has_values-kept-requires g c =
+    rw c.schema-then-same_numbers.ensures.schema c.schema-then-same_numbers.ensures.made.declared
+
+pub returns-in-Table-Table : goal.returns-in-Table-Table
+returns-in-Table-Table g c = c.walk_slots.ensures
