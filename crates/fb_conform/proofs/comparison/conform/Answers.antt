@@ -1,11 +1,11 @@
 use Rattle.std.proofs.Common.{◌≡◌, ◌↔◌, List, [], Result, Ok, Err, rules}
 use Rattle.std.specs.Bool.{⊤}
-use Rattle.std.specs.Prelude.{IsOk, IfErr}
+use Rattle.std.specs.Prelude.{IsOk}
 use Rattle.fb_layout.specs.Laid.{LaidSchema}
 use Rattle.fb_conform.specs.declared.breaches.Breach.{Breach}
 use Rattle.fb_conform.specs.Conforms.{Conforms}
 use Rattle.fb_conform.specs.Listed.{Walks}
-use Rattle.fb_conform.specs.Order.{IsFirst, IsAny}
+use Rattle.fb_conform.specs.Order.{IsAny}
 use Rattle.fb_conform.proofs.comparison.conform.Goals as goal
 
 abbrev StopsAtOnce : List Breach → Breach → Breach → Type 0
