@@ -1,4 +1,7 @@
 -- What the proofs of src/visit_tables.rt use.
+pub mod CountsGoOn
+pub mod EndsAtAPlace
+pub mod EndsAtASlot
 pub mod EnteredPartsAreCounted
 pub mod FrontIsFreeOfFaults
 pub mod HearsTheWayBack

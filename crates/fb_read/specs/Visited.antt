@@ -10,7 +10,9 @@ use Rattle.fb_read.specs.declared.part.Part.{Part}
 use Rattle.fb_read.specs.declared.part.Part.TheVariants.{Text, Table, Vector}
 use Rattle.fb_read.specs.declared.buffer.Buffer.{Buffer}
 use Rattle.fb_read.specs.declared.visited.Visited.{Visited}
-use Rattle.fb_read.specs.Walks.{visit_in}
+use Rattle.fb_read.specs.declared.walk.Mark.{Mark}
+use Rattle.fb_read.specs.declared.walk.Walk.{Walk}
+use Rattle.fb_read.specs.Walks.{visit_in, EntersAt}
 
 -- what a part is a target for
 abbrev pub target_in : LaidSchema → Part → Target
@@ -31,6 +33,14 @@ pub record Takes (buffer : Buffer) (x : Place) (tables spent : ℕ) (visited : V
   pub visit : visit_in buffer x tables spent ≡ Ok (spent + visited.cells)
   pub few : spent + visited.cells ≤ buffer.most_cells
   pub counted : IsCounted buffer x visited
+
+-- A walk has visited a place since a mark, and found no fault.
+pub record HasVisited {V : Type 0} (knows : V → Buffer → Type 0) (buffer : Buffer) (x : Place) (tables : ℕ)
+    (mark : Mark) (walk : Walk V) : Type 0 where
+  pub known : knows walk.visitor buffer
+  pub visit : visit_in buffer x tables mark.spent ≡ Ok walk.spent
+  pub ticks : walk.ticks + mark.spent ≤ mark.parts + walk.spent
+  pub each : EntersAt buffer x mark.parts walk.ticks
 
 -- So does each visit with at most as many tables above it, where its cells are within the limit.
 pub record IsVisited (buffer : Buffer) (x : Place) (visited : Visited) : Type 0 where

@@ -1,19 +1,18 @@
 //! Visits of what names no table.
 ghost use Rattle.std.specs.Prelude.{◌≡◌, ℕ, ◌+◌, ◌*◌, ◌<◌, ◌≤◌, ◌^◌, length, List, IsTrue};
-ghost use Rattle.std.specs.Prelude.{Ok, OnOk, IfOk, IfErr, Some, Option};
+ghost use Rattle.std.specs.Prelude.{Ok, OnOk, IfOk, IfErr, Option};
 ghost use Rattle.fb_layout.specs.Laid.{LaidSchema, Slot, stored_kind};
 ghost use Rattle.fb_value.specs.Num.{num};
 ghost use Rattle.fb_value.specs.Places.{is_present, text_part, ref_place, part_place, inline_place};
 ghost use Rattle.fb_value.specs.Places.{code_place, next_required};
 ghost use Rattle.fb_value.specs.Nth.{slot_place};
 ghost use Rattle.fb_value.specs.Datum.{Datum, SlotEntries};
-ghost use Rattle.fb_read.specs.Values.{Gives, KeepsAt, KeepsInline, KeepsEntry};
+ghost use Rattle.fb_read.specs.Values.{Gives, KeepsInline, KeepsEntry};
 ghost use Rattle.fb_read.specs.Stored.{number_entry, defaults_of};
 ghost use Rattle.fb_read.specs.Tails.{entries_from, entry_before};
 ghost use Rattle.fb_read.specs.Visits.{Visits, slot_seen, slots_seen};
-ghost use Rattle.fb_read.specs.FaultPaths.{Hears};
-ghost use Rattle.fb_read.specs.Walks.{place, visit_in, visit_entry_in, HasVtable, IsWithin};
-ghost use Rattle.fb_read.specs.Walks.{TicksWithin, EntersAt, EntersSlot};
+ghost use Rattle.fb_read.specs.Walks.{place, visit_in, visit_entry_in, HasVtable, IsWithin, EntersSlot};
+ghost use Rattle.fb_read.specs.Ends.{EndsAt};
 
 use crate::buffer::Buffer;
 use crate::kinds::base_of;
@@ -38,15 +37,8 @@ pub fn visit_text<V: Visitor>(
 ) -> Result<V::Kept, ReadFault>
     requires low { at < 2 ^ 33 }
     requires few { walk.old.spent ≤ buffer.now.most_cells }
-    ensures visit { (tables : ℕ) → Gives V.takes_memory result walk.new.spent (visit_in buffer.now (place
-        (part_place text_part) at) tables walk.old.spent) }
-    ensures few { OnOk result (walk.new.spent ≤ buffer.now.most_cells) }
-    ensures ticks { TicksWithin buffer.now walk.old walk.new result }
-    ensures each { OnOk result (EntersAt buffer.now (place
-        (part_place text_part) at) walk.old.ticks walk.new.ticks) }
-    ensures hears { (tables : ℕ) → Hears V.takes_memory V.told buffer.now (Some (place (part_place text_part) at))
-        tables walk.old.spent walk.old.visitor walk.new.visitor result }
-    ensures kept { IfOk result (KeepsAt V.keeps buffer.now (place (part_place text_part) at)) }
+    ensures { (tables : ℕ) → EndsAt V.takes_memory V.told V.keeps buffer.now (place (part_place text_part) at) tables
+        walk.old walk.new result }
 {
     walk.ticks.tick();
     let text = open_text(buffer.bytes, at)?;
@@ -70,15 +62,8 @@ pub fn visit_text_behind<V: Visitor>(
 ) -> Result<V::Kept, ReadFault>
     requires low { at < 2 ^ 33 }
     requires limits { IsWithin V.knows buffer.now tables walk.old }
-    ensures visit { Gives V.takes_memory result walk.new.spent (visit_in buffer.now (place
-        (ref_place text_part) at) tables walk.old.spent) }
-    ensures few { OnOk result (walk.new.spent ≤ buffer.now.most_cells) }
-    ensures ticks { TicksWithin buffer.now walk.old walk.new result }
-    ensures each { OnOk result (EntersAt buffer.now (place
-        (ref_place text_part) at) walk.old.ticks walk.new.ticks) }
-    ensures hears { Hears V.takes_memory V.told buffer.now (Some (place (ref_place text_part) at)) tables
-        walk.old.spent walk.old.visitor walk.new.visitor result }
-    ensures kept { IfOk result (KeepsAt V.keeps buffer.now (place (ref_place text_part) at)) }
+    ensures { EndsAt V.takes_memory V.told V.keeps buffer.now (place (ref_place text_part) at) tables
+        walk.old walk.new result }
 {
     let target = follow(buffer.bytes, at)?;
     if let Some(kept) = pass_over(buffer, walk, Part::Text, at, target, tables) {

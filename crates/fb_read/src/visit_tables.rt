@@ -2,19 +2,15 @@
 //!
 //! A call passes slices and results through memory, which costs more than most rules. So all that is
 //! done at a table is inlined into `visit_table`, but for what is seldom or has a loop of its own.
-ghost use Rattle.std.specs.Prelude.{◌≡◌, ◌+◌, ◌*◌, ◌<◌, ◌≤◌, ◌^◌, length, OnOk, IfOk, Some, None, Err};
+ghost use Rattle.std.specs.Prelude.{◌≡◌, ◌+◌, ◌*◌, ◌<◌, ◌≤◌, ◌^◌, length, Some, None, Err};
 ghost use Rattle.fb_layout.specs.Laid.{StoredKind, Slot, stored_kind, member_by_code};
 ghost use Rattle.fb_value.specs.Num.{num};
-ghost use Rattle.fb_value.specs.Places.{table_part, vector_part, ref_place, part_place, named_slots};
-ghost use Rattle.fb_value.specs.Places.{named_elements, target_of};
-ghost use Rattle.fb_value.specs.Nth.{slot_place};
+ghost use Rattle.fb_value.specs.Places.{table_part, vector_part, ref_place, part_place, named_elements, target_of};
 ghost use Rattle.fb_read.specs.Visits.{slot_seen, slots_seen, union_place};
-ghost use Rattle.fb_read.specs.Values.{led_to, Gives, KeepsAt, KeepsInSlot, KeepsSlots, KeepsItems};
-ghost use Rattle.fb_read.specs.Values.{IsOpen, IsOpenBehind};
+ghost use Rattle.fb_read.specs.Values.{led_to, KeepsInSlot, KeepsSlots, KeepsItems, IsOpen, IsOpenBehind};
 ghost use Rattle.fb_read.specs.declared.step.Step.{Step};
-ghost use Rattle.fb_read.specs.FaultPaths.{Hears, HearsEach};
-ghost use Rattle.fb_read.specs.Walks.{place, visit_in, visit_each_in, visit_entry_in, HasVtable, IsWithin};
-ghost use Rattle.fb_read.specs.Walks.{TicksWithin, EntersAt, EntersSlot, EntersSlots, EntersItems};
+ghost use Rattle.fb_read.specs.Walks.{place, HasVtable, IsWithin, EntersSlots, EntersItems};
+ghost use Rattle.fb_read.specs.Ends.{EndsAt, EndsAtEntry, EndsAtEach, slot_at, slots_at};
 
 use crate::buffer::Buffer;
 use crate::kinds::{align_in, reference_of, size_in};
@@ -45,15 +41,8 @@ pub fn visit_table_behind<V: Visitor>(
 ) -> Result<V::Kept, ReadFault>
     requires low { at < 2 ^ 33 }
     requires limits { IsWithin V.knows buffer.now tables walk.old }
-    ensures visit { Gives V.takes_memory result walk.new.spent (visit_in buffer.now (place (ref_place
-        (table_part table.0)) at) tables walk.old.spent) }
-    ensures few { OnOk result (walk.new.spent ≤ buffer.now.most_cells) }
-    ensures ticks { TicksWithin buffer.now walk.old walk.new result }
-    ensures each { OnOk result (EntersAt buffer.now (place (ref_place
-        (table_part table.0)) at) walk.old.ticks walk.new.ticks) }
-    ensures hears { Hears V.takes_memory V.told buffer.now (Some (place (ref_place (table_part table.0)) at)) tables
-        walk.old.spent walk.old.visitor walk.new.visitor result }
-    ensures kept { IfOk result (KeepsAt V.keeps buffer.now (place (ref_place (table_part table.0)) at)) }
+    ensures visit { EndsAt V.takes_memory V.told V.keeps buffer.now (place (ref_place (table_part table.0)) at)
+        tables walk.old walk.new result }
     ensures open { result ≡ Err ReadFault.Memory → IsOpenBehind buffer.now table.0 at tables walk.old.spent }
 {
     let target = follow(buffer.bytes, at)?;
@@ -78,15 +67,8 @@ fn visit_table<V: Visitor>(
 ) -> Result<V::Kept, ReadFault>
     requires low { at < 2 ^ 33 }
     requires limits { IsWithin V.knows buffer.now tables walk.old }
-    ensures visit { Gives V.takes_memory result walk.new.spent (visit_in buffer.now (place (part_place
-        (table_part table.0)) at) tables walk.old.spent) }
-    ensures few { OnOk result (walk.new.spent ≤ buffer.now.most_cells) }
-    ensures ticks { TicksWithin buffer.now walk.old walk.new result }
-    ensures each { OnOk result (EntersAt buffer.now (place (part_place
-        (table_part table.0)) at) walk.old.ticks walk.new.ticks) }
-    ensures hears { Hears V.takes_memory V.told buffer.now (Some (place (part_place (table_part table.0)) at)) tables
-        walk.old.spent walk.old.visitor walk.new.visitor result }
-    ensures kept { IfOk result (KeepsAt V.keeps buffer.now (place (part_place (table_part table.0)) at)) }
+    ensures visit { EndsAt V.takes_memory V.told V.keeps buffer.now (place (part_place (table_part table.0)) at)
+        tables walk.old walk.new result }
     ensures open { result ≡ Err ReadFault.Memory → IsOpen buffer.now table.0 at tables walk.old.spent }
 {
     walk.ticks.tick();
@@ -117,22 +99,12 @@ fn visit_slots<V: Visitor>(
     requires vtable { HasVtable buffer.now.bytes.now table }
     requires slots { length slots.now < 2 ^ 15 }
     requires limits { IsWithin V.knows buffer.now tables walk.old }
-    ensures visit { Gives V.takes_memory result walk.new.spent (visit_each_in buffer.now
-        (named_slots buffer.now.layout.now buffer.now.bytes.now table.at 0
-        (slots_seen buffer.now.layout.now slots.now)) tables walk.old.spent) }
-    ensures few { OnOk result (walk.new.spent ≤ buffer.now.most_cells) }
-    ensures ticks { TicksWithin buffer.now walk.old walk.new result }
-    ensures each { OnOk result (EntersSlots buffer.now (slots_seen buffer.now.layout.now slots.now)
-        (named_slots buffer.now.layout.now buffer.now.bytes.now table.at 0
-        (slots_seen buffer.now.layout.now slots.now)) walk.old.ticks walk.new.ticks) }
-    ensures hears { HearsEach V.takes_memory V.told (λ k. Step.Slot owner k) buffer.now
-        (named_slots buffer.now.layout.now buffer.now.bytes.now table.at 0
-        (slots_seen buffer.now.layout.now slots.now)) tables walk.old.spent
-        walk.old.visitor walk.new.visitor result }
-    ensures kept { IfOk result (KeepsSlots V.has_entries buffer.now
-        (slots_seen buffer.now.layout.now slots.now)
-        (named_slots buffer.now.layout.now buffer.now.bytes.now table.at 0
-        (slots_seen buffer.now.layout.now slots.now)) (length slots.now)) }
+    ensures { EndsAtEach V.takes_memory V.told (λ k. Step.Slot owner k) buffer.now
+        (slots_at buffer.now table.at slots.now) tables
+        (λ before after. EntersSlots buffer.now (slots_seen buffer.now.layout.now slots.now)
+        (slots_at buffer.now table.at slots.now) before after)
+        (λ kept. KeepsSlots V.has_entries buffer.now (slots_seen buffer.now.layout.now slots.now)
+        (slots_at buffer.now table.at slots.now) (length slots.now) kept) walk.old walk.new result }
 {
     let present = stored_slots(buffer.bytes, table.at, table.vtable_at, slots.len());
     let mut entries = walk.visitor.no_entries(slots.len())?;
@@ -167,20 +139,10 @@ fn visit_slot<V: Visitor>(
     requires held { 6 + 2 * slot ≤ num buffer.now.bytes.now table.vtable_at 2 }
     requires slots { slot < 2 ^ 15 }
     requires limits { IsWithin V.knows buffer.now tables walk.old }
-    ensures visit { Gives V.takes_memory result walk.new.spent (visit_entry_in buffer.now (slot_place
-        buffer.now.layout.now buffer.now.bytes.now table.at slot (slots_seen buffer.now.layout.now later.now)
-        (slot_seen buffer.now.layout.now field.now)) tables walk.old.spent) }
-    ensures few { OnOk result (walk.new.spent ≤ buffer.now.most_cells) }
-    ensures ticks { TicksWithin buffer.now walk.old walk.new result }
-    ensures each { OnOk result (EntersSlot buffer.now (slot_place buffer.now.layout.now
-        buffer.now.bytes.now table.at slot (slots_seen buffer.now.layout.now later.now)
-        (slot_seen buffer.now.layout.now field.now)) walk.old.ticks walk.new.ticks) }
-    ensures hears { Hears V.takes_memory V.told buffer.now (slot_place buffer.now.layout.now buffer.now.bytes.now
-        table.at slot (slots_seen buffer.now.layout.now later.now) (slot_seen buffer.now.layout.now field.now))
-        tables walk.old.spent walk.old.visitor walk.new.visitor result }
-    ensures kept { IfOk result (KeepsInSlot V.keeps buffer.now (slot_seen buffer.now.layout.now field.now)
-        (slot_place buffer.now.layout.now buffer.now.bytes.now table.at slot
-        (slots_seen buffer.now.layout.now later.now) (slot_seen buffer.now.layout.now field.now))) }
+    ensures { EndsAtEntry V.takes_memory V.told
+        (λ kept. KeepsInSlot V.keeps buffer.now (slot_seen buffer.now.layout.now field.now)
+        (slot_at buffer.now table.at slot later.now field.now) kept) buffer.now
+        (slot_at buffer.now table.at slot later.now field.now) tables walk.old walk.new result }
 {
     if field.deprecated {
         return Ok(None);
@@ -229,17 +191,10 @@ fn visit_union<V: Visitor>(
 ) -> Result<Option<V::Kept>, ReadFault>
     requires low { at < 2 ^ 33 }
     requires limits { IsWithin V.knows buffer.now tables walk.old }
-    ensures visit { Gives V.takes_memory result walk.new.spent (visit_entry_in buffer.now (union_place code at
-        (member_by_code buffer.now.layout.now union.0 code)) tables walk.old.spent) }
-    ensures few { OnOk result (walk.new.spent ≤ buffer.now.most_cells) }
-    ensures ticks { TicksWithin buffer.now walk.old walk.new result }
-    ensures each { OnOk result (EntersSlot buffer.now (union_place code at
-        (member_by_code buffer.now.layout.now union.0 code)) walk.old.ticks walk.new.ticks) }
-    ensures hears { Hears V.takes_memory V.told buffer.now (union_place code at
-        (member_by_code buffer.now.layout.now union.0 code)) tables walk.old.spent
-        walk.old.visitor walk.new.visitor result }
-    ensures kept { IfOk result (λ kept. (f : Slot) → f.if_absent ≡ None → KeepsInSlot V.keeps buffer.now f
-        (union_place code at (member_by_code buffer.now.layout.now union.0 code)) kept) }
+    ensures { EndsAtEntry V.takes_memory V.told
+        (λ kept. (f : Slot) → f.if_absent ≡ None → KeepsInSlot V.keeps buffer.now f
+        (union_place code at (member_by_code buffer.now.layout.now union.0 code)) kept) buffer.now
+        (union_place code at (member_by_code buffer.now.layout.now union.0 code)) tables walk.old walk.new result }
 {
     match buffer.layout.schema().member_by_code(union, code) {
         Some(table) => {
@@ -263,17 +218,9 @@ pub fn visit_vector_behind<V: Visitor>(
 ) -> Result<V::Kept, ReadFault>
     requires low { at < 2 ^ 33 }
     requires limits { IsWithin V.knows buffer.now tables walk.old }
-    ensures visit { Gives V.takes_memory result walk.new.spent (visit_in buffer.now (place (ref_place (vector_part
-        (stored_kind buffer.now.layout.now.schema kind))) at) tables walk.old.spent) }
-    ensures few { OnOk result (walk.new.spent ≤ buffer.now.most_cells) }
-    ensures ticks { TicksWithin buffer.now walk.old walk.new result }
-    ensures each { OnOk result (EntersAt buffer.now (place (ref_place (vector_part
-        (stored_kind buffer.now.layout.now.schema kind))) at) walk.old.ticks walk.new.ticks) }
-    ensures hears { Hears V.takes_memory V.told buffer.now (Some (place (ref_place (vector_part
-        (stored_kind buffer.now.layout.now.schema kind))) at)) tables walk.old.spent
-        walk.old.visitor walk.new.visitor result }
-    ensures kept { IfOk result (KeepsAt V.keeps buffer.now (place (ref_place (vector_part
-        (stored_kind buffer.now.layout.now.schema kind))) at)) }
+    ensures { EndsAt V.takes_memory V.told V.keeps buffer.now (place (ref_place (vector_part
+        (stored_kind buffer.now.layout.now.schema kind))) at)
+        tables walk.old walk.new result }
 {
     let target = follow(buffer.bytes, at)?;
     let part = Part::Vector(kind);
@@ -298,17 +245,9 @@ fn visit_vector<V: Visitor>(
 ) -> Result<V::Kept, ReadFault>
     requires low { at < 2 ^ 33 }
     requires limits { IsWithin V.knows buffer.now tables walk.old }
-    ensures visit { Gives V.takes_memory result walk.new.spent (visit_in buffer.now (place (part_place (vector_part
-        (stored_kind buffer.now.layout.now.schema kind))) at) tables walk.old.spent) }
-    ensures few { OnOk result (walk.new.spent ≤ buffer.now.most_cells) }
-    ensures ticks { TicksWithin buffer.now walk.old walk.new result }
-    ensures each { OnOk result (EntersAt buffer.now (place (part_place (vector_part
-        (stored_kind buffer.now.layout.now.schema kind))) at) walk.old.ticks walk.new.ticks) }
-    ensures hears { Hears V.takes_memory V.told buffer.now (Some (place (part_place (vector_part
-        (stored_kind buffer.now.layout.now.schema kind))) at)) tables walk.old.spent
-        walk.old.visitor walk.new.visitor result }
-    ensures kept { IfOk result (KeepsAt V.keeps buffer.now (place (part_place (vector_part
-        (stored_kind buffer.now.layout.now.schema kind))) at)) }
+    ensures { EndsAt V.takes_memory V.told V.keeps buffer.now (place (part_place (vector_part
+        (stored_kind buffer.now.layout.now.schema kind))) at)
+        tables walk.old walk.new result }
 {
     walk.ticks.tick();
     let size = size_in(buffer.layout, kind);
@@ -345,17 +284,13 @@ fn visit_elements<V: Visitor>(
 ) -> Result<V::Kept, ReadFault>
     requires within { at + count * 4 ≤ length buffer.now.bytes.now }
     requires limits { IsWithin V.knows buffer.now tables walk.old }
-    ensures visit { Gives V.takes_memory result walk.new.spent (visit_each_in buffer.now
-        (named_elements (led_to reference) at count) tables walk.old.spent) }
-    ensures few { OnOk result (walk.new.spent ≤ buffer.now.most_cells) }
-    ensures ticks { TicksWithin buffer.now walk.old walk.new result }
-    ensures each { (kind : StoredKind) → target_of kind ≡ Some (led_to reference)
-        → OnOk result (EntersItems buffer.now kind at count walk.old.ticks walk.new.ticks) }
-    ensures hears { HearsEach V.takes_memory V.told (λ i. Step.Element i) buffer.now
-        (named_elements (led_to reference) at count) tables walk.old.spent
-        walk.old.visitor walk.new.visitor result }
-    ensures kept { IfOk result (λ kept. (kind : StoredKind) → target_of kind ≡ Some (led_to reference)
-        → KeepsItems V.keeps buffer.now.layout.now buffer.now.bytes.now kind at count kept) }
+    ensures { EndsAtEach V.takes_memory V.told (λ i. Step.Element i) buffer.now
+        (named_elements (led_to reference) at count) tables
+        (λ before after. (kind : StoredKind) → target_of kind ≡ Some (led_to reference)
+        → EntersItems buffer.now kind at count before after)
+        (λ kept. (kind : StoredKind) → target_of kind ≡ Some (led_to reference)
+        → KeepsItems V.keeps buffer.now.layout.now buffer.now.bytes.now kind at count kept)
+        walk.old walk.new result }
 {
     let mut elements = walk.visitor.no_elements(count)?;
     for i in 0..count {
@@ -377,15 +312,8 @@ fn visit_behind<V: Visitor>(
 ) -> Result<V::Kept, ReadFault>
     requires low { at < 2 ^ 33 }
     requires limits { IsWithin V.knows buffer.now tables walk.old }
-    ensures visit { Gives V.takes_memory result walk.new.spent (visit_in buffer.now (place
-        (ref_place (led_to reference)) at) tables walk.old.spent) }
-    ensures few { OnOk result (walk.new.spent ≤ buffer.now.most_cells) }
-    ensures ticks { TicksWithin buffer.now walk.old walk.new result }
-    ensures each { OnOk result (EntersAt buffer.now (place
-        (ref_place (led_to reference)) at) walk.old.ticks walk.new.ticks) }
-    ensures hears { Hears V.takes_memory V.told buffer.now (Some (place (ref_place (led_to reference)) at)) tables
-        walk.old.spent walk.old.visitor walk.new.visitor result }
-    ensures kept { IfOk result (KeepsAt V.keeps buffer.now (place (ref_place (led_to reference)) at)) }
+    ensures { EndsAt V.takes_memory V.told V.keeps buffer.now (place (ref_place (led_to reference)) at)
+        tables walk.old walk.new result }
 {
     match reference {
         Reference::ToText => visit_text_behind(buffer, walk, at, tables),

@@ -1,10 +1,8 @@
 //! What a walk carries along.
-ghost use Rattle.std.specs.Prelude.{◌≡◌, ◌+◌, ◌<◌, ◌≤◌, ◌^◌, List, ◌∷◌, None, Ok};
-ghost use Rattle.std.specs.Prelude.{IfSome, OnOk, MatchResult};
+ghost use Rattle.std.specs.Prelude.{◌≡◌, ◌<◌, ◌^◌, List, ◌∷◌, None, IfSome, OnOk, MatchResult};
 ghost use Rattle.fb_read.specs.declared.step.Step.{Step};
-ghost use Rattle.fb_read.specs.Values.{KeepsAt};
-ghost use Rattle.fb_read.specs.Visited.{part_at};
-ghost use Rattle.fb_read.specs.Walks.{visit_in, EntersAt};
+ghost use Rattle.fb_read.specs.Visited.{part_at, HasVisited};
+ghost use Rattle.fb_read.specs.Ends.{PassesAt};
 
 use crate::buffer::Buffer;
 use crate::part::Part;
@@ -70,16 +68,9 @@ pub fn pass_over<V: Visitor>(
 ) -> Option<V::Kept>
     requires knows { V.knows walk.old.visitor buffer.now }
     requires low { at < 2 ^ 33 }
-    ensures silent { walk.new.visitor ≡ walk.old.visitor }
-    ensures spent { result ≡ None → walk.new.spent ≡ walk.old.spent }
-    ensures entered { result ≡ None → walk.new.ticks ≡ walk.old.ticks }
-    ensures visit { IfSome result (λ _. visit_in buffer.now (part_at buffer.now part at) tables walk.old.spent
-        ≡ Ok walk.new.spent) }
-    ensures few { IfSome result (λ _. walk.new.spent ≤ buffer.now.most_cells) }
-    ensures ticks { IfSome result (λ _. walk.new.ticks + walk.old.spent ≤ walk.old.ticks + walk.new.spent) }
-    ensures each { IfSome result (λ _. EntersAt buffer.now (part_at buffer.now part at) walk.old.ticks
-        walk.new.ticks) }
-    ensures kept { IfSome result (KeepsAt V.keeps buffer.now (part_at buffer.now part at)) }
+    ensures before { result ≡ None → walk.new ≡ walk.old }
+    ensures known { IfSome result (λ kept. PassesAt V.keeps buffer.now (part_at buffer.now part at) tables walk.old
+        walk.new kept) }
 {
     let known = walk
         .visitor
@@ -101,11 +92,7 @@ pub fn leave<V: Visitor, T>(
     mark: Mark,
     visited: &Result<T, ReadFault>,
 )
-    requires knows { OnOk visited.now (V.knows walk.old.visitor buffer.now) }
-    requires visit { OnOk visited.now (visit_in buffer.now (part_at buffer.now part at) tables mark.spent
-        ≡ Ok walk.old.spent) }
-    requires ticks { OnOk visited.now (walk.old.ticks + mark.spent ≤ mark.parts + walk.old.spent) }
-    requires each { OnOk visited.now (EntersAt buffer.now (part_at buffer.now part at) mark.parts walk.old.ticks) }
+    requires { OnOk visited.now (HasVisited V.knows buffer.now (part_at buffer.now part at) tables mark walk.old) }
     ensures spent { walk.new.spent ≡ walk.old.spent }
     ensures ticks { walk.new.ticks ≡ walk.old.ticks }
     ensures told { MatchResult visited.now (λ _. walk.new.visitor ≡ walk.old.visitor)

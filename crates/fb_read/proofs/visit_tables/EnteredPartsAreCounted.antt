@@ -4,12 +4,12 @@ use Rattle.std.proofs.Common.{drop, slice_index_or, Option, None, Some, Result, 
 use Rattle.std.proofs.lemmas.Bool.{leb-true}
 use Rattle.std.proofs.lemmas.Bool.Decides.{nat_tests}
 use Rattle.fb_layout.specs.Laid.{LaidSchema, Slot, StoredKind, scalar_kind, struct_kind, table_kind, text_kind}
-use Rattle.fb_layout.specs.Laid.{parts_of, struct_at, size_of}
+use Rattle.fb_layout.specs.Laid.{parts_of, slots_of, struct_at, size_of}
 use Rattle.fb_value.specs.Datum.{Datum, a_number, a_text, a_vector, a_struct, a_table, a_member, an_unknown, Parts}
 use Rattle.fb_value.specs.Datum.{no_parts, more_parts, SlotEntries, no_entries, absent_entry, present_entry, count}
 use Rattle.fb_value.specs.Counts.{entered, parts_entered, entries_entered}
 use Rattle.fb_value.specs.Num.{Bytes, num}
-use Rattle.fb_value.specs.Places.{Target, table_part, member_part, vector_part, ref_place, part_place}
+use Rattle.fb_value.specs.Places.{Target, table_part, member_part, text_part, vector_part, ref_place, part_place}
 use Rattle.fb_value.specs.Places.{inline_place, named_slots, target_of, slot_number}
 use Rattle.fb_value.specs.Rules.{fault_by}
 use Rattle.fb_value.specs.Lies.{LiesInline, LiesParts, Element, Lies, LiesAt, LiesItems, LiesSlots}
@@ -60,6 +60,30 @@ vector_entered L b kind p n old new is known (a_number m) lies = absurd lies
 vector_entered L b kind p n old new is known (a_struct ds) lies = absurd lies
 vector_entered L b kind p n old new is known (a_member c d) lies = absurd lies
 vector_entered L b kind p n old new is known (an_unknown c) lies = absurd lies
+
+-- a table and what its entries have
+pub table_entered : (L : LaidSchema) (b : Bytes) (t p old new : ℕ)
+    → ((es : SlotEntries) → LiesSlots L b (slots_of L t) (named_slots L b p 0 (slots_of L t)) es
+    → new ≡ (old + 1) + entries_entered es)
+    → (d : Datum) → LiesAt L b (part_place (table_part t)) p d → new ≡ old + entered d
+table_entered L b t p old new known (a_table type es) lies = let all = known es lies.2 in omega (arith, all)
+table_entered L b t p old new known (a_vector ds) lies = absurd lies
+table_entered L b t p old new known (a_text bytes) lies = absurd lies
+table_entered L b t p old new known (a_number m) lies = absurd lies
+table_entered L b t p old new known (a_struct ds) lies = absurd lies
+table_entered L b t p old new known (a_member c d) lies = absurd lies
+table_entered L b t p old new known (an_unknown c) lies = absurd lies
+
+-- a text
+pub text_entered : (L : LaidSchema) (b : Bytes) (p old new : ℕ) → new ≡ old + 1
+    → (d : Datum) → LiesAt L b (part_place text_part) p d → new ≡ old + entered d
+text_entered L b p old new is (a_text bytes) lies = is
+text_entered L b p old new is (a_table type es) lies = absurd lies
+text_entered L b p old new is (a_vector ds) lies = absurd lies
+text_entered L b p old new is (a_number m) lies = absurd lies
+text_entered L b p old new is (a_struct ds) lies = absurd lies
+text_entered L b p old new is (a_member c d) lies = absurd lies
+text_entered L b p old new is (an_unknown c) lies = absurd lies
 
 -- elements that are no references have none
 element_free : (L : LaidSchema) (b : Bytes) (kind : StoredKind) (p : ℕ) (o : Option Target) (d : Datum) → o ≡ None

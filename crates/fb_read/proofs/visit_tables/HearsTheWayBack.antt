@@ -1,22 +1,20 @@
 -- What a visitor hears of a place, by what it hears of those that the place names.
-use Rattle.std.proofs.Common.{◌≡◌, ℕ, ◌+◌, ◌<◌, ◌≤◌, List, [], ◌∷◌, None, Some, Option, Result, Ok}
-use Rattle.std.proofs.Common.{Err, MatchResult, OnOk}
+use Rattle.std.proofs.Common.{◌≡◌, ℕ, ◌+◌, ◌<◌, ◌≤◌, List, [], ◌∷◌, None, Some, Ok, Err}
 use Rattle.std.proofs.Common.{refl, sym, ap, ◌∙◌, arith, add-zero}
 use Rattle.fb_schema.specs.declared.kinds.TypeId.{TypeId}
 use Rattle.fb_layout.specs.Laid.{StoredKind, slots_of}
 use Rattle.fb_value.specs.declared.faults.ReadFault.{ReadFault}
-use Rattle.fb_value.specs.declared.faults.ReadFault.TheVariants.{TooDeep, TooManyCells}
 use Rattle.fb_value.specs.Num.{num}
 use Rattle.fb_value.specs.Places.{Target, table_part, member_part, vector_part, ref_place, part_place, Place, named}
 use Rattle.fb_value.specs.Places.{named_slots, named_elements, target_of}
 use Rattle.fb_value.specs.Rules.{Keeps, fault_at, first_failing}
+use Rattle.fb_value.specs.Faults.{own_cells, own_tables, limit_rules}
 use Rattle.fb_read.specs.declared.buffer.Buffer.{Buffer}
 use Rattle.fb_read.specs.declared.step.Step.{Step}
 use Rattle.fb_read.specs.declared.step.Step.TheVariants.{Reference, Slot, Element}
-use Rattle.fb_read.specs.Values.{Gives}
 use Rattle.fb_read.specs.Walks.{place, limits_of, visit_in}
-use Rattle.fb_read.specs.FaultPaths.{HearsFrom, HearsAmong, Hears, HearsEach}
-use Rattle.fb_read.proofs.visit_tables.VisitsOnePlaceAfterAnother.{each_nil, small_yes, small_no, deep_no, both_no}
+use Rattle.fb_read.specs.FaultPaths.{HearsFrom, HearsAmong}
+use Rattle.fb_read.proofs.visit_tables.VisitsOnePlaceAfterAnother.{each_nil, small_yes}
 use Rattle.fb_read.proofs.visit_tables.VisitsOnePlaceAfterAnother.{both_yes}
 use Rattle.fb_read.proofs.visit_tables.StepLeadsToTheLeast.{one_more, IsFaulty, own_end, names_nothing}
 use Rattle.fb_read.proofs.visit_tables.StepLeadsToTheLeast.{rule_fails, limit_fails, none_itself, member_leads}
@@ -25,8 +23,7 @@ no_limits : first_failing [] ≡ None
 unfolding first_failing
 no_limits = refl
 
-module _ {V : Type 0} (takes : Type 0) (told : V → List Step → V → Type 0) (silent : (v : V) → told v [] v)
-    (buffer : Buffer) where
+module _ {V : Type 0} (told : V → List Step → V → Type 0) (silent : (v : V) → told v [] v) (buffer : Buffer) where
   -- ---- a place's own fault
 
   own : (x : Place) (tables spent : ℕ) (v : V) → IsFaulty buffer x tables spent
@@ -40,6 +37,12 @@ module _ {V : Type 0} (takes : Type 0) (told : V → List Step → V → Type 0)
       → HearsFrom told buffer (Some x) tables spent v v
   rule_heard x tables spent v f fails = own x tables spent v (rule_fails buffer x tables spent f fails)
 
+  pub limit_heard : (x : Place) (tables spent : ℕ) (v : V) (f : ReadFault)
+      → Keeps buffer.layout.now buffer.bytes.now x.sort x.at
+      → first_failing (limit_rules (limits_of buffer) x.sort x.at (tables + own_tables x.sort) (spent
+      + own_cells buffer.bytes.now x.sort x.at)) ≡ Some f → HearsFrom told buffer (Some x) tables spent v v
+  limit_heard x tables spent v f keeps fails = own x tables spent v (limit_fails buffer x tables spent f keeps fails)
+
   -- of what names nothing
   pub leaf_heard : (x : Place) (tables spent : ℕ) (f : ReadFault) (v : V)
       → named buffer.layout.now buffer.bytes.now x.sort x.at ≡ [] → visit_in buffer x tables spent ≡ Err f
@@ -47,33 +50,17 @@ module _ {V : Type 0} (takes : Type 0) (told : V → List Step → V → Type 0)
   leaf_heard x tables spent f v none fails =
       own x tables spent v (names_nothing buffer x tables spent f fails none)
 
-  pub leaf_hears : {T : Type 0} (x : Place) (tables spent n : ℕ) (v : V) (r : Result T ReadFault)
-      → named buffer.layout.now buffer.bytes.now x.sort x.at ≡ [] → Gives takes r n (visit_in buffer x tables spent)
-      → Hears takes told buffer (Some x) tables spent v v r
-  leaf_hears x tables spent n v (Ok y) none visits = refl
-  leaf_hears x tables spent n v (Err f) none visits = λ lasts. leaf_heard x tables spent f v none (visits lasts)
-
   -- ---- references
 
-  -- A visitor that has heard of no fault knows what it knew.
-  pub still_known : {T : Type 0} (knows : V → Buffer → Type 0) (o : Option Place) (tables spent : ℕ) (v w : V)
-      (r : Result T ReadFault) → Hears takes told buffer o tables spent v w r → knows v buffer
-      → OnOk r (knows w buffer)
-  still_known knows o tables spent v w (Ok y) hears known = rw hears known
-  still_known knows o tables spent v w (Err f) hears known = tt
-
-  pub ref_hears : {T : Type 0} (X : Target) (p q tables spent : ℕ) (v w z : V) (r : Result T ReadFault)
+  pub ref_heard : (X : Target) (p q tables spent : ℕ) (v w z : V)
       → Keeps buffer.layout.now buffer.bytes.now (ref_place X) p → q ≡ p + num buffer.bytes.now p 4
-      → Hears takes told buffer (Some (place (part_place X) q)) tables spent v w r
-      → MatchResult r (λ _. z ≡ w) (λ _. (first : V) (steps : List Step) → told first steps w
-      → told first (Reference ∷ steps) z)
-      → Hears takes told buffer (Some (place (ref_place X) p)) tables spent v z r
-  ref_hears X p q tables spent v w z (Ok y) keeps is hears tells = tells ∙ hears
-  ref_hears X p q tables spent v w z (Err f) keeps is hears tells = λ lasts.
+      → HearsFrom told buffer (Some (place (part_place X) q)) tables spent v w
+      → ((first : V) (steps : List Step) → told first steps w → told first (Reference ∷ steps) z)
+      → HearsFrom told buffer (Some (place (ref_place X) p)) tables spent v z
+  ref_heard X p q tables spent v w z keeps is heard tells =
       let L = buffer.layout.now in
       let b = buffer.bytes.now in
       let most = limits_of buffer in
-      let heard = hears lasts in
       record {
         steps = Reference ∷ heard.steps;
         fault = heard.fault;
@@ -89,23 +76,6 @@ module _ {V : Type 0} (takes : Type 0) (told : V → List Step → V → Type 0)
       }
 
   -- ---- tables
-
-  pub table_deep_heard : (t p tables spent : ℕ) (v : V)
-      → Keeps buffer.layout.now buffer.bytes.now (part_place (table_part t)) p → buffer.most_depth ≤ tables
-      → HearsFrom told buffer (Some (place (part_place (table_part t)) p)) tables spent v v
-  table_deep_heard t p tables spent v keeps deep =
-      own (place (part_place (table_part t)) p) tables spent v
-      (limit_fails buffer (place (part_place (table_part t)) p) tables spent (TooDeep p) keeps
-      (deep_no buffer.layout.now buffer.bytes.now (limits_of buffer) p (tables + 1) (spent + 1) (omega arith)))
-
-  pub table_over_heard : (t p tables spent : ℕ) (v : V)
-      → Keeps buffer.layout.now buffer.bytes.now (part_place (table_part t)) p → tables < buffer.most_depth
-      → buffer.most_cells ≤ spent → HearsFrom told buffer (Some (place (part_place (table_part t)) p)) tables spent v v
-  table_over_heard t p tables spent v keeps deep over =
-      own (place (part_place (table_part t)) p) tables spent v
-      (limit_fails buffer (place (part_place (table_part t)) p) tables spent (TooManyCells p) keeps
-      (both_no buffer.layout.now buffer.bytes.now (limits_of buffer) p (tables + 1) (spent + 1) (omega arith)
-      (omega arith)))
 
   pub table_heard : (table : TypeId) (p tables spent : ℕ) (v w : V)
       → Keeps buffer.layout.now buffer.bytes.now (part_place (table_part table.0)) p → tables < buffer.most_depth
@@ -131,39 +101,26 @@ module _ {V : Type 0} (takes : Type 0) (told : V → List Step → V → Type 0)
 
   -- ---- vectors
 
-  pub vector_over_heard : (kind : StoredKind) (p tables spent n : ℕ) (v : V)
-      → Keeps buffer.layout.now buffer.bytes.now (part_place (vector_part kind)) p → n ≡ num buffer.bytes.now p 4
-      → buffer.most_cells < spent + (1 + n)
-      → HearsFrom told buffer (Some (place (part_place (vector_part kind)) p)) tables spent v v
-  vector_over_heard kind p tables spent n v keeps is over =
-      own (place (part_place (vector_part kind)) p) tables spent v
-      (limit_fails buffer (place (part_place (vector_part kind)) p) tables spent (TooManyCells p) keeps
-      (small_no buffer.layout.now buffer.bytes.now (limits_of buffer) p (spent + (1 + num buffer.bytes.now p 4))
-      (rw is at over)))
-
-  pub vector_hears : {T : Type 0} (kind : StoredKind) (X : Target) (p tables spent n : ℕ) (v w : V)
-      (r : Result T ReadFault) → target_of kind ≡ Some X
+  pub vector_heard : (kind : StoredKind) (X : Target) (p tables spent n : ℕ) (v w : V) → target_of kind ≡ Some X
       → Keeps buffer.layout.now buffer.bytes.now (part_place (vector_part kind)) p → n ≡ num buffer.bytes.now p 4
       → spent + (1 + n) ≤ buffer.most_cells
-      → HearsEach takes told (λ i. Element i) buffer (named_elements X (p + 4) n) tables (spent + (1 + n)) v w r
-      → Hears takes told buffer (Some (place (part_place (vector_part kind)) p)) tables spent v w r
-  vector_hears kind X p tables spent n v w (Ok y) X_is keeps is small hears = hears
-  vector_hears kind X p tables spent n v w (Err f) X_is keeps is small each = λ lasts.
-      let hears = each lasts in record {
-        steps = Element hears.index ∷ hears.steps;
-        fault = hears.fault;
-        heard = hears.heard;
-        leads = one_more buffer (place (part_place (vector_part kind)) p) tables spent (Element hears.index) hears.there
-            tables hears.spent_there hears.steps hears.fault (record {
-              fine = none_itself buffer (place (part_place (vector_part kind)) p) tables spent keeps
-                  (small_yes buffer.layout.now buffer.bytes.now (limits_of buffer) p (spent
-                  + (1 + num buffer.bytes.now p 4)) (rw is at small));
-              of_sort = tt;
-              names = rw (X_is, ← is) hears.comes.names;
-              above = sym (add-zero tables);
-              before = rw (X_is, ← is) hears.comes.before;
-            }) hears.leads;
-      }
+      → HearsAmong told (λ i. Element i) buffer (named_elements X (p + 4) n) tables (spent + (1 + n)) v w
+      → HearsFrom told buffer (Some (place (part_place (vector_part kind)) p)) tables spent v w
+  vector_heard kind X p tables spent n v w X_is keeps is small hears = record {
+    steps = Element hears.index ∷ hears.steps;
+    fault = hears.fault;
+    heard = hears.heard;
+    leads = one_more buffer (place (part_place (vector_part kind)) p) tables spent (Element hears.index) hears.there
+        tables hears.spent_there hears.steps hears.fault (record {
+          fine = none_itself buffer (place (part_place (vector_part kind)) p) tables spent keeps
+              (small_yes buffer.layout.now buffer.bytes.now (limits_of buffer) p (spent
+              + (1 + num buffer.bytes.now p 4)) (rw is at small));
+          of_sort = tt;
+          names = rw (X_is, ← is) hears.comes.names;
+          above = sym (add-zero tables);
+          before = rw (X_is, ← is) hears.comes.before;
+        }) hears.leads;
+  }
 
   -- ---- a union's member
 

@@ -1,12 +1,14 @@
 -- What is kept of a value stands for what lies there.
 use Rattle.std.proofs.Common.{◌≡◌, ℕ, zero, suc, ◌+◌, ◌*◌, ◌<◌, ◌≤◌, List, []}
-use Rattle.std.proofs.Common.{◌∷◌, length, drop, slice_index_or, Bool, true}
+use Rattle.std.proofs.Common.{◌∷◌, length, map, drop, slice_index_or, Bool, true}
 use Rattle.std.proofs.Common.{false, nat_le, slice_get, Option, None, Some, Result, Ok, Err, IfOk}
 use Rattle.std.proofs.Common.{refl, sym, ap, ◌∙◌, arith}
 use Rattle.std.proofs.lemmas.Bool.{leb-true}
 use Rattle.std.proofs.lemmas.Bool.Decides.{nat_tests}
 use Rattle.fb_schema.specs.declared.types.FieldInfo.{FieldInfo}
-use Rattle.fb_layout.specs.Laid.{LaidSchema, Slot, StoredKind, slots_of, size_of}
+use Rattle.fb_schema.specs.Schema.{body_at, slots_in}
+use Rattle.fb_schema.specs.Seen.{field_seen}
+use Rattle.fb_layout.specs.Laid.{LaidSchema, Slot, StoredKind, slot_of, slots_of, size_of}
 use Rattle.fb_value.specs.Datum.{Datum, a_number, a_text, a_vector, a_struct, a_table, a_member, an_unknown, Parts}
 use Rattle.fb_value.specs.Datum.{more_parts, SlotEntries, no_entries, absent_entry, present_entry, count}
 use Rattle.fb_value.specs.Num.{Bytes, num, part_of}
@@ -29,6 +31,11 @@ use Rattle.fb_read.proofs.visit_tables.EnteredPartsAreCounted.{target_size, lies
 pub if_ok : {T E : Type 0} {P Q : T → Type 0} (r : Result T E) → ((x : T) → P x → Q x) → IfOk r P → IfOk r Q
 if_ok (Ok x) f p = f x p
 if_ok (Err e) f p = p
+
+-- a table's slots, where its fields are seen
+pub slots_are_seen : (L : LaidSchema) (t : ℕ) (fs : List FieldInfo)
+    → map field_seen fs ≡ slots_in (body_at L.schema t) → slots_of L t ≡ slots_seen L fs
+slots_are_seen L t fs seen = ap (λ gs. map (slot_of L.schema) gs) (sym seen)
 
 -- ---- a table's entries, one after another
 
@@ -141,7 +148,7 @@ module _ (L : LaidSchema) (b : Bytes) where
       let at : p + i * size_of L kind ≡ p + 4 * i = let four = target_size L kind X is in rw four (omega arith) in
       (found.0, parts_here i ds found.0 found.1, rw (at, is) at found.2)
 
-  default_is : (f : Slot) (o : Option Datum) → LiesInSlot L b f None o → number_entry f.if_absent ≡ o
+  pub default_is : (f : Slot) (o : Option Datum) → LiesInSlot L b f None o → number_entry f.if_absent ≡ o
   default_is f None lies = rw lies refl
   default_is f (Some d) lies = rw (lies.1, lies.2) refl
 

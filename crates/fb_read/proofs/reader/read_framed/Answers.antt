@@ -6,6 +6,7 @@ use Rattle.fb_value.specs.View.{view}
 use Rattle.fb_read.specs.Walks.{place}
 use Rattle.fb_read.proofs.reader.RootValueIsHeld.{answer_held, answer_fits, answer_deep, answer_nests, answer_refused}
 use Rattle.fb_read.proofs.reader.RootValueIsHeld.{answer_entered, root_reached, kept_of_bytes}
+use Rattle.fb_read.proofs.visit_tables.EndsAtAPlace.{ends_given, ends_entered, ends_kept}
 use Rattle.fb_read.proofs.reader.read_framed.Goals as goal
 
 pub returns-clause-value : goal.returns-clause-value
@@ -21,11 +22,15 @@ returns-clause-value c =
       c.root-root.ensures,
       c.front_of.ensures.exact,
       c.schema.ensures.schema,
-    ) at c.visit_table_behind-value.ensures.visit in
+    ) at (ends_given (Unit {0}) (λ _ _ _. Unit {0}) (λ v d. view v ≡ d) c.in_ok-buffer.buffer
+    (place (ref_place (table_part c.root-root.result.0)) c.front_of.result) 0 _ _ c.visit_table_behind-value.result
+    c.visit_table_behind-value.ensures.visit) in
     let known = rw (c.root-root.ensures, c.front_of.ensures.exact, c.schema.ensures.schema) at
     (kept_of_bytes (λ v d. view v ≡ d) L c.args.bytes.now c.args.limits c.in_ok-buffer.buffer
     (place (ref_place (table_part c.root-root.result.0)) c.front_of.result) same c.visit_table_behind-value.result
-    c.visit_table_behind-value.ensures.kept) in
+    (ends_kept (Unit {0}) (λ _ _ _. Unit {0}) (λ v d. view v ≡ d) c.in_ok-buffer.buffer
+    (place (ref_place (table_part c.root-root.result.0)) c.front_of.result) 0 _ _ c.visit_table_behind-value.result
+    c.visit_table_behind-value.ensures.visit)) in
     answer_held (front_of c.args.prefixed) _ L c.args.limits c.args.bytes.now c.schema.ensures.made
     c.visit_table_behind-value.result _ header given known
 
@@ -64,7 +69,9 @@ returns-clause-fault c =
       c.root-root.ensures,
       c.front_of.ensures.exact,
       c.schema.ensures.schema,
-    ) at c.visit_table_behind-value.ensures.visit in
+    ) at (ends_given (Unit {0}) (λ _ _ _. Unit {0}) (λ v d. view v ≡ d) c.in_ok-buffer.buffer
+    (place (ref_place (table_part c.root-root.result.0)) c.front_of.result) 0 _ _ c.visit_table_behind-value.result
+    c.visit_table_behind-value.ensures.visit) in
     answer_refused (front_of c.args.prefixed) _ L c.args.limits c.args.bytes.now c.schema.ensures.made
     c.visit_table_behind-value.result _ header given
 
@@ -87,7 +94,9 @@ pub returns-clause-each : goal.returns-clause-each
 returns-clause-each c =
     let same = c.in_ok-buffer.ensures.buffer in
     let each = rw (same.layout, same.bytes, c.root-root.ensures, c.front_of.ensures.exact, c.schema.ensures.schema) at
-    c.visit_table_behind-value.ensures.each in
+    (ends_entered (Unit {0}) (λ _ _ _. Unit {0}) (λ v d. view v ≡ d) c.in_ok-buffer.buffer
+    (place (ref_place (table_part c.root-root.result.0)) c.front_of.result) 0 _ _ c.visit_table_behind-value.result
+    c.visit_table_behind-value.ensures.visit) in
     answer_entered (front_of c.args.prefixed) _ c.args.layout.now c.args.limits c.args.bytes.now
     c.visit_table_behind-value.result _ _ _ _
     c.new.ensures c.add_to.ensures (returns-clause-value c) each

@@ -17,7 +17,7 @@ returns-in_err-visited-clause-fault c =
       c.root-root.ensures,
       c.front_of-front.ensures.exact,
       c.schema.ensures.schema,
-    ) at (rw c.in_err-visited.was at c.visit_table_behind-visited.ensures.visit) in
+    ) at (rw c.in_err-visited.was at c.visit_table_behind-visited.ensures.visit).visit in
     let fails = given (λ never. absurd never) in
     rw (p.1, p.2) (refused_root (front_of c.args.prefixed) _ c.args.layout.now c.args.limits c.args.bytes.now
     c.schema.ensures.made _ c.in_ok-buffer.ensures.front fails)
@@ -33,7 +33,7 @@ returns-clause-held c =
       c.root-root.ensures,
       c.front_of-front.ensures.exact,
       c.schema.ensures.schema,
-    ) at (rw c.in_ok-visited.was at c.visit_table_behind-visited.ensures.visit) in
+    ) at (rw c.in_ok-visited.was at c.visit_table_behind-visited.ensures.visit).visit in
     held_root (front_of c.args.prefixed) _ c.args.layout.now c.args.limits c.args.bytes.now
     c.schema.ensures.made _ c.in_ok-buffer.ensures.front fine
 
@@ -48,7 +48,7 @@ invariant_of-result c =
       c.root-root.ensures,
       c.front_of-front.ensures.exact,
       c.schema.ensures.schema,
-    ) at (rw c.in_ok-visited.was at c.visit_table_behind-visited.ensures.visit) in
+    ) at (rw c.in_ok-visited.was at c.visit_table_behind-visited.ensures.visit).visit in
     let root = rw c.schema.ensures.schema at c.root-root.ensures in
     let from = c.front_of-front.ensures.exact in
     let there = rw from at c.u32_at.ensures in

@@ -1,28 +1,35 @@
-use Rattle.std.proofs.Common.{refl, rules}
+use Rattle.std.proofs.Common.{◌+◌, refl, arith}
 use Rattle.std.proofs.lemmas.Result.{err_from_is_err_and}
 use Rattle.fb_value.specs.declared.faults.ReadFault.TheVariants.{TooManyCells}
+use Rattle.fb_value.specs.Num.{num}
 use Rattle.fb_value.specs.Places.{text_part, part_place}
-use Rattle.fb_read.specs.Walks.{place}
-use Rattle.fb_read.proofs.visit_tables.HearsTheWayBack.{leaf_hears, leaf_heard}
-use Rattle.fb_read.proofs.visit_tables.VisitsOnePlaceAfterAnother.{visit_fault, text_visits}
+use Rattle.fb_read.specs.Walks.{place, limits_of}
+use Rattle.fb_read.proofs.visit_tables.CountsGoOn.{just_entered}
+use Rattle.fb_read.proofs.visit_tables.EndsAtAPlace.{ticked, place_refused, rule_refused, limit_refused}
+use Rattle.fb_read.proofs.visit_tables.VisitsOnePlaceAfterAnother.{small_no}
 use Rattle.fb_read.proofs.visit_leaves.visit_text.Goals as goal
 
-pub returns-in_err-text-clause-visit : goal.returns-in_err-text-clause-visit
-returns-in_err-text-clause-visit g c tables =
+pub returns-in_err-text : goal.returns-in_err-text
+returns-in_err-text g c tables =
     let p = err_from_is_err_and c.from_residual.result c.from_residual.ensures.1 in
-    rw (p.1, p.2) (λ lasts. visit_fault c.args.buffer.now.layout.now c.args.buffer.now.bytes.now _ _ tables
-    c.args.walk.now.spent
-    _ (c.in_err-text.ensures.rules c.args.buffer.now.layout.now))
+    let x = place (part_place text_part) c.args.at in
+    let counted = ticked c.args.walk.now c.tick.new.self in
+    place_refused g.V.Visitor.takes_memory g.V.Visitor.told g.V.Visitor.keeps c.args.buffer.now x tables c.args.walk.now
+    counted c.in_err-text.field-0.0 p.0 c.from_residual.result p.1 p.2
+    (rule_refused g.V.Visitor.takes_memory g.V.Visitor.told g.met.V.Visitor.silent c.args.buffer.now x tables
+    c.args.walk.now counted c.in_err-text.field-0.0
+    (c.in_err-text.ensures.rules c.args.buffer.now.layout.now) (just_entered c.args.walk.now.ticks c.tick.new.self
+    c.args.walk.now.spent c.args.buffer.now.most_cells
+    c.tick.ensures c.requires.few) refl)
 
-pub returns-in_err-text-clause-hears : goal.returns-in_err-text-clause-hears
-returns-in_err-text-clause-hears g c tables =
-    leaf_hears g.V.Visitor.takes_memory g.V.Visitor.told g.met.V.Visitor.silent c.args.buffer.now (place (part_place
-    text_part) c.args.at) tables
-    c.args.walk.now.spent _ c.args.walk.now.visitor c.from_residual.result refl
-    (returns-in_err-text-clause-visit g c tables)
-
-pub returns-then-after-most-clause-hears : goal.returns-then-after-most-clause-hears
-returns-then-after-most-clause-hears g c tables = λ lasts.
-    leaf_heard g.V.Visitor.takes_memory g.V.Visitor.told g.met.V.Visitor.silent c.args.buffer.now (place (part_place
-    text_part) c.args.at) tables
-    c.args.walk.now.spent (TooManyCells c.args.at) c.args.walk.now.visitor refl (search (text_visits, rules))
+pub returns-then-after-most : goal.returns-then-after-most
+returns-then-after-most g c tables =
+    limit_refused g.V.Visitor.takes_memory g.V.Visitor.told g.met.V.Visitor.silent c.args.buffer.now
+    (place (part_place text_part) c.args.at) tables c.args.walk.now
+    (ticked c.args.walk.now c.tick.new.self) (TooManyCells c.args.at)
+    (c.in_ok-text.ensures.rules c.args.buffer.now.layout.now)
+    (small_no c.args.buffer.now.layout.now c.args.buffer.now.bytes.now (limits_of c.args.buffer.now) c.args.at
+    (c.args.walk.now.spent + (1 + num c.args.buffer.now.bytes.now c.args.at 4))
+    (omega (arith, c.in_ok-text.ensures.long))) (just_entered c.args.walk.now.ticks c.tick.new.self
+    c.args.walk.now.spent c.args.buffer.now.most_cells
+    c.tick.ensures c.requires.few) refl

@@ -1,42 +1,43 @@
+use Rattle.std.proofs.Common.{refl}
 use Rattle.std.proofs.lemmas.Result.{err_from_is_err_and}
-use Rattle.fb_value.specs.Places.{text_part, ref_place}
+use Rattle.fb_value.specs.Places.{text_part, ref_place, part_place}
 use Rattle.fb_read.specs.Walks.{place}
-use Rattle.fb_read.proofs.visit_tables.HearsTheWayBack.{rule_heard, ref_hears, still_known}
-use Rattle.fb_read.proofs.visit_tables.VisitsOnePlaceAfterAnother.{visit_fault, gives_ok}
+use Rattle.fb_read.proofs.visit_tables.CountsGoOn.{not_entered}
+use Rattle.fb_read.proofs.visit_tables.EndsAtAPlace.{place_refused, rule_refused, passes_behind}
+use Rattle.fb_read.proofs.visit_tables.EndsAtAPlace.{ends_behind, has_visited}
 use Rattle.fb_read.proofs.visit_leaves.visit_text_behind.Goals as goal
 
-pub returns-in_err-target-clause-visit : goal.returns-in_err-target-clause-visit
-returns-in_err-target-clause-visit g c =
+pub returns-in_err-target : goal.returns-in_err-target
+returns-in_err-target g c =
     let p = err_from_is_err_and c.from_residual.result c.from_residual.ensures.1 in
-    rw (p.1, p.2) (λ lasts. visit_fault c.args.buffer.now.layout.now c.args.buffer.now.bytes.now _ _ c.args.tables
-    c.args.walk.now.spent
-    _ (c.in_err-target.ensures.rules c.args.buffer.now.layout.now text_part))
+    let x = place (ref_place text_part) c.args.at in
+    place_refused g.V.Visitor.takes_memory g.V.Visitor.told g.V.Visitor.keeps c.args.buffer.now x c.args.tables
+    c.args.walk.now c.args.walk.now c.in_err-target.field-0.0 p.0 c.from_residual.result p.1 p.2
+    (rule_refused g.V.Visitor.takes_memory g.V.Visitor.told g.met.V.Visitor.silent c.args.buffer.now x c.args.tables
+    c.args.walk.now c.args.walk.now c.in_err-target.field-0.0
+    (c.in_err-target.ensures.rules c.args.buffer.now.layout.now text_part) (not_entered c.args.walk.now.ticks
+    c.args.walk.now.spent c.args.buffer.now.most_cells c.requires.limits.few) refl)
 
-pub returns-in_err-target-clause-hears : goal.returns-in_err-target-clause-hears
-returns-in_err-target-clause-hears g c =
-    let p = err_from_is_err_and c.from_residual.result c.from_residual.ensures.1 in
-    rw p.1 (λ lasts. rule_heard g.V.Visitor.takes_memory g.V.Visitor.told g.met.V.Visitor.silent c.args.buffer.now
-    (place (ref_place text_part) c.args.at)
-    c.args.tables c.args.walk.now.spent c.args.walk.now.visitor _
-    (c.in_err-target.ensures.rules c.args.buffer.now.layout.now text_part))
-
-pub returns-clause-hears : goal.returns-clause-hears
-returns-clause-hears g c =
+pub returns-in-Some : goal.returns-in-Some
+returns-in-Some g c =
     let rules = c.in_ok-target.ensures.rules c.args.buffer.now.layout.now text_part in
-    let spent = c.pass_over.ensures.spent c.in_default.is in
-    rw (← c.pass_over.ensures.silent, ← spent) (ref_hears g.V.Visitor.takes_memory g.V.Visitor.told
-    g.met.V.Visitor.silent c.args.buffer.now text_part c.args.at c.in_ok-target.target c.args.tables
-    c.pass_over.new.walk.spent _ _ _ c.visit_text-visited.result rules.0 rules.1
-    (c.visit_text-visited.ensures.hears c.args.tables) c.leave.ensures.told)
+    passes_behind g.V.Visitor.keeps c.args.buffer.now text_part c.args.at c.in_ok-target.target c.args.tables
+    c.args.walk.now c.pass_over.new.walk c.in-Some.kept rules.0 rules.1 c.in-Some.ensures.known
 
-pub leave-requires-clause-knows : goal.leave-requires-clause-knows
-leave-requires-clause-knows g c =
-    still_known g.V.Visitor.takes_memory g.V.Visitor.told g.met.V.Visitor.silent c.args.buffer.now
-    g.V.Visitor.knows _ c.args.tables c.pass_over.new.walk.spent _ _ c.visit_text-visited.result
-    (c.visit_text-visited.ensures.hears c.args.tables)
-    (rw c.pass_over.ensures.silent c.requires.limits.known)
+pub leave-requires : goal.leave-requires
+leave-requires g c =
+    has_visited g.V.Visitor.takes_memory g.V.Visitor.told g.met.V.Visitor.silent g.V.Visitor.keeps c.args.buffer.now
+    g.V.Visitor.knows (place (part_place text_part) c.in_ok-target.target) c.args.tables c.mark-mark.result
+    c.pass_over.new.walk c.visit_text-visited.new.walk
+    c.visit_text-visited.result c.mark-mark.ensures.spent c.mark-mark.ensures.parts
+    (rw (c.pass_over.ensures.before c.in_default.is) c.requires.limits.known)
+    (c.visit_text-visited.ensures c.args.tables)
 
-pub leave-requires-clause-visit : goal.leave-requires-clause-visit
-leave-requires-clause-visit g c =
-    rw c.mark-mark.ensures.spent (gives_ok g.V.Visitor.takes_memory c.visit_text-visited.result _ _
-    (c.visit_text-visited.ensures.visit c.args.tables))
+pub returns : goal.returns
+returns g c =
+    let rules = c.in_ok-target.ensures.rules c.args.buffer.now.layout.now text_part in
+    let ends = rw (c.pass_over.ensures.before c.in_default.is) at (c.visit_text-visited.ensures c.args.tables) in
+    ends_behind g.V.Visitor.takes_memory g.V.Visitor.told g.met.V.Visitor.silent g.V.Visitor.keeps c.args.buffer.now
+    text_part c.args.at c.in_ok-target.target c.args.tables c.args.walk.now c.visit_text-visited.new.walk
+    c.leave.new.walk c.visit_text-visited.result rules.0
+    rules.1 ends c.leave.ensures.spent c.leave.ensures.ticks c.leave.ensures.told

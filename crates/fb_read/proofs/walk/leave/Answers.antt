@@ -8,25 +8,24 @@ pub overflow_sub-taken : goal.overflow_sub-taken
 overflow_sub-taken g c =
     visit_rises c.args.buffer.now.layout.now c.args.buffer.now.bytes.now (limits_of c.args.buffer.now)
     (part_at c.args.buffer.now c.args.part c.args.at) c.args.tables c.args.mark.spent c.args.walk.now.spent
-    (rw c.in-Ok.is at c.requires.visit)
+    (rw c.in-Ok.is at c.requires).visit
 
 pub leave-requires-clause-visited : goal.leave-requires-clause-visited
 leave-requires-clause-visited g c =
     let buffer = c.args.buffer.now in
     let x = part_at buffer c.args.part c.args.at in
     let cells = c.args.walk.now.spent - c.args.mark.spent in
+    let visited = rw c.in-Ok.is at c.requires in
     let rises = visit_rises buffer.layout.now buffer.bytes.now (limits_of buffer) x c.args.tables c.args.mark.spent
-    c.args.walk.now.spent (rw c.in-Ok.is at c.requires.visit) in
-    let ticks = rw c.in-Ok.is at c.requires.ticks in
-    let each = rw c.in-Ok.is at c.requires.each in
+    c.args.walk.now.spent visited.visit in
     let whole : c.args.walk.now.spent ≡ c.args.mark.spent + cells = omega (arith, rises) in
     let taken : visit_in buffer x c.args.tables c.args.mark.spent ≡ Ok (c.args.mark.spent + cells) =
-    rw whole at (rw c.in-Ok.is at c.requires.visit) in
+    rw whole at visited.visit in
     record {
       visit = λ fewer less h i. visit_again buffer.layout.now buffer.bytes.now (limits_of buffer) x c.args.tables
           c.args.mark.spent cells fewer less taken h i;
       counted = record {
-        few = omega (arith, c.counted_since.ensures, ticks, rises);
-        each = λ d lies. omega (arith, c.counted_since.ensures, each d lies);
+        few = omega (arith, c.counted_since.ensures, visited.ticks, rises);
+        each = λ d lies. omega (arith, c.counted_since.ensures, visited.each d lies);
       };
     }

@@ -15,5 +15,5 @@ returns-in-Ok-visit_table_behind c =
       c.root-root.ensures,
       c.front_of.ensures.exact,
       c.schema.ensures.schema,
-    ) at c.in-Ok-visit_table_behind.ensures.visit in
+    ) at c.in-Ok-visit_table_behind.ensures.visit.visit in
     inr (no_fault (front_of c.args.prefixed) _ L c.args.limits c.args.bytes.now _ c.in-Ok.ensures.front fine)

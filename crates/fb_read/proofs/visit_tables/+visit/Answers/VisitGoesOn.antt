@@ -1,11 +1,12 @@
 -- A loop goes on to the next slot or element.
-use Rattle.std.proofs.Common.{◌+◌, ◌*◌, ◌<◌, length, drop, Some, refl, ◌∙◌, arith}
+use Rattle.std.proofs.Common.{◌+◌, ◌*◌, length, drop, Some, refl, ◌∙◌, arith}
 use Rattle.fb_value.specs.Nth.{nth_entry}
 use Rattle.fb_value.specs.Places.{ref_place}
 use Rattle.fb_value.specs.Places.{named_slots, named_elements}
 use Rattle.fb_read.specs.Values.{led_to}
 use Rattle.fb_read.specs.Walks.{place, limits_of}
 use Rattle.fb_read.specs.Visits.{slots_seen}
+use Rattle.fb_read.proofs.visit_tables.CountsGoOn.{entered_then, below}
 use Rattle.fb_read.proofs.visit_tables.EnteredPartsAreCounted.{slot_step, element_step}
 use Rattle.fb_read.proofs.visit_tables.VisitsOnePlaceAfterAnother.{each_nil}
 use Rattle.fb_read.proofs.visit_tables.FrontIsFreeOfFaults.{front_next}
@@ -16,31 +17,30 @@ use Rattle.fb_read.proofs.visit_tables.+visit.Goals as goal
 pub next_element_visited : goal.visit_elements-loop-i-preserved
 next_element_visited g t c =
     let most = limits_of c.args.buffer.now in
-    let visit = rw c.in_ok-visited.was at c.visit_behind-visited.ensures.visit in
-    let ticks = rw c.in_ok-visited.was at c.visit_behind-visited.ensures.ticks in
-    let each = rw c.in_ok-visited.was at c.visit_behind-visited.ensures.each in
-    let hears = rw c.in_ok-visited.was at c.visit_behind-visited.ensures.hears in
+    let passes = rw c.in_ok-visited.was at c.visit_behind-visited.ensures in
     let told = rw c.in_ok-visited.was at c.tell.ensures.told in
-    let kept = rw c.in_ok-visited.was at c.visit_behind-visited.ensures.kept in
     record {
       before = rw c.tell.ensures.spent (front_next c.args.buffer.now.layout.now c.args.buffer.now.bytes.now most
           (named_elements (led_to c.args.reference) c.args.at c.args.count) c.loop-i.i
           (Some (place (ref_place (led_to c.args.reference)) (c.args.at + 4 * c.loop-i.i))) c.args.tables
           c.args.walk.now.spent c.loop-i.walk.spent c.visit_behind-visited.new.walk.spent
           (element_named (led_to c.args.reference) c.args.at c.args.count c.loop-i.i c.loop-i-test.true)
-          c.loop-i.invariant.before visit);
-      silent = told ∙ hears ∙ c.loop-i.invariant.silent;
-      few = rw c.tell.ensures.spent (rw c.in_ok-visited.was at c.visit_behind-visited.ensures.few);
-      ticked = omega (arith, ticks, c.tell.ensures.ticks, c.tell.ensures.spent);
+          c.loop-i.invariant.before passes.visit);
+      silent = told ∙ passes.silent ∙ c.loop-i.invariant.silent;
+      few = rw c.tell.ensures.spent passes.few;
+      ticked = entered_then c.args.walk.now.ticks c.args.walk.now.spent c.loop-i.walk.ticks c.loop-i.walk.spent
+          c.visit_behind-visited.new.walk.ticks c.visit_behind-visited.new.walk.spent c.tell.new.walk.ticks
+          c.tell.new.walk.spent
+          c.loop-i.invariant.ticked passes.ticks c.tell.ensures.ticks c.tell.ensures.spent;
       entered = λ kind is ds long lies. rw c.tell.ensures.ticks
           (element_step c.args.buffer.now.layout.now c.args.buffer.now.bytes.now kind
-          (led_to c.args.reference) c.args.at c.loop-i.i ds _ _ _ is lies (omega (arith, long, c.loop-i-test.true))
-          each (c.loop-i.invariant.entered kind is ds long lies));
+          (led_to c.args.reference) c.args.at c.loop-i.i ds _ _ _ is lies (rw long c.loop-i-test.true)
+          passes.each (c.loop-i.invariant.entered kind is ds long lies));
       kept = λ kind is ds long lies.
           (let part = element_part c.args.buffer.now.layout.now c.args.buffer.now.bytes.now kind
-          (led_to c.args.reference) c.args.at c.loop-i.i ds is lies (omega (arith, long, c.loop-i-test.true)) in
+          (led_to c.args.reference) c.args.at c.loop-i.i ds is lies (rw long c.loop-i-test.true) in
           c.in_ok-add_element.ensures.kept c.loop-i.i ds part.0 (c.loop-i.invariant.kept kind is ds long lies) part.1
-          (kept part.0 part.2));
+          (passes.kept part.0 part.2));
     }
 
 pub next_slot_visited : goal.visit_slots-loop-slot-preserved
@@ -48,31 +48,30 @@ next_slot_visited g t c =
     let L = c.args.buffer.now.layout.now in
     let b = c.args.buffer.now.bytes.now in
     let most = limits_of c.args.buffer.now in
-    let fine = rw (c.split_at.ensures.back, c.in_ok-visited.was) at c.visit_slot-visited.ensures.visit in
-    let each = rw (c.split_at.ensures.back, c.in_ok-visited.was) at c.visit_slot-visited.ensures.each in
-    let ticks = rw c.in_ok-visited.was at c.visit_slot-visited.ensures.ticks in
-    let hears = rw c.in_ok-visited.was at c.visit_slot-visited.ensures.hears in
+    let passes = rw (c.split_at.ensures.back, c.in_ok-visited.was) at c.visit_slot-visited.ensures in
     let told = rw c.in_ok-visited.was at c.tell.ensures.told in
-    let kept = rw (c.split_at.ensures.back, c.in_ok-visited.was) at c.visit_slot-visited.ensures.kept in
-    let less : c.loop-slot.slot < length c.args.slots.now =
-    omega (arith, c.loop-slot-test.true, c.stored_slots-present.ensures.few) in
+    let less = below c.loop-slot.slot c.stored_slots-present.result (length c.args.slots.now) c.loop-slot-test.true
+    c.stored_slots-present.ensures.few in
     record {
       before = rw c.tell.ensures.spent (front_next L b most
           (named_slots L b c.args.table.at 0 (slots_seen L c.args.slots.now)) c.loop-slot.slot _ c.args.tables
           c.args.walk.now.spent c.loop-slot.walk.spent c.visit_slot-visited.new.walk.spent
           (slot_found L b c.args.table.at c.loop-slot.slot c.args.slots.now c.index-slots-slot.result less
-          c.index-slots-slot.is) c.loop-slot.invariant.before fine);
-      silent = told ∙ hears ∙ c.loop-slot.invariant.silent;
-      few = rw c.tell.ensures.spent (rw c.in_ok-visited.was at c.visit_slot-visited.ensures.few);
-      ticked = omega (arith, ticks, c.tell.ensures.ticks, c.tell.ensures.spent);
+          c.index-slots-slot.is) c.loop-slot.invariant.before passes.visit);
+      silent = told ∙ passes.silent ∙ c.loop-slot.invariant.silent;
+      few = rw c.tell.ensures.spent passes.few;
+      ticked = entered_then c.args.walk.now.ticks c.args.walk.now.spent c.loop-slot.walk.ticks c.loop-slot.walk.spent
+          c.visit_slot-visited.new.walk.ticks c.visit_slot-visited.new.walk.spent c.tell.new.walk.ticks
+          c.tell.new.walk.spent
+          c.loop-slot.invariant.ticked passes.ticks c.tell.ensures.ticks c.tell.ensures.spent;
       entered = λ es lies. rw c.tell.ensures.ticks (slot_step L b c.args.table.at
           c.loop-slot.slot c.args.slots.now c.index-slots-slot.result es _ _ _ lies less c.index-slots-slot.is
-          each (c.loop-slot.invariant.entered es lies));
+          passes.each (c.loop-slot.invariant.entered es lies));
       kept = λ es lies.
           (let here = slot_entry L b c.args.table.at c.loop-slot.slot c.args.slots.now c.index-slots-slot.result es lies
           less c.index-slots-slot.is in
           c.in_ok-add_entry.ensures.kept c.loop-slot.slot es (nth_entry es c.loop-slot.slot)
-          (c.loop-slot.invariant.kept es lies) here.0 (kept (nth_entry es c.loop-slot.slot) here.1));
+          (c.loop-slot.invariant.kept es lies) here.0 (passes.kept (nth_entry es c.loop-slot.slot) here.1));
     }
 
 pub next_slot_passed_by : goal.visit_slots-loop-slot-preserved-then-is_passed_by
@@ -84,8 +83,8 @@ next_slot_passed_by g t c =
     let fine = c.is_passed_by.ensures.visit c.if-is_passed_by.true rest c.args.tables c.loop-slot.walk.spent
     in
     let still = c.is_passed_by.ensures.each c.if-is_passed_by.true rest c.loop-slot.walk.ticks in
-    let less : c.loop-slot.slot < length c.args.slots.now =
-    omega (arith, c.loop-slot-test.true, c.stored_slots-present.ensures.few) in
+    let less = below c.loop-slot.slot c.stored_slots-present.result (length c.args.slots.now) c.loop-slot-test.true
+    c.stored_slots-present.ensures.few in
     record {
       before = front_next L b most (named_slots L b c.args.table.at 0 (slots_seen L c.args.slots.now))
           c.loop-slot.slot _ c.args.tables c.args.walk.now.spent c.loop-slot.walk.spent c.loop-slot.walk.spent

@@ -1,0 +1,75 @@
+-- How a walk ends at what it visits: it finds no fault there, or it is refused.
+use Rattle.std.specs.Prelude.{ℕ, ◌+◌, ◌≡◌, ◌≤◌, List, Option, Some, Result, Ok, Err, MatchResult}
+use Rattle.fb_schema.specs.declared.types.FieldInfo.{FieldInfo}
+use Rattle.fb_value.specs.declared.faults.ReadFault.{ReadFault}
+use Rattle.fb_value.specs.Datum.{Datum}
+use Rattle.fb_value.specs.Nth.{slot_place}
+use Rattle.fb_value.specs.Places.{Place, named_slots}
+use Rattle.fb_read.specs.declared.buffer.Buffer.{Buffer}
+use Rattle.fb_read.specs.declared.step.Step.{Step}
+use Rattle.fb_read.specs.declared.walk.Walk.{Walk}
+use Rattle.fb_read.specs.FaultPaths.{HearsFrom, HearsAmong}
+use Rattle.fb_read.specs.Values.{MemoryLasts, KeepsAt}
+use Rattle.fb_read.specs.Visits.{slot_seen, slots_seen}
+use Rattle.fb_read.specs.Walks.{visit_in, visit_each_in, visit_entry_in, EntersAt, EntersSlot}
+
+-- A visit that gives this found no fault: what it has spent and entered is counted, its visitor has heard of nothing,
+-- and what is kept stands for what lies there.
+pub record Passes {V K : Type 0} (buffer : Buffer) (old new : Walk V) (given : Result ℕ ReadFault)
+    (enters : ℕ → ℕ → Type 0) (keeps : K → Type 0) (found : K) : Type 0 where
+  pub visit : given ≡ Ok new.spent
+  pub few : new.spent ≤ buffer.most_cells
+  pub ticks : new.ticks + old.spent ≤ old.ticks + new.spent
+  pub each : enters old.ticks new.ticks
+  pub silent : new.visitor ≡ old.visitor
+  pub kept : keeps found
+
+-- It was refused: as far as memory lasts for the fault that it gives, and its visitor has heard the way there. It has
+-- entered one part more than it has spent cells at most.
+pub record IsRefused {V : Type 0} (takes_memory : Type 0) (buffer : Buffer) (old new : Walk V)
+    (given : Result ℕ ReadFault) (heard : Type 0) (f : ReadFault) : Type 0 where
+  pub visit : MemoryLasts takes_memory f → given ≡ Err f
+  pub ticks : new.ticks + old.spent ≤ old.ticks + (buffer.most_cells + 1)
+  pub hears : MemoryLasts takes_memory f → heard
+
+abbrev pub Ends : {V K : Type 0} → Type 0 → Buffer → Walk V → Walk V → Result ℕ ReadFault → Type 0
+    → (ℕ → ℕ → Type 0) → (K → Type 0) → Result K ReadFault → Type 0
+Ends takes_memory buffer old new given hears enters keeps result = MatchResult result
+    (λ kept. Passes buffer old new given enters keeps kept) (λ f. IsRefused takes_memory buffer old new given hears f)
+
+-- past a place, with so many tables above it
+abbrev pub PassesAt : {V K : Type 0} → (K → Datum → Type 0) → Buffer → Place → ℕ → Walk V → Walk V → K → Type 0
+PassesAt keeps buffer x tables old new kept = Passes buffer old new (visit_in buffer x tables old.spent)
+    (λ before after. EntersAt buffer x before after) (λ found. KeepsAt keeps buffer x found) kept
+
+-- at a place, with so many tables above it
+abbrev pub EndsAt : {V K : Type 0} → Type 0 → (V → List Step → V → Type 0) → (K → Datum → Type 0) → Buffer → Place → ℕ
+    → Walk V → Walk V → Result K ReadFault → Type 0
+EndsAt takes_memory told keeps buffer x tables old new result =
+    Ends takes_memory buffer old new (visit_in buffer x tables old.spent)
+    (HearsFrom told buffer (Some x) tables old.spent old.visitor new.visitor)
+    (λ before after. EntersAt buffer x before after) (λ found. KeepsAt keeps buffer x found) result
+
+-- the place that a slot of the table at a position names, with the slots behind it
+abbrev pub slot_at : Buffer → ℕ → ℕ → List FieldInfo → FieldInfo → Option Place
+slot_at buffer p k later field = slot_place buffer.layout.now buffer.bytes.now p k (slots_seen buffer.layout.now later)
+    (slot_seen buffer.layout.now field)
+
+-- those that its slots name
+abbrev pub slots_at : Buffer → ℕ → List FieldInfo → List (Option Place)
+slots_at buffer p slots = named_slots buffer.layout.now buffer.bytes.now p 0 (slots_seen buffer.layout.now slots)
+
+-- at a slot's place, if it names one
+abbrev pub EndsAtEntry : {V K : Type 0} → Type 0 → (V → List Step → V → Type 0) → (K → Type 0) → Buffer
+    → Option Place → ℕ → Walk V → Walk V → Result K ReadFault → Type 0
+EndsAtEntry takes_memory told keeps buffer x tables old new result =
+    Ends takes_memory buffer old new (visit_entry_in buffer x tables old.spent)
+    (HearsFrom told buffer x tables old.spent old.visitor new.visitor)
+    (λ before after. EntersSlot buffer x before after) keeps result
+
+-- at several places, one after another
+abbrev pub EndsAtEach : {V K : Type 0} → Type 0 → (V → List Step → V → Type 0) → (ℕ → Step) → Buffer
+    → List (Option Place) → ℕ → (ℕ → ℕ → Type 0) → (K → Type 0) → Walk V → Walk V → Result K ReadFault → Type 0
+EndsAtEach takes_memory told step_to buffer xs tables enters keeps old new result =
+    Ends takes_memory buffer old new (visit_each_in buffer xs tables old.spent)
+    (HearsAmong told step_to buffer xs tables old.spent old.visitor new.visitor) enters keeps result
