@@ -1,39 +1,26 @@
 //! Why bytes are refused.
 use std::alloc::{AllocError, AllocFailed};
-use thiserror::Error;
+use std::error::Error;
+use std::fmt;
 
 /// The rule that fails, and the offset in bytes from the buffer's start.
 ///
 /// `MissingRequired` also names the slot. `Memory` is a refused allocation and no rule.
-#[derive(Clone, Copy, Debug, PartialEq, Eq, Drop, Error)]
+#[derive(Clone, Copy, PartialEq, Eq, Drop)]
 pub enum ReadFault {
-    #[error("the buffer ends at {0}, inside its header")]
     Short(u64),
-    #[error("the buffer is longer than {0} bytes")]
     TooLong(u64),
-    #[error("the file identifier at {0} is not the schema's")]
     WrongIdentifier(u64),
-    #[error("position {0} is not aligned")]
     Misaligned(u64),
-    #[error("what is at {0} ends past the buffer")]
     OutOfBounds(u64),
-    #[error("the reference at {0} is 0")]
     ZeroOffset(u64),
-    #[error("the table at {0} has no valid vtable")]
     BadVtable(u64),
-    #[error("the required slot {1} is missing at {0}")]
     MissingRequired(u64, u16),
-    #[error("the string that ends at {0} has no zero byte")]
     NoTerminator(u64),
-    #[error("the string's byte at {0} is not UTF-8")]
     BadUtf8(u64),
-    #[error("the union's code at {0} has no value")]
     UnionMismatch(u64),
-    #[error("the table at {0} is too deep")]
     TooDeep(u64),
-    #[error("the cells at {0} are too many")]
     TooManyCells(u64),
-    #[error("out of memory")]
     Memory,
 }
 
@@ -122,3 +109,53 @@ impl<T: Drop> From<AllocFailed<T>> for ReadFault {
         ReadFault::Memory
     }
 }
+
+impl ReadFault {
+    // What its sentence says before the offset and behind it; of a missing slot, before and behind the slot's number.
+    fn sentence(self) -> (&'static str, &'static str) {
+        match self {
+            ReadFault::Short(_) => ("the buffer ends at ", ", inside its header"),
+            ReadFault::TooLong(_) => ("the buffer is longer than ", " bytes"),
+            ReadFault::WrongIdentifier(_) => ("the file identifier at ", " is not the schema's"),
+            ReadFault::Misaligned(_) => ("position ", " is not aligned"),
+            ReadFault::OutOfBounds(_) => ("what is at ", " ends past the buffer"),
+            ReadFault::ZeroOffset(_) => ("the reference at ", " is 0"),
+            ReadFault::BadVtable(_) => ("the table at ", " has no valid vtable"),
+            ReadFault::NoTerminator(_) => ("the string that ends at ", " has no zero byte"),
+            ReadFault::BadUtf8(_) => ("the string's byte at ", " is not UTF-8"),
+            ReadFault::UnionMismatch(_) => ("the union's code at ", " has no value"),
+            ReadFault::TooDeep(_) => ("the table at ", " is too deep"),
+            ReadFault::TooManyCells(_) => ("the cells at ", " are too many"),
+            ReadFault::MissingRequired(_, _) => ("the required slot ", " is missing at "),
+            ReadFault::Memory => ("out of memory", ""),
+        }
+    }
+}
+
+impl fmt::Display for ReadFault {
+    fn fmt<W: fmt::Write>(&self, f: &mut fmt::Formatter<W>) -> fmt::Result {
+        let (before, behind) = self.sentence();
+        if let ReadFault::MissingRequired(at, slot) = self {
+            return write!(f, "{before}{slot}{behind}{at}");
+        }
+        match self.offset() {
+            Some(at) => write!(f, "{before}{at}{behind}"),
+            None => f.write_str(before),
+        }
+    }
+}
+
+impl fmt::Debug for ReadFault {
+    fn fmt<W: fmt::Write>(&self, f: &mut fmt::Formatter<W>) -> fmt::Result {
+        let mut shown = f.debug_tuple(self.name());
+        if let Some(at) = self.offset() {
+            shown.field(&at);
+        }
+        if let ReadFault::MissingRequired(_, slot) = self {
+            shown.field(slot);
+        }
+        shown.finish()
+    }
+}
+
+impl Error for ReadFault {}
