@@ -18,6 +18,10 @@ pub refused_then : (old spent mid spent_mid new last most : ℕ) → mid + spent
     → new + spent_mid ≤ mid + (most + 1) → last ≡ new → last + spent ≤ old + (most + 1)
 refused_then old spent mid spent_mid new last most before here is_new = omega arith
 
+pub spent_within : (old spent last spent_last most : ℕ) → last + spent ≤ old + spent_last → spent_last ≤ most
+    → last + spent ≤ old + (most + 1)
+spent_within old spent last spent_last most here few = omega arith
+
 -- a table itself, and what its entries take
 pub table_then : (old mid spent new spent_new : ℕ) → mid ≡ old + 1 → new + (spent + 1) ≤ mid + spent_new
     → new + spent ≤ old + spent_new
@@ -40,5 +44,5 @@ below i n m less few = omega arith
 pub rest_long : {A : Type 0} (xs : List A) (i n : ℕ) → i ≡ n → n ≤ length xs → i + length (drop n xs) ≡ length xs
 rest_long xs i n is few = omega (arith, length-drop n xs)
 
-pub one_more : (k : ℕ) → suc k ≡ k + 1
-one_more k = omega arith
+pub one_after : (k : ℕ) → suc k ≡ k + 1
+one_after k = omega arith

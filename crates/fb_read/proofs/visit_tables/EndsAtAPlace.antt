@@ -1,5 +1,6 @@
 -- How a walk ends at a place, by how it ends at what the place names.
-use Rattle.std.proofs.Common.{◌≡◌, ℕ, ◌+◌, ◌≤◌, List, [], ◌∷◌, Some, Result, Ok, Err, MatchResult, IfOk, OnOk, ◌∙◌}
+use Rattle.std.proofs.Common.{◌≡◌, ℕ, ◌+◌, ◌≤◌, List, [], ◌∷◌, Option, Some, Result, Ok, Err, MatchResult, IfOk, OnOk}
+use Rattle.std.proofs.Common.{◌∙◌}
 use Rattle.std.proofs.Common.{arith}
 use Rattle.fb_value.specs.declared.faults.ReadFault.{ReadFault}
 use Rattle.fb_value.specs.declared.faults.ReadFault.TheVariants.{Memory}
@@ -14,9 +15,10 @@ use Rattle.fb_read.specs.declared.step.Step.TheVariants.{Reference, Element}
 use Rattle.fb_read.specs.declared.walk.Mark.{Mark}
 use Rattle.fb_read.specs.declared.walk.Walk.{Walk}
 use Rattle.fb_read.specs.Ends.{IsRefused, PassesAt, EndsAt, EndsAtEach}
-use Rattle.fb_read.specs.FaultPaths.{HearsFrom, Hears}
+use Rattle.fb_read.specs.FaultPaths.{HearsFrom, HearsAmong, Hears}
 use Rattle.fb_read.specs.Visited.{HasVisited}
-use Rattle.fb_read.specs.Walks.{place, limits_of, visit_in, TicksWithin, EntersAt, EntersItems}
+use Rattle.fb_read.specs.Walks.{place, limits_of, visit_in, visit_entry_in, visit_each_in, TicksWithin, EntersAt}
+use Rattle.fb_read.specs.Walks.{EntersItems}
 use Rattle.fb_read.specs.Values.{Gives, KeepsAt, KeepsItems}
 use Rattle.fb_layout.specs.Laid.{StoredKind}
 use Rattle.fb_read.proofs.visit_tables.VisitsOnePlaceAfterAnother.{visit_fault, visit_over, visit_ref, visit_vector}
@@ -33,6 +35,25 @@ memory_refused takes buffer old new given hears f may is ticks = record {
   ticks = ticks;
   hears = λ lasts. absurd (lasts may is);
 }
+
+-- The same at a slot, and at several places.
+pub entry_memory : {V : Type 0} (takes : Type 0) (told : V → List Step → V → Type 0) (buffer : Buffer)
+    (x : Option Place) (tables : ℕ) (old new : Walk V) (f : ReadFault) → takes → f ≡ Memory
+    → new.ticks + old.spent ≤ old.ticks + (buffer.most_cells + 1)
+    → IsRefused takes buffer old new (visit_entry_in buffer x tables old.spent)
+    (HearsFrom told buffer x tables old.spent old.visitor new.visitor) f
+entry_memory takes told buffer x tables old new f may is ticks =
+    memory_refused takes buffer old new (visit_entry_in buffer x tables old.spent)
+    (HearsFrom told buffer x tables old.spent old.visitor new.visitor) f may is ticks
+
+pub each_memory : {V : Type 0} (takes : Type 0) (told : V → List Step → V → Type 0) (step_to : ℕ → Step)
+    (buffer : Buffer) (xs : List (Option Place)) (tables : ℕ) (old new : Walk V) (f : ReadFault) → takes → f ≡ Memory
+    → new.ticks + old.spent ≤ old.ticks + (buffer.most_cells + 1)
+    → IsRefused takes buffer old new (visit_each_in buffer xs tables old.spent)
+    (HearsAmong told step_to buffer xs tables old.spent old.visitor new.visitor) f
+each_memory takes told step_to buffer xs tables old new f may is ticks =
+    memory_refused takes buffer old new (visit_each_in buffer xs tables old.spent)
+    (HearsAmong told step_to buffer xs tables old.spent old.visitor new.visitor) f may is ticks
 
 -- a walk that has entered a part
 abbrev pub ticked : {V : Type 0} → Walk V → ℕ → Walk V
@@ -71,6 +92,17 @@ module _ {V K : Type 0} (takes : Type 0) (told : V → List Step → V → Type 
       → IfOk r (KeepsAt keeps buffer x)
   ends_kept (Ok kept) passes = passes.kept
   ends_kept (Err f) ends = tt
+
+  -- where the result is known
+  pub ends_passed : (r : Result K ReadFault) (kept : K) → r ≡ Ok kept
+      → EndsAt takes told keeps buffer x tables old new r → PassesAt keeps buffer x tables old new kept
+  ends_passed r kept was ends = rw was at ends
+
+  pub ends_refused : (r : Result K ReadFault) (f : ReadFault) → r ≡ Err f
+      → EndsAt takes told keeps buffer x tables old new r
+      → IsRefused takes buffer old new (visit_in buffer x tables old.spent)
+      (HearsFrom told buffer (Some x) tables old.spent old.visitor new.visitor) f
+  ends_refused r f was ends = rw was at ends
 
 -- ---- its own faults
 

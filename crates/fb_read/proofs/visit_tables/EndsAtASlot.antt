@@ -229,6 +229,24 @@ module _ {V K : Type 0} (keeps : K → Datum → Type 0) (buffer : Buffer) where
         kept = λ f none o lies. (no_member_kept keeps buffer c q walk.ticks kept f o known (rw coded at lies)).1;
       })
 
+-- where the result is known, and the slots behind it by another name
+module _ {V K : Type 0} (takes : Type 0) (told : V → List Step → V → Type 0) (keeps : K → Datum → Type 0)
+    (buffer : Buffer) (p k : ℕ) (later rest : List FieldInfo) (field : FieldInfo) (tables : ℕ) (old new : Walk V) where
+  pub slot_passed : (r : Result (Option K) ReadFault) (kept : Option K) → later ≡ rest → r ≡ Ok kept
+      → EndsAtEntry takes told (λ found. KeepsInSlot keeps buffer (slot_seen buffer.layout.now field)
+      (slot_at buffer p k later field) found) buffer (slot_at buffer p k later field) tables old new r
+      → Passes buffer old new (visit_entry_in buffer (slot_at buffer p k rest field) tables old.spent)
+      (λ before after. EntersSlot buffer (slot_at buffer p k rest field) before after)
+      (λ found. KeepsInSlot keeps buffer (slot_seen buffer.layout.now field) (slot_at buffer p k rest field) found) kept
+  slot_passed r kept is was ends = rw (is, was) at ends
+
+  pub slot_was_refused : (r : Result (Option K) ReadFault) (e : ReadFault) → later ≡ rest → r ≡ Err e
+      → EndsAtEntry takes told (λ found. KeepsInSlot keeps buffer (slot_seen buffer.layout.now field)
+      (slot_at buffer p k later field) found) buffer (slot_at buffer p k later field) tables old new r
+      → IsRefused takes buffer old new (visit_entry_in buffer (slot_at buffer p k rest field) tables old.spent)
+      (HearsFrom told buffer (slot_at buffer p k rest field) tables old.spent old.visitor new.visitor) e
+  slot_was_refused r e is was ends = rw (is, was) at ends
+
 -- refused at what a slot names
 pub slot_refused : {V K : Type 0} (takes : Type 0) (told : V → List Step → V → Type 0) (keeps : Option K → Type 0)
     (buffer : Buffer) (x : Option Place) (y : Place) (tables : ℕ) (old new : Walk V) (f g : ReadFault)

@@ -16,7 +16,8 @@ use Rattle.fb_read.proofs.visit_tables.EndsAtAPlace.{leaf_refused}
 use Rattle.fb_read.proofs.visit_tables.EndsAtASlot.{slot_names, slot_names_one, slot_names_code, slot_names_none}
 use Rattle.fb_read.proofs.visit_tables.EndsAtASlot.{slot_names_union, ref_slot_passes, no_place_passes}
 use Rattle.fb_read.proofs.visit_tables.EndsAtASlot.{code_passes, member_passes, no_value_passes, no_member_passes}
-use Rattle.fb_read.proofs.visit_tables.EndsAtASlot.{slot_refused, member_slot_refused, union_slot_ends}
+use Rattle.fb_read.proofs.visit_tables.EndsAtASlot.{slot_refused, slot_was_refused, member_slot_refused}
+use Rattle.fb_read.proofs.visit_tables.EndsAtASlot.{union_slot_ends}
 use Rattle.fb_read.proofs.visit_tables.EndsAtASlot.{union_has_no_default, inline_slot_ends}
 use Rattle.fb_read.proofs.visit_tables.EnteredPartsAreCounted.{rest_entered}
 use Rattle.fb_read.proofs.visit_tables.FrontIsFreeOfFaults.{front_fails, slots_rest_free, slot_found}
@@ -29,7 +30,11 @@ a_slot_refused g t c =
     let buffer = c.args.buffer.now in
     let L = buffer.layout.now in
     let b = buffer.bytes.now in
-    let ends = rw (c.split_at.ensures.back, c.in_err-visited.was) at c.visit_slot-visited.ensures in
+    let ends = slot_was_refused g.V.Visitor.takes_memory g.V.Visitor.told g.V.Visitor.keeps c.args.buffer.now
+    c.args.table.at c.loop-slot.slot c.split_at.result.1.now (drop (c.loop-slot.slot + 1) c.args.slots.now)
+    c.index-slots-slot.result c.args.tables c.loop-slot.walk c.visit_slot-visited.new.walk c.visit_slot-visited.result
+    c.in_err-visited.field-0.0
+    c.split_at.ensures.back c.in_err-visited.was c.visit_slot-visited.ensures in
     let tells = rw c.in_err-visited.was at c.tell.ensures.told in
     let less = below c.loop-slot.slot c.stored_slots-present.result (length c.args.slots.now) c.loop-slot-test.true
     c.stored_slots-present.ensures.few in

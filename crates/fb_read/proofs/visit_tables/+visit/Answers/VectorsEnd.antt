@@ -10,7 +10,8 @@ use Rattle.fb_read.specs.Walks.{place, limits_of}
 use Rattle.fb_value.specs.Counts.{parts_entered}
 use Rattle.fb_read.specs.Tails.{parts_from}
 use Rattle.fb_read.proofs.visit_tables.CountsGoOn.{not_entered, just_entered, refused_then, none_left, at_end}
-use Rattle.fb_read.proofs.visit_tables.EndsAtAPlace.{ticked, place_refused, rule_refused, limit_refused}
+use Rattle.fb_read.proofs.visit_tables.EndsAtAPlace.{ticked, ends_refused, place_refused, rule_refused}
+use Rattle.fb_read.proofs.visit_tables.EndsAtAPlace.{limit_refused}
 use Rattle.fb_read.proofs.visit_tables.EndsAtAPlace.{passes_behind, ends_behind, has_visited, vector_ends}
 use Rattle.fb_read.proofs.visit_tables.EnteredPartsAreCounted.{vector_entered, items_free, parts_end}
 use Rattle.fb_read.proofs.visit_tables.FrontIsFreeOfFaults.{front_fails, front_whole, element_named, elements_long}
@@ -135,7 +136,10 @@ element_refused g t c =
     let p = err_from_is_err_and c.from_residual-in_err-visited.result c.from_residual-in_err-visited.ensures.1 in
     let X = led_to c.args.reference in
     let xs = named_elements X c.args.at c.args.count in
-    let ends = rw c.in_err-visited.was at c.visit_behind-visited.ensures in
+    let ends = ends_refused g.V.Visitor.takes_memory g.V.Visitor.told g.V.Visitor.keeps c.args.buffer.now
+    (place (ref_place (led_to c.args.reference)) (c.args.at + 4 * c.loop-i.i)) c.args.tables c.loop-i.walk
+    c.visit_behind-visited.new.walk
+    c.visit_behind-visited.result c.in_err-visited.field-0.0 c.in_err-visited.was c.visit_behind-visited.ensures in
     let tells = rw c.in_err-visited.was at c.tell.ensures.told in
     let there = Some (place (ref_place X) (c.args.at + 4 * c.loop-i.i)) in
     let named = element_named X c.args.at c.args.count c.loop-i.i c.loop-i-test.true in

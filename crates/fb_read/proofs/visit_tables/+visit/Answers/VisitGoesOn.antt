@@ -6,6 +6,8 @@ use Rattle.fb_value.specs.Places.{named_slots, named_elements}
 use Rattle.fb_read.specs.Values.{led_to}
 use Rattle.fb_read.specs.Walks.{place, limits_of}
 use Rattle.fb_read.specs.Visits.{slots_seen}
+use Rattle.fb_read.proofs.visit_tables.EndsAtAPlace.{ends_passed}
+use Rattle.fb_read.proofs.visit_tables.EndsAtASlot.{slot_passed}
 use Rattle.fb_read.proofs.visit_tables.CountsGoOn.{entered_then, below}
 use Rattle.fb_read.proofs.visit_tables.EnteredPartsAreCounted.{slot_step, element_step}
 use Rattle.fb_read.proofs.visit_tables.VisitsOnePlaceAfterAnother.{each_nil}
@@ -17,7 +19,10 @@ use Rattle.fb_read.proofs.visit_tables.+visit.Goals as goal
 pub next_element_visited : goal.visit_elements-loop-i-preserved
 next_element_visited g t c =
     let most = limits_of c.args.buffer.now in
-    let passes = rw c.in_ok-visited.was at c.visit_behind-visited.ensures in
+    let passes = ends_passed g.V.Visitor.takes_memory g.V.Visitor.told g.V.Visitor.keeps c.args.buffer.now
+    (place (ref_place (led_to c.args.reference)) (c.args.at + 4 * c.loop-i.i)) c.args.tables c.loop-i.walk
+    c.visit_behind-visited.new.walk
+    c.visit_behind-visited.result c.in_ok-visited.field-0 c.in_ok-visited.was c.visit_behind-visited.ensures in
     let told = rw c.in_ok-visited.was at c.tell.ensures.told in
     record {
       before = rw c.tell.ensures.spent (front_next c.args.buffer.now.layout.now c.args.buffer.now.bytes.now most
@@ -48,7 +53,11 @@ next_slot_visited g t c =
     let L = c.args.buffer.now.layout.now in
     let b = c.args.buffer.now.bytes.now in
     let most = limits_of c.args.buffer.now in
-    let passes = rw (c.split_at.ensures.back, c.in_ok-visited.was) at c.visit_slot-visited.ensures in
+    let passes = slot_passed g.V.Visitor.takes_memory g.V.Visitor.told g.V.Visitor.keeps c.args.buffer.now
+    c.args.table.at c.loop-slot.slot c.split_at.result.1.now (drop (c.loop-slot.slot + 1) c.args.slots.now)
+    c.index-slots-slot.result c.args.tables c.loop-slot.walk c.visit_slot-visited.new.walk c.visit_slot-visited.result
+    c.in_ok-visited.field-0
+    c.split_at.ensures.back c.in_ok-visited.was c.visit_slot-visited.ensures in
     let told = rw c.in_ok-visited.was at c.tell.ensures.told in
     let less = below c.loop-slot.slot c.stored_slots-present.result (length c.args.slots.now) c.loop-slot-test.true
     c.stored_slots-present.ensures.few in
