@@ -1,3 +1,4 @@
+mod PartsGiveTheWhole
 mod StructIsRead
 use Rattle.std.proofs.Common.{◌≡◌, ◌∙◌, ◌++◌, ◌∷◌, ◌≤◌, [], refl, sym, ap, length, map}
 use Rattle.std.proofs.Common.{Ok, Some, option_map, inl, arith}
@@ -28,6 +29,10 @@ use Rattle.fb_json.proofs.tree.PathGoesThroughParts.{to_slot, to_entry, slot_nex
 use Rattle.fb_json.proofs.tree.PathGoesThroughParts.{element_next, in_vector, too_deep, too_many, unknown_in_table}
 use Rattle.fb_json.proofs.tree.PathGoesThroughParts.{full_vector, in_table}
 use Rattle.fb_json.proofs.tree.TrailLeadsToTheFault.{here, goes, fails_behind, fault_given}
+use Rattle.fb_json.proofs.+tree.Answers.PartsGiveTheWhole.{object_nests_less, object_given, trail_of_object}
+use Rattle.fb_json.proofs.+tree.Answers.PartsGiveTheWhole.{array_nests_less, trail_of_array, refused_element_given}
+use Rattle.fb_json.proofs.+tree.Answers.PartsGiveTheWhole.{all_elements_given, refused_vector_given, vector_given}
+use Rattle.fb_json.proofs.+tree.Answers.PartsGiveTheWhole.{struct_given, table_given, member_given}
 use Rattle.fb_json.proofs.+tree.Answers.StructIsRead.{fields_are_those, members_nest_less, trail_through_struct}
 use Rattle.fb_json.proofs.+tree.Answers.StructIsRead.{trail_of_struct, trail_of_refused_value, trail_of_value}
 use Rattle.fb_json.proofs.+tree.Answers.StructIsRead.{part_nests_less, refused_part_given, trail_to_refused_part}
@@ -339,3 +344,41 @@ structs::parts-loop-k-preserved = one_part_more
 
 pub structs::parts-returns-clause-gives : goal.structs::parts-returns-clause-gives
 structs::parts-returns-clause-gives = all_parts_given
+
+-- ---- wholes
+
+pub tree::value-object-requires : goal.tree::value-object-requires
+tree::value-object-requires = object_nests_less
+
+pub tree::value-returns-in-Object-clause-gives : goal.tree::value-returns-in-Object-clause-gives
+tree::value-returns-in-Object-clause-gives = object_given
+
+pub tree::value-returns-in-Object-clause-trail : goal.tree::value-returns-in-Object-clause-trail
+tree::value-returns-in-Object-clause-trail = trail_of_object
+
+pub tree::value-vector-requires : goal.tree::value-vector-requires
+tree::value-vector-requires = array_nests_less
+
+pub tree::value-returns-in-Array-clause-trail : goal.tree::value-returns-in-Array-clause-trail
+tree::value-returns-in-Array-clause-trail = trail_of_array
+
+pub tree::items-returns-in-Err-clause-gives : goal.tree::items-returns-in-Err-clause-gives
+tree::items-returns-in-Err-clause-gives = refused_element_given
+
+pub tree::items-returns-clause-gives : goal.tree::items-returns-clause-gives
+tree::items-returns-clause-gives = all_elements_given
+
+pub tree::vector-returns-in_err-items-clause-gives : goal.tree::vector-returns-in_err-items-clause-gives
+tree::vector-returns-in_err-items-clause-gives = refused_vector_given
+
+pub tree::vector-returns-clause-gives : goal.tree::vector-returns-clause-gives
+tree::vector-returns-clause-gives = vector_given
+
+pub structs::structure-returns-clause-gives : goal.structs::structure-returns-clause-gives
+structs::structure-returns-clause-gives = struct_given
+
+pub tables::table-returns-clause-gives : goal.tables::table-returns-clause-gives
+tables::table-returns-clause-gives = table_given
+
+pub entries::member-returns-clause-gives : goal.entries::member-returns-clause-gives
+entries::member-returns-clause-gives = member_given

@@ -145,5 +145,11 @@ module _ (L : LaidSchema) (unknown : Bool) (kind : Kind) (at : Place) (levels le
       → after front (items_meant L unknown (items_view (v ∷ vs)) kind at levels left) ≡ Err fault
   items_ungiven v vs fault given = rw given refl
 
+  pub element_ungiven : (es : List Json) (i : ℕ) (e : Json) → i < length es → e ≡ get_or es i e → (fault : JsonFault)
+      → meant L unknown (tree_view e) (One kind) at levels left ≡ Err fault
+      → after front (items_meant L unknown (items_view (drop i es)) kind at levels left) ≡ Err fault
+  element_ungiven es i e within is fault given =
+      rw (drop_at es i e within is) (items_ungiven e (drop (i + 1) es) fault given)
+
   pub items_end : after front (items_meant L unknown (items_view []) kind at levels left) ≡ Ok (front, left)
   items_end = rw append-nil refl
