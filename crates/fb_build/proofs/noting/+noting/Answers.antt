@@ -7,9 +7,11 @@ use Rattle.fb_build.proofs.noting.+noting.Answers.EntryIsNoted.{inline_adds_itse
 use Rattle.fb_build.proofs.noting.+noting.Answers.TableIsNoted.{no_slot_yet, next_entry_fits, next_entry_noted}
 use Rattle.fb_build.proofs.noting.+noting.Answers.TableIsNoted.{all_slots_noted, entries_known}
 use Rattle.fb_build.proofs.noting.+noting.Answers.TableIsNoted.{fields_are_stored, table_adds_itself}
+use Rattle.fb_build.proofs.noting.+noting.Answers.TableIsNoted.{entry_there, all_parts_added, first_within}
+use Rattle.fb_build.proofs.noting.+noting.Answers.TableIsNoted.{first_kept, opened_again}
 use Rattle.fb_build.proofs.noting.+noting.Answers.VectorIsNoted.{elements_add, references_add, member_fits}
 use Rattle.fb_build.proofs.noting.+noting.Answers.VectorIsNoted.{member_adds, table_fits, fields_add, item_fits}
-use Rattle.fb_build.proofs.noting.+noting.Answers.VectorIsNoted.{item_adds}
+use Rattle.fb_build.proofs.noting.+noting.Answers.VectorIsNoted.{item_adds, all_items_added, union_member_known, items_fit}
 use Rattle.fb_build.proofs.noting.+noting.Goals as goal
 
 pub note_entries-loop-k-init : goal.note_entries-loop-k-init
@@ -65,3 +67,27 @@ note_entry-returns-then-is_default-clause-fields = default_adds_nothing
 
 pub note_entry-returns-clause-fields : goal.note_entry-returns-clause-fields
 note_entry-returns-clause-fields = inline_adds_itself
+
+pub note_entries-bounds-entries-k : goal.note_entries-bounds-entries-k
+note_entries-bounds-entries-k = entry_there
+
+pub note_entries-returns-clause-adds : goal.note_entries-returns-clause-adds
+note_entries-returns-clause-adds = all_parts_added
+
+pub note_table-close_table-requires-clause-within : goal.note_table-close_table-requires-clause-within
+note_table-close_table-requires-clause-within = first_within
+
+pub note_table-truncate-requires : goal.note_table-truncate-requires
+note_table-truncate-requires = first_kept
+
+pub note_table-returns-clause-opened : goal.note_table-returns-clause-opened
+note_table-returns-clause-opened = opened_again
+
+pub note_targets-returns-clause-adds : goal.note_targets-returns-clause-adds
+note_targets-returns-clause-adds = all_items_added
+
+pub note_part-note_member-requires : goal.note_part-note_member-requires
+note_part-note_member-requires = union_member_known
+
+pub note_part-note_items-requires : goal.note_part-note_items-requires
+note_part-note_items-requires = items_fit

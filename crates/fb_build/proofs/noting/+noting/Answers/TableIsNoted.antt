@@ -1,8 +1,9 @@
 -- A table is noted slot by slot.
-use Rattle.std.proofs.Common.{◌≡◌, ◌∙◌, ◌<◌, ◌≤◌, ℕ, suc, List, Option, Some, true, length, get_or}
-use Rattle.std.proofs.Common.{drop, option_map, slice_get}
+use Rattle.std.proofs.Common.{◌≡◌, ◌∙◌, ◌<◌, ◌≤◌, ◌++◌, ℕ, suc, List, Option, Some, true, length, get_or}
+use Rattle.std.proofs.Common.{drop, option_map, slice_get, ap}
 use Rattle.std.proofs.Common.{arith, rules}
-use Rattle.std.proofs.Math.Seq.{drop-append_seam}
+use Rattle.std.proofs.Math.Seq.{drop-append_seam, take-append_seam}
+use Rattle.std.proofs.lemmas.List.{length-append}
 use Rattle.fb_schema.specs.Seen.{field_seen}
 use Rattle.fb_schema.specs.declared.types.FieldInfo.{FieldInfo}
 use Rattle.fb_layout.specs.Laid.{LaidSchema, Slot, slot_of, slots_of}
@@ -150,3 +151,44 @@ table_adds_itself t c =
       layout = c.in_ok-close_table.ensures.layout ∙ adds.layout;
       whole = c.in_ok-close_table.ensures.whole;
     }
+
+pub entry_there : goal.note_entries-bounds-entries-k
+entry_there t c = omega (
+  arith,
+  c.loop-k-test.true,
+  slots_long c.args.layout.now c.args.slots.now,
+  entries_long c.args.entries.now,
+  c.requires.known.long,
+)
+
+pub all_parts_added : goal.note_entries-returns-clause-adds
+all_parts_added t c =
+    let L = c.args.layout.now in
+    let low : length (entries_seen c.args.entries.now) ≤ c.loop-k.k = omega (
+      arith,
+      c.loop-k-test.false,
+      slots_long L c.args.slots.now,
+      c.requires.known.long,
+    ) in
+    (all_noted L (slots_seen L c.args.slots.now) (entries_seen c.args.entries.now) c.loop-k.k _ _ _ _ low
+    c.loop-k.invariant).0
+
+-- the fields that were open stand in front of those that a table added
+opened_before : (before now own : List OpenField) → now ≡ before ++ own → length before ≤ length now
+opened_before before now own added = let long = ap length added ∙ length-append before own in omega (arith, long)
+
+pub first_within : goal.note_table-close_table-requires-clause-within
+first_within t c =
+    let added = c.in_ok-note_entries.ensures.slots in
+    rw c.len-first.ensures.exact (opened_before _ _ added.0 added.1)
+
+pub first_kept : goal.note_table-truncate-requires
+first_kept t c =
+    let added = c.in_ok-note_entries.ensures.slots in
+    record { within = rw c.len-first.ensures.exact (opened_before _ _ added.0 added.1) }
+
+pub opened_again : goal.note_table-returns-clause-opened
+opened_again t c =
+    let before = c.args.noting.now.opened in
+    let added = c.in_ok-note_entries.ensures.slots in
+    c.truncate.ensures.first ∙ rw (c.len-first.ensures.exact, added.1) (take-append_seam before added.0)

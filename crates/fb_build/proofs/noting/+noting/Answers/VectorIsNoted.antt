@@ -8,11 +8,12 @@ use Rattle.fb_value.specs.Room.{vector_room, parts_room}
 use Rattle.fb_value.specs.View.{view, parts_in, parts_view, entries_view}
 use Rattle.fb_tape.specs.NamedParts.{elements_apart}
 use Rattle.fb_value.specs.declared.values.Value.{the_lemmas}
-use Rattle.fb_value.proofs.types.EachVariantHasItsView.{view-Fields, count-parts_view}
+use Rattle.fb_value.proofs.types.EachVariantHasItsView.{view-Fields, view-Items, view-Member}
+use Rattle.fb_value.proofs.types.EachVariantHasItsView.{count-parts_view}
 use Rattle.fb_build.specs.Fields.{kind_seen, shape_seen}
 use Rattle.fb_build.proofs.noted.OneMoreFits.{parts_room_more}
-use Rattle.fb_build.proofs.rooms.RoomsAddUp.{table_entries}
-use Rattle.fb_build.proofs.noted.ElementsAreNoted.{each_fits, seen_more}
+use Rattle.fb_build.proofs.rooms.RoomsAddUp.{member_table, table_entries}
+use Rattle.fb_build.proofs.noted.ElementsAreNoted.{all_seen, each_fits, seen_more}
 use Rattle.fb_build.proofs.noted.PartsFollow.{nothing_apart, table_named, element_simple, each_whole, named_more}
 use Rattle.fb_build.proofs.noted.PartsAreAdded.{adds_then, adds_same}
 use Rattle.fb_build.proofs.tables.PartsFitTheirSlots.{items_known}
@@ -142,3 +143,45 @@ item_adds t c =
           (adds_then _ _ _ _ _ _ _ inv.adds c.in_ok-note_part.ensures.adds);
       opened = c.in_ok-note_part.ensures.opened ∙ inv.opened;
     }
+
+pub all_items_added : goal.note_targets-returns-clause-adds
+all_items_added t c =
+    let items = c.args.items.now in
+    rw (all_seen items c.loop-item.item-index c.loop-item-test.false) at c.loop-item.invariant.adds
+
+pub union_member_known : goal.note_part-note_member-requires
+union_member_known t c =
+    let L = c.args.layout.now in
+    let code = c.in-Member-default.field-0-0 in
+    let m = c.in-Member-default.member in
+    let fits = rw (c.in-Member-default.is-0, view-Member code m) at c.requires.fits in
+    let whole = rw (c.in-Member-default.is-0, view-Member code m) at c.requires.known in
+    let is = c.deref-in-Member-default.ensures in (
+      search (rules, the_lemmas),
+      (
+        c.requires.layout,
+        (
+          c.requires.whole,
+          (rw is (member_table L (shape_seen L c.args.shape) code (view m.value) fits), rw is whole),
+        ),
+      ),
+    )
+
+pub items_fit : goal.note_part-note_items-requires
+items_fit t c =
+    let items = c.in-Items-Many.items in
+    let fits = rw (c.in-Items-Many.is-0, view-Items items, c.in-Items-Many.is-1) at c.requires.fits in
+    let whole = rw (c.in-Items-Many.is-0, view-Items items) at c.requires.known in
+    let is = c.deref-in-Items-Many.ensures.value in (
+      search (rules, the_lemmas),
+      (
+        c.requires.layout,
+        (
+          c.requires.whole,
+          (
+            rw c.in-Items-Many.is-1 at c.requires.simple,
+            (rw c.in-Items-Many.is-1 at c.requires.low, (rw is fits, rw is whole)),
+          ),
+        ),
+      ),
+    )
