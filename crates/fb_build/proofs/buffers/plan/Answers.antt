@@ -27,6 +27,18 @@ table_with_parts_room-room-requires-clause-whole c =
     let whole = rw (c.in-Fields.is, view-Fields c.in-Fields.table c.in-Fields.entries) at c.requires.whole in
     rw c.deref.ensures.value whole
 
+pub note_root-requires-clause-fits : goal.note_root-requires-clause-fits
+note_root-requires-clause-fits c =
+    let L = c.args.layout.now in
+    let fits = (root_fits L _ c.schema-schema.ensures.made).0 c.requires.fits in
+    let own = rw (c.in-Fields.is, view-Fields c.in-Fields.table c.in-Fields.entries) at fits in
+    rw (c.deref-2.ensures.value, own.0) own.1
+
+pub note_root-requires-clause-known : goal.note_root-requires-clause-known
+note_root-requires-clause-known c =
+    let whole = rw (c.in-Fields.is, view-Fields c.in-Fields.table c.in-Fields.entries) at c.requires.whole in
+    rw c.deref-2.ensures.value whole
+
 pub returns-in_default-buffer_room-clause-too_big : goal.returns-in_default-buffer_room-clause-too_big
 returns-in_default-buffer_room-clause-too_big c same =
     let sized = rw c.deref.ensures.value at c.table_with_parts_room-room.ensures.room in

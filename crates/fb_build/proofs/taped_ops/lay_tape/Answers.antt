@@ -1,5 +1,5 @@
 use Rattle.std.proofs.Common.{◌∙◌, take, drop, slice_index_or, arith, length-drop}
-use Rattle.std.proofs.lemmas.List.{drop-drop}
+use Rattle.std.proofs.lemmas.List.{drop-drop, drop_all}
 use Rattle.fb_layout.specs.WellMade.{IsWellMade}
 use Rattle.fb_build.specs.TapeLaid.{op_fields, op_bytes, op_vtable}
 use Rattle.fb_build.specs.Steps.{Steps}
@@ -29,6 +29,20 @@ lay_op-passed_by-requires-clause-ready c =
     in
     rw (c.fields_from-fields_left.ensures.exact, c.bytes_from-bytes_left.ensures.exact)
     (may_lay_op _ _ _ _ _ _ _ _ h (rw c.requires.layout c.schema-schema.ensures.made) c.requires.different)
+
+pub overflow_add-at_field : goal.overflow_add-at_field
+overflow_add-at_field c =
+    let w = c.requires.means in
+    let inv = c.loop-i.invariant in
+    let h = rw (op_behind c.ops-ops.result.now c.loop-i.i c.loop-i-test.true) at (inv.laid w.parts w.lay) in
+    let within = fields_within _ _ _ _ _ _ _ _ h in
+    omega (
+      arith,
+      within,
+      c.lay_op-passed_by.ensures.fields,
+      length-drop c.loop-i.at_field c.fields-fields.result.now,
+      inv.fields_within,
+    )
 
 pub overflow_add-at_byte : goal.overflow_add-at_byte
 overflow_add-at_byte c =
@@ -79,3 +93,9 @@ loop-i-preserved c =
       most = (let before = rw cons at inv.most in rw now.most before);
       grows = then_grows _ _ _ inv.grows steps.grows;
     }
+
+pub returns-clause-long : goal.returns-clause-long
+returns-clause-long c = rw (drop_all c.loop-i.i c.ops-ops.result.now c.loop-i-test.false) at c.loop-i.invariant.long
+
+pub returns-clause-most : goal.returns-clause-most
+returns-clause-most c = rw (drop_all c.loop-i.i c.ops-ops.result.now c.loop-i-test.false) at c.loop-i.invariant.most
