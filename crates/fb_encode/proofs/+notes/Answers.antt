@@ -15,6 +15,7 @@ use Rattle.fb_encode.proofs.+notes.Answers.TargetIsNoted.{text_adds_itself, text
 use Rattle.fb_encode.proofs.+notes.Answers.VectorIsNoted.{no_array_refused, long_array_refused, elements_add}
 use Rattle.fb_encode.proofs.+notes.Answers.VectorIsNoted.{element_fault_refused, target_fault_refused, references_add}
 use Rattle.fb_encode.proofs.+notes.Answers.VectorIsNoted.{next_target_adds}
+use Rattle.fb_encode.proofs.+notes.Answers.TableIsNoted.{slot_has_a_tree, first_within, first_kept, fields_are_closed}
 use Rattle.fb_encode.proofs.+notes.Goals as goal
 
 pub entries::note_member-returns-in_default-clause-refused : goal.entries::note_member-returns-in_default-clause-refused
@@ -125,3 +126,15 @@ tables::note_table-close_table-requires-clause-stored = fields_are_stored
 
 pub tables::note_table-returns-clause-noted : goal.tables::note_table-returns-clause-noted
 tables::note_table-returns-clause-noted = table_adds_itself
+
+pub tables::note_table-get-tree-requires : goal.tables::note_table-get-tree-requires
+tables::note_table-get-tree-requires = slot_has_a_tree
+
+pub tables::note_table-close_table-requires-clause-within : goal.tables::note_table-close_table-requires-clause-within
+tables::note_table-close_table-requires-clause-within = first_within
+
+pub tables::note_table-truncate-requires : goal.tables::note_table-truncate-requires
+tables::note_table-truncate-requires = first_kept
+
+pub tables::note_table-returns-clause-opened : goal.tables::note_table-returns-clause-opened
+tables::note_table-returns-clause-opened = fields_are_closed

@@ -8,6 +8,8 @@ use Rattle.fb_encode.proofs.+reads.Answers.LongVectorIsNoted.{next_run_noted, ru
 use Rattle.fb_encode.proofs.+reads.Answers.SlotIsNoted.{reference_adds_itself, reference_fault_found}
 use Rattle.fb_encode.proofs.+reads.Answers.SlotIsNoted.{absent_adds_nothing, slot_without_text_noted}
 use Rattle.fb_encode.proofs.+reads.Answers.SlotIsNoted.{bracketed_has_a_part, bracketed_noted, text_read, text_noted}
+use Rattle.fb_encode.proofs.+reads.Answers.LongTableIsNoted.{slot_has_a_text, first_within, first_kept}
+use Rattle.fb_encode.proofs.+reads.Answers.LongTableIsNoted.{fields_are_closed}
 use Rattle.fb_encode.proofs.+reads.Goals as goal
 
 pub vectors::note_run-returns-then-reads_alone-clause-noted :
@@ -77,3 +79,15 @@ objects::note_members-close_table-requires-clause-stored = fields_are_stored
 
 pub objects::note_members-returns-clause-noted : goal.objects::note_members-returns-clause-noted
 objects::note_members-returns-clause-noted = table_adds_itself
+
+pub objects::note_members-index-requires : goal.objects::note_members-index-requires
+objects::note_members-index-requires = slot_has_a_text
+
+pub objects::note_members-close_table-requires-clause-within : goal.objects::note_members-close_table-requires-clause-within
+objects::note_members-close_table-requires-clause-within = first_within
+
+pub objects::note_members-truncate-requires : goal.objects::note_members-truncate-requires
+objects::note_members-truncate-requires = first_kept
+
+pub objects::note_members-returns-clause-opened : goal.objects::note_members-returns-clause-opened
+objects::note_members-returns-clause-opened = fields_are_closed

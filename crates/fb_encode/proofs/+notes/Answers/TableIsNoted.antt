@@ -1,5 +1,6 @@
 -- A table is noted slot by slot.
 use Rattle.std.proofs.Common.{◌∙◌, None, sym, ap, map, arith, inl, option_map, ◌-◌}
+use Rattle.std.proofs.lemmas.List.{length-map}
 use Rattle.std.proofs.lemmas.Result.{err_from_is_err_and}
 use Rattle.serde_json.specs.View.{members_view}
 use Rattle.fb_schema.specs.Seen.{field_seen}
@@ -15,6 +16,7 @@ use Rattle.fb_build.proofs.fields.NumbersHaveDefaults.{marks_at}
 use Rattle.fb_encode.proofs.entries.SlotStoresNothing.{given_nothing, nothing_noted}
 use Rattle.fb_encode.proofs.tables.SlotsAreNoted.{all_given, entry_by, next_noted, no_cell, none_noted, open_table}
 use Rattle.fb_encode.proofs.tables.SlotsAreNoted.{slot_there, slots_long, table_noted, too_deep, ungiven, untold}
+use Rattle.fb_encode.proofs.tables.SlotsAreNoted.{opened_again, opened_within}
 use Rattle.fb_encode.proofs.+notes.Goals as goal
 
 pub deep_table_refused : goal.tables::note_table-returns-then-levels-eq0-clause-refused
@@ -203,3 +205,22 @@ table_adds_itself t c =
     (omega (arith, long, c.loop-k-test.false, c.loop-k.auto.k-end)) _ table c.close_table.new.self
     c.loop-k.noting.tape.layout same (rw c.len-first.ensures.exact at c.in_ok-close_table.ensures.waits)
     (rw same at c.in_ok-close_table.ensures.room) c.in_ok-close_table.ensures.whole c.in_ok-close_table.ensures.layout
+
+pub slot_has_a_tree : goal.tables::note_table-get-tree-requires
+slot_has_a_tree t c =
+    let all = c.in_ok-members_by_slot.ensures.members.all in
+    record { within = omega (arith, all, length-map c.slots_of-slots.result.now field_seen, c.loop-k-test.true) }
+
+pub first_within : goal.tables::note_table-close_table-requires-clause-within
+first_within t c =
+    let opens = c.loop-k.invariant.opens in rw c.len-first.ensures.exact (opened_within _ _ opens.0 opens.1)
+
+pub first_kept : goal.tables::note_table-truncate-requires
+first_kept t c =
+    let opens = c.loop-k.invariant.opens in
+    record { within = rw c.len-first.ensures.exact (opened_within _ _ opens.0 opens.1) }
+
+pub fields_are_closed : goal.tables::note_table-returns-clause-opened
+fields_are_closed t c =
+    let opens = c.loop-k.invariant.opens in
+    c.truncate.ensures.first ∙ rw c.len-first.ensures.exact (opened_again _ _ opens.0 opens.1)

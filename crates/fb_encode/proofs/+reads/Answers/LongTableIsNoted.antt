@@ -14,7 +14,7 @@ use Rattle.fb_encode.proofs.objects.SlotsAreFound.{open_fields}
 use Rattle.fb_encode.proofs.objects.TextIsOfItsSlot.{own_text, read_more}
 use Rattle.fb_encode.proofs.objects.CutObjectIsRead.{members_are_read}
 use Rattle.fb_encode.proofs.parts.TreesByTheirKind.{table_by}
-use Rattle.fb_encode.proofs.tables.SlotsAreNoted.{slot_there}
+use Rattle.fb_encode.proofs.tables.SlotsAreNoted.{opened_again, opened_within, slot_there}
 use Rattle.fb_encode.proofs.+reads.Goals as goal
 
 pub no_slot_yet : goal.objects::note_members-loop-k-init
@@ -142,3 +142,32 @@ table_adds_itself t c =
           c.slots_of-slots.ensures.slots c.loop-k.auto.k-end c.close_table.new.self c.loop-k.walk.noting.tape.layout
           same (rw c.len-first.ensures.exact at closed.waits) (rw same at closed.room) closed.whole closed.layout,
     )
+
+pub slot_has_a_text : goal.objects::note_members-index-requires
+slot_has_a_text t c =
+    let texts = rw c.as_slice.ensures.value at c.in_ok-texts.ensures.texts in
+    omega (
+      arith,
+      texts.all,
+      length-map c.slots_of-slots.result.now field_seen,
+      c.loop-k-test.true,
+      c.in_ok-texts.field-0.texts.ok.0,
+    )
+
+pub first_within : goal.objects::note_members-close_table-requires-clause-within
+first_within t c =
+    let found = rw c.in-Ok.is at c.loop-k.invariant.found in
+    let opens = found.noted.opens in
+    rw c.len-first.ensures.exact (opened_within _ _ opens.0 opens.1)
+
+pub first_kept : goal.objects::note_members-truncate-requires
+first_kept t c =
+    let found = rw c.in-Ok.is at c.loop-k.invariant.found in
+    let opens = found.noted.opens in
+    record { within = rw c.len-first.ensures.exact (opened_within _ _ opens.0 opens.1) }
+
+pub fields_are_closed : goal.objects::note_members-returns-clause-opened
+fields_are_closed t c =
+    let found = rw c.in-Ok.is at c.loop-k.invariant.found in
+    let opens = found.noted.opens in
+    c.truncate.ensures.first ∙ rw c.len-first.ensures.exact (opened_again _ _ opens.0 opens.1)
