@@ -1,12 +1,12 @@
 //! Why bytes are refused.
 use std::alloc::{AllocError, AllocFailed};
-use std::error::Error;
 use std::fmt;
+use thiserror::Error;
 
 /// The rule that fails, and the offset in bytes from the buffer's start.
 ///
 /// `MissingRequired` also names the slot. `Memory` is a refused allocation and no rule.
-#[derive(Clone, Copy, PartialEq, Eq, Drop)]
+#[derive(Clone, Copy, PartialEq, Eq, Drop, Error)]
 pub enum ReadFault {
     Short(u64),
     TooLong(u64),
@@ -157,5 +157,3 @@ impl fmt::Debug for ReadFault {
         shown.finish()
     }
 }
-
-impl Error for ReadFault {}
