@@ -102,7 +102,8 @@ pub fn cut_object(
 
 /// Where this bracket is, if a text begins with it behind blanks.
 fn opening(text: &[u8], bracket: u8) -> Option<usize>
-    ensures { IfSome result (λ at. OpensAt text.now bracket at) }
+    ensures opens { IfSome result (λ at. OpensAt text.now bracket at) }
+    ensures within { IfSome result (λ at. at < length text.now) }
 {
     let at = leading_blanks(text);
     if *text.get(at)? == bracket {
@@ -115,6 +116,7 @@ fn opening(text: &[u8], bracket: u8) -> Option<usize>
 /// The run of so many elements that ends before a comma or the array's bracket.
 fn run_before(text: &[u8], from: usize, end: usize, count: usize) -> Option<Run>
     ensures run { IfSome result (λ run. IsRunOf text.now from run) }
+    ensures within { IfSome result (λ run. run.elements.end < length text.now) }
 {
     let is_last = match *text.get(end)? {
         b',' => false,
@@ -133,7 +135,8 @@ fn run_before(text: &[u8], from: usize, end: usize, count: usize) -> Option<Run>
 
 /// The member of an object that begins at `from`. None where no colon comes, or neither a comma nor the object's brace.
 fn next_member(text: &[u8], from: usize, at: usize, cuts: &Cuts) -> Option<Member>
-    ensures { IfSome result (λ member. IsMemberOf text.now from member) }
+    ensures member { IfSome result (λ member. IsMemberOf text.now from member) }
+    ensures within { IfSome result (λ member. member.value.end < length text.now) }
 {
     let colon = separator(text, from, b':')?;
     let end = value_end(text, colon + 1, at, cuts)?;

@@ -10,7 +10,7 @@ returns-then-run c =
       | then-are_blanks w ↦ rw w.result-is (record {
         at = c.in-Some.opening;
         end = c.in-Some-run_before.run'.elements.end + 1;
-        before = c.in-Some.ensures;
+        before = c.in-Some.ensures.opens;
         cut = rw c.in_ok-push.ensures.items
             (runs_with_last c.args.text.now (c.in-Some.opening + 1) c.loop-end.from c.loop-end.runs.items
             c.in-Some-run_before.run' c.loop-end.invariant c.in-Some-run_before.ensures.run c.if-run.true);

@@ -10,10 +10,10 @@ returns-then-member c =
       | then-are_blanks w ↦ rw w.result-is (record {
         at = c.in-Some.opening;
         end = c.in-Some-next_member.member.value.end + 1;
-        before = c.in-Some.ensures;
+        before = c.in-Some.ensures.opens;
         cut = rw c.in_ok-push.ensures.items
             (members_with_last c.args.text.now (c.in-Some.opening + 1) c.loop.from c.loop.members.items
-            c.in-Some-next_member.member c.loop.invariant c.in-Some-next_member.ensures c.if-member.true);
+            c.in-Some-next_member.member c.loop.invariant c.in-Some-next_member.ensures.member c.if-member.true);
         after = rw take_rest at (sym c.are_blanks.ensures ∙ w.if-are_blanks.true);
       })
       | else-are_blanks w ↦ rw w.result-is tt
@@ -23,4 +23,4 @@ pub loop-preserved : goal.loop-preserved
 loop-preserved c =
     rw c.in_ok-push.ensures.items
     (members_before_push c.args.text.now (c.in-Some.opening + 1) c.loop.from c.loop.members.items
-    c.in-Some-next_member.member c.loop.invariant c.in-Some-next_member.ensures c.if-member.false)
+    c.in-Some-next_member.member c.loop.invariant c.in-Some-next_member.ensures.member c.if-member.false)
