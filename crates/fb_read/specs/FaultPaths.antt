@@ -90,8 +90,3 @@ abbrev pub Hears : {V T : Type 0} → Type 0 → (V → List Step → V → Type
     → Result T ReadFault → Type 0
 Hears takes_memory told buffer o tables spent old new result = MatchResult result (λ _. new ≡ old)
     (λ f. MemoryLasts takes_memory f → HearsFrom told buffer o tables spent old new)
-
-abbrev pub HearsEach : {V T : Type 0} → Type 0 → (V → List Step → V → Type 0) → (ℕ → Step) → Buffer
-    → List (Option Place) → ℕ → ℕ → V → V → Result T ReadFault → Type 0
-HearsEach takes_memory told step_to buffer xs tables spent old new result = MatchResult result (λ _. new ≡ old)
-    (λ f. MemoryLasts takes_memory f → HearsAmong told step_to buffer xs tables spent old new)

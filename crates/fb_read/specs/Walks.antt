@@ -1,5 +1,5 @@
 -- What a walk over a buffer gives.
-use Rattle.std.specs.Prelude.{ℕ, ◌+◌, ◌^◌, ◌≡◌, ◌<◌, ◌≤◌, List, length, Option, None, Some, Result, MatchResult}
+use Rattle.std.specs.Prelude.{ℕ, ◌+◌, ◌^◌, ◌≡◌, ◌<◌, ◌≤◌, List, length, Option, None, Some, Result}
 use Rattle.fb_layout.specs.Laid.{LaidSchema, Slot, StoredKind}
 use Rattle.fb_value.specs.declared.faults.ReadFault.{ReadFault}
 use Rattle.fb_value.specs.Bounds.{Bounds}
@@ -49,11 +49,6 @@ pub record HasVtable (b : Bytes) (table : TableAt) : Type 0 where
   pub whole : table.vtable_at + num b table.vtable_at 2 ≤ length b
   pub within : table.vtable_at + 2 ≤ length b
   pub low : table.at < 2 ^ 32
-
--- The counter has risen by the cells that were spent at most, and by one more where there is no result.
-abbrev pub TicksWithin : {V T : Type 0} → Buffer → Walk V → Walk V → Result T ReadFault → Type 0
-TicksWithin buffer old new result = MatchResult result (λ _. new.ticks + old.spent ≤ old.ticks + new.spent)
-    (λ _. new.ticks + old.spent ≤ old.ticks + (buffer.most_cells + 1))
 
 -- the tables, vectors and texts of an entry
 abbrev pub entered_in : Option Datum → ℕ

@@ -53,7 +53,6 @@ pub fn visit_text<V: Visitor>(
 
 /// Visits the text behind a reference.
 #[inline(always)]
-#[tactic(auto, using(crate::proofs::visit_tables::VisitsOnePlaceAfterAnother::text_references))]
 pub fn visit_text_behind<V: Visitor>(
     buffer: &Buffer,
     walk: &mut Walk<V>,

@@ -31,7 +31,6 @@ use fb_value::ReadFault;
 /// Visits the table behind a reference.
 #[inline(always)]
 #[cycle(visit)]
-#[tactic(auto, using(crate::proofs::visit_tables::VisitsOnePlaceAfterAnother::visit_ref))]
 pub fn visit_table_behind<V: Visitor>(
     buffer: &Buffer,
     walk: &mut Walk<V>,
@@ -57,7 +56,6 @@ pub fn visit_table_behind<V: Visitor>(
 }
 
 #[cycle(visit)]
-#[tactic(auto, using(crate::proofs::visit_tables::VisitsOnePlaceAfterAnother::table_limits))]
 fn visit_table<V: Visitor>(
     buffer: &Buffer,
     walk: &mut Walk<V>,
@@ -208,7 +206,6 @@ fn visit_union<V: Visitor>(
 
 #[inline(always)]
 #[cycle(visit)]
-#[tactic(auto, using(crate::proofs::visit_tables::VisitsOnePlaceAfterAnother::visit_ref))]
 pub fn visit_vector_behind<V: Visitor>(
     buffer: &Buffer,
     walk: &mut Walk<V>,
@@ -235,7 +232,6 @@ pub fn visit_vector_behind<V: Visitor>(
 
 #[inline(always)]
 #[cycle(visit)]
-#[tactic(auto, using(crate::proofs::visit_tables::VisitsOnePlaceAfterAnother::visit_vector_over))]
 fn visit_vector<V: Visitor>(
     buffer: &Buffer,
     walk: &mut Walk<V>,

@@ -1,5 +1,5 @@
 -- What a walk has counted, one step on.
-use Rattle.std.proofs.Common.{◌≡◌, ℕ, suc, ◌+◌, ◌<◌, ◌≤◌, List, length, drop, arith}
+use Rattle.std.proofs.Common.{◌≡◌, ℕ, ◌+◌, ◌<◌, ◌≤◌, List, length, drop, arith}
 use Rattle.std.proofs.Common.{length-drop}
 
 -- at a part that isn't entered yet, and at one that is
@@ -43,6 +43,3 @@ below i n m less few = omega arith
 
 pub rest_long : {A : Type 0} (xs : List A) (i n : ℕ) → i ≡ n → n ≤ length xs → i + length (drop n xs) ≡ length xs
 rest_long xs i n is few = omega (arith, length-drop n xs)
-
-pub one_after : (k : ℕ) → suc k ≡ k + 1
-one_after k = omega arith

@@ -17,7 +17,7 @@ use Rattle.fb_read.specs.declared.walk.Walk.{Walk}
 use Rattle.fb_read.specs.Ends.{IsRefused, PassesAt, EndsAt, EndsAtEach}
 use Rattle.fb_read.specs.FaultPaths.{HearsFrom, HearsAmong, Hears}
 use Rattle.fb_read.specs.Visited.{HasVisited}
-use Rattle.fb_read.specs.Walks.{place, limits_of, visit_in, visit_entry_in, visit_each_in, TicksWithin, EntersAt}
+use Rattle.fb_read.specs.Walks.{place, limits_of, visit_in, visit_entry_in, visit_each_in, EntersAt}
 use Rattle.fb_read.specs.Walks.{EntersItems}
 use Rattle.fb_read.specs.Values.{Gives, KeepsAt, KeepsItems}
 use Rattle.fb_layout.specs.Laid.{StoredKind}
@@ -67,16 +67,6 @@ module _ {V K : Type 0} (takes : Type 0) (told : V → List Step → V → Type 
       → Gives takes r new.spent (visit_in buffer x tables old.spent)
   ends_given (Ok kept) passes = passes.visit
   ends_given (Err f) ends = ends.visit
-
-  pub ends_ticked : (r : Result K ReadFault) → EndsAt takes told keeps buffer x tables old new r
-      → TicksWithin buffer old new r
-  ends_ticked (Ok kept) passes = passes.ticks
-  ends_ticked (Err f) ends = ends.ticks
-
-  pub ends_few : (r : Result K ReadFault) → EndsAt takes told keeps buffer x tables old new r
-      → OnOk r (new.spent ≤ buffer.most_cells)
-  ends_few (Ok kept) passes = passes.few
-  ends_few (Err f) ends = tt
 
   pub ends_entered : (r : Result K ReadFault) → EndsAt takes told keeps buffer x tables old new r
       → OnOk r (EntersAt buffer x old.ticks new.ticks)

@@ -1,6 +1,6 @@
 -- How many tables, vectors and texts stand in what lies at a place.
 use Rattle.std.proofs.Common.{◌≡◌, ℕ, zero, suc, ◌+◌, ◌*◌, ◌≤◌, ◌<◌, Bool, true, false, nat_le, List, [], ◌∷◌, length}
-use Rattle.std.proofs.Common.{drop, slice_index_or, Option, None, Some, Result, Ok, Err, OnOk, refl, sym, ◌∙◌, arith}
+use Rattle.std.proofs.Common.{drop, slice_index_or, Option, None, Some, refl, sym, ◌∙◌, arith}
 use Rattle.std.proofs.lemmas.Bool.{leb-true}
 use Rattle.std.proofs.lemmas.Bool.Decides.{nat_tests}
 use Rattle.fb_layout.specs.Laid.{LaidSchema, Slot, StoredKind, scalar_kind, struct_kind, table_kind, text_kind}
@@ -9,7 +9,7 @@ use Rattle.fb_value.specs.Datum.{Datum, a_number, a_text, a_vector, a_struct, a_
 use Rattle.fb_value.specs.Datum.{no_parts, more_parts, SlotEntries, no_entries, absent_entry, present_entry, count}
 use Rattle.fb_value.specs.Counts.{entered, parts_entered, entries_entered}
 use Rattle.fb_value.specs.Num.{Bytes, num}
-use Rattle.fb_value.specs.Places.{Target, table_part, member_part, text_part, vector_part, ref_place, part_place}
+use Rattle.fb_value.specs.Places.{Target, table_part, member_part, vector_part, ref_place, part_place}
 use Rattle.fb_value.specs.Places.{inline_place, named_slots, target_of, slot_number}
 use Rattle.fb_value.specs.Rules.{fault_by}
 use Rattle.fb_value.specs.Lies.{LiesInline, LiesParts, Element, Lies, LiesAt, LiesItems, LiesSlots}
@@ -21,16 +21,6 @@ use Rattle.fb_read.specs.Visits.{slot_seen, slots_seen}
 use Rattle.fb_read.proofs.places.AbsentSlotNamesNoPlace.{unset_place}
 use Rattle.fb_read.proofs.places.FieldsAreTheirSlots.{slot_there, seen_drop, drop_past}
 use Rattle.fb_schema.specs.declared.types.FieldInfo.{FieldInfo}
-
--- what is known where there is an answer, and what follows from it
-pub on_ok : {T E : Type 0} {P Q : Type 0} (r : Result T E) → (P → Q) → OnOk r P → OnOk r Q
-on_ok (Ok x) f p = f p
-on_ok (Err e) f p = p
-
--- what holds at any rate
-pub on_any : {T E : Type 0} {Q : Type 0} (r : Result T E) → Q → OnOk r Q
-on_any (Ok x) q = q
-on_any (Err e) q = tt
 
 mutual
   -- Numbers and structs have none.
@@ -73,17 +63,6 @@ table_entered L b t p old new known (a_number m) lies = absurd lies
 table_entered L b t p old new known (a_struct ds) lies = absurd lies
 table_entered L b t p old new known (a_member c d) lies = absurd lies
 table_entered L b t p old new known (an_unknown c) lies = absurd lies
-
--- a text
-pub text_entered : (L : LaidSchema) (b : Bytes) (p old new : ℕ) → new ≡ old + 1
-    → (d : Datum) → LiesAt L b (part_place text_part) p d → new ≡ old + entered d
-text_entered L b p old new is (a_text bytes) lies = is
-text_entered L b p old new is (a_table type es) lies = absurd lies
-text_entered L b p old new is (a_vector ds) lies = absurd lies
-text_entered L b p old new is (a_number m) lies = absurd lies
-text_entered L b p old new is (a_struct ds) lies = absurd lies
-text_entered L b p old new is (a_member c d) lies = absurd lies
-text_entered L b p old new is (an_unknown c) lies = absurd lies
 
 -- elements that are no references have none
 element_free : (L : LaidSchema) (b : Bytes) (kind : StoredKind) (p : ℕ) (o : Option Target) (d : Datum) → o ≡ None

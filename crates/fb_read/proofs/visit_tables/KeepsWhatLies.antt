@@ -1,7 +1,7 @@
 -- What is kept of a value stands for what lies there.
 use Rattle.std.proofs.Common.{◌≡◌, ℕ, zero, suc, ◌+◌, ◌*◌, ◌<◌, ◌≤◌, List, []}
 use Rattle.std.proofs.Common.{◌∷◌, length, map, drop, slice_index_or, Bool, true}
-use Rattle.std.proofs.Common.{false, nat_le, slice_get, Option, None, Some, Result, Ok, Err, IfOk}
+use Rattle.std.proofs.Common.{false, nat_le, slice_get, Option, None, Some}
 use Rattle.std.proofs.Common.{refl, sym, ap, ◌∙◌, arith}
 use Rattle.std.proofs.lemmas.Bool.{leb-true}
 use Rattle.std.proofs.lemmas.Bool.Decides.{nat_tests}
@@ -26,11 +26,6 @@ use Rattle.fb_read.proofs.values.OneValueMore.{parts_here}
 use Rattle.fb_read.proofs.places.AbsentSlotNamesNoPlace.{unset_place}
 use Rattle.fb_read.proofs.places.FieldsAreTheirSlots.{slot_there, seen_drop, drop_past}
 use Rattle.fb_read.proofs.visit_tables.EnteredPartsAreCounted.{target_size, lies_from}
-
--- what is known where there is an answer, and what follows from it
-pub if_ok : {T E : Type 0} {P Q : T → Type 0} (r : Result T E) → ((x : T) → P x → Q x) → IfOk r P → IfOk r Q
-if_ok (Ok x) f p = f x p
-if_ok (Err e) f p = p
 
 -- a table's slots, where its fields are seen
 pub slots_are_seen : (L : LaidSchema) (t : ℕ) (fs : List FieldInfo)

@@ -17,14 +17,7 @@ use Rattle.fb_value.specs.Faults.{own_cells, own_tables, sum_over, all, or_else,
 use Rattle.fb_value.specs.Faults.{first_among, fault_from}
 use Rattle.fb_value.proofs.rules.ComputedFaultIsTheLeast.{all_is}
 use Rattle.fb_value.proofs.rules.FaultOfAPlaceByOneStep.{fault_from_is}
-use Rattle.fb_read.specs.Values.{Gives}
 use Rattle.fb_read.specs.Visits.{outcome, visit, visit_each, visit_entry, union_place}
-
--- Where a visit returned a result, it is what it gives.
-pub gives_ok : {T : Type 0} (takes : Type 0) (r : Result T ReadFault) (after : ℕ) (given : Result ℕ ReadFault)
-    → Gives takes r after given → OnOk r (given ≡ Ok after)
-gives_ok takes (Ok x) after given gives = gives
-gives_ok takes (Err f) after given gives = tt
 
 module _ (L : LaidSchema) (b : Bytes) (most : Bounds) where
   pub each_nil : (tables spent : ℕ) → visit_each L b most [] tables spent ≡ Ok spent
@@ -163,21 +156,7 @@ module _ (L : LaidSchema) (b : Bytes) (most : Bounds) where
       visit_named (record { sort = part_place text_part; at = p }) tables spent keeps (small_yes p _ small)
       ∙ each_nil (tables + 0) _
 
-  pub visit_text_over : (p tables spent : ℕ) → Keeps L b (part_place text_part) p → most.cells < spent + (1 + num b p 4)
-      → visit L b most (record { sort = part_place text_part; at = p }) tables spent ≡ Err (TooManyCells p)
-  visit_text_over p tables spent keeps over = visit_over (record { sort = part_place text_part; at = p }) tables spent
-      (TooManyCells p) keeps (small_no p _ over)
-
   -- ---- vectors
-
-  pub visit_vector_over : (kind : StoredKind) (p tables spent : ℕ) → Keeps L b (part_place (vector_part kind)) p
-      → most.cells < spent + (1 + num b p 4)
-      → visit L b most (record { sort = part_place (vector_part kind); at = p }) tables spent ≡ Err (TooManyCells p)
-  visit_vector_over kind p tables spent keeps over = visit_over (record {
-    sort = part_place (vector_part kind);
-    at =
-        p;
-  }) tables spent (TooManyCells p) keeps (small_no p _ over)
 
   pub visit_vector : (kind : StoredKind) (p tables spent : ℕ) → Keeps L b (part_place (vector_part kind)) p
       → spent + (1 + num b p 4) ≤ most.cells
@@ -207,18 +186,6 @@ module _ (L : LaidSchema) (b : Bytes) (most : Bounds) where
   unfolding first_failing
   both_yes p tables cells h i = let yes : nat_le tables most.depth ≡ true = le-leb _ _ h in
       let also : nat_le cells most.cells ≡ true = le-leb _ _ i in rw (yes, also) refl
-
-  pub visit_table_deep : (t p tables spent : ℕ) → Keeps L b (part_place (table_part t)) p → most.depth ≤ tables
-      → visit L b most (record { sort = part_place (table_part t); at = p }) tables spent ≡ Err (TooDeep p)
-  visit_table_deep t p tables spent keeps deep = visit_over (record { sort = part_place (table_part t); at = p }) tables
-      spent (TooDeep p) keeps (deep_no p (tables + 1) (spent + 1) (omega arith))
-
-  pub visit_table_over : (t p tables spent : ℕ) → Keeps L b (part_place (table_part t)) p → tables < most.depth
-      → most.cells ≤ spent → visit L b most (record { sort = part_place (table_part t); at = p }) tables spent
-      ≡ Err (TooManyCells p)
-  visit_table_over t p tables spent keeps deep over =
-      visit_over (record { sort = part_place (table_part t); at = p }) tables spent (TooManyCells p) keeps
-      (both_no p (tables + 1) (spent + 1) (omega arith) (omega arith))
 
   pub visit_table : (t p tables spent : ℕ) → Keeps L b (part_place (table_part t)) p → tables < most.depth
       → spent < most.cells
@@ -262,12 +229,8 @@ module _ (L : LaidSchema) (b : Bytes) (most : Bounds) where
   pub no_references : (p : ℕ) (tables spent : ℕ) → visit_each L b most (named_vector b p None) tables spent ≡ Ok spent
   no_references p tables spent = each_nil tables spent
 
--- what a visit gives of a text, a table over its limits, and what names nothing
-pub ruleset text_visits = (visit_fault, visit_text, visit_text_over)
-
-pub ruleset text_references = (visit_fault, visit_ref)
-
-pub ruleset table_limits = (visit_table_deep, visit_table_over)
+-- what a visit gives of a text, and of what names nothing
+pub ruleset text_visits = (visit_fault, visit_text)
 
 pub ruleset inline_visits = (visit_fault, visit_inline)
 

@@ -122,8 +122,8 @@ inlines_passed g t c =
           + (1 + num b c.args.at 4)));
       few = omega arith;
       ticks = omega arith;
-      each = vector_entered L b kind c.args.at (num b c.args.at 4) c.args.walk.now.ticks c.tick.new.self refl (λ ds long
-          lies.
+      each = vector_entered L b kind c.args.at c.in_ok-count.count c.args.walk.now.ticks c.tick.new.self
+          c.in_ok-count.ensures.count (λ ds long lies.
           let free = items_free L b kind (c.args.at + 4) ds none lies in omega (arith, free, c.tick.ensures));
       silent = refl;
       kept = vector_kept g.V.Visitor.keeps L b kind c.args.at c.in_ok-count.count c.in_ok-inlines-in-None.field-0
