@@ -18,10 +18,6 @@ pub refused_then : (old spent mid spent_mid new last most : ℕ) → mid + spent
     → new + spent_mid ≤ mid + (most + 1) → last ≡ new → last + spent ≤ old + (most + 1)
 refused_then old spent mid spent_mid new last most before here is_new = omega arith
 
-pub spent_within : (old spent last spent_last most : ℕ) → last + spent ≤ old + spent_last → spent_last ≤ most
-    → last + spent ≤ old + (most + 1)
-spent_within old spent last spent_last most here few = omega arith
-
 -- a table itself, and what its entries take
 pub table_then : (old mid spent new spent_new : ℕ) → mid ≡ old + 1 → new + (spent + 1) ≤ mid + spent_new
     → new + spent ≤ old + spent_new

@@ -1,9 +1,8 @@
 -- How a walk ends at a place, by how it ends at what the place names.
-use Rattle.std.proofs.Common.{◌≡◌, ℕ, ◌+◌, ◌≤◌, List, [], ◌∷◌, Option, Some, Result, Ok, Err, MatchResult, IfOk, OnOk}
+use Rattle.std.proofs.Common.{◌≡◌, ℕ, ◌+◌, ◌≤◌, List, [], ◌∷◌, Some, Result, Ok, Err, MatchResult, IfOk, OnOk}
 use Rattle.std.proofs.Common.{◌∙◌}
 use Rattle.std.proofs.Common.{arith}
 use Rattle.fb_value.specs.declared.faults.ReadFault.{ReadFault}
-use Rattle.fb_value.specs.declared.faults.ReadFault.TheVariants.{Memory}
 use Rattle.fb_value.specs.Datum.{Datum}
 use Rattle.fb_value.specs.Num.{num}
 use Rattle.fb_value.specs.Places.{Target, vector_part, ref_place, part_place, Place, named, named_elements, target_of}
@@ -15,9 +14,9 @@ use Rattle.fb_read.specs.declared.step.Step.TheVariants.{Reference, Element}
 use Rattle.fb_read.specs.declared.walk.Mark.{Mark}
 use Rattle.fb_read.specs.declared.walk.Walk.{Walk}
 use Rattle.fb_read.specs.Ends.{IsRefused, PassesAt, EndsAt, EndsAtEach}
-use Rattle.fb_read.specs.FaultPaths.{HearsFrom, HearsAmong, Hears}
+use Rattle.fb_read.specs.FaultPaths.{HearsFrom, Hears}
 use Rattle.fb_read.specs.Visited.{HasVisited}
-use Rattle.fb_read.specs.Walks.{place, limits_of, visit_in, visit_entry_in, visit_each_in, EntersAt}
+use Rattle.fb_read.specs.Walks.{place, limits_of, visit_in, EntersAt}
 use Rattle.fb_read.specs.Walks.{EntersItems}
 use Rattle.fb_read.specs.Values.{Gives, KeepsAt, KeepsItems}
 use Rattle.fb_layout.specs.Laid.{StoredKind}
@@ -25,35 +24,6 @@ use Rattle.fb_read.proofs.visit_tables.VisitsOnePlaceAfterAnother.{visit_fault, 
 use Rattle.fb_read.proofs.visit_tables.HearsTheWayBack.{rule_heard, limit_heard, leaf_heard, ref_heard, vector_heard}
 use Rattle.fb_read.proofs.visit_tables.EnteredPartsAreCounted.{vector_entered}
 use Rattle.fb_read.proofs.visit_tables.KeepsWhatLies.{vector_kept}
-
--- Where memory ran out, and may run out, nothing is said but what was entered.
-pub memory_refused : {V : Type 0} (takes : Type 0) (buffer : Buffer) (old new : Walk V) (given : Result ℕ ReadFault)
-    (hears : Type 0) (f : ReadFault) → takes → f ≡ Memory
-    → new.ticks + old.spent ≤ old.ticks + (buffer.most_cells + 1) → IsRefused takes buffer old new given hears f
-memory_refused takes buffer old new given hears f may is ticks = record {
-  visit = λ lasts. absurd (lasts may is);
-  ticks = ticks;
-  hears = λ lasts. absurd (lasts may is);
-}
-
--- The same at a slot, and at several places.
-pub entry_memory : {V : Type 0} (takes : Type 0) (told : V → List Step → V → Type 0) (buffer : Buffer)
-    (x : Option Place) (tables : ℕ) (old new : Walk V) (f : ReadFault) → takes → f ≡ Memory
-    → new.ticks + old.spent ≤ old.ticks + (buffer.most_cells + 1)
-    → IsRefused takes buffer old new (visit_entry_in buffer x tables old.spent)
-    (HearsFrom told buffer x tables old.spent old.visitor new.visitor) f
-entry_memory takes told buffer x tables old new f may is ticks =
-    memory_refused takes buffer old new (visit_entry_in buffer x tables old.spent)
-    (HearsFrom told buffer x tables old.spent old.visitor new.visitor) f may is ticks
-
-pub each_memory : {V : Type 0} (takes : Type 0) (told : V → List Step → V → Type 0) (step_to : ℕ → Step)
-    (buffer : Buffer) (xs : List (Option Place)) (tables : ℕ) (old new : Walk V) (f : ReadFault) → takes → f ≡ Memory
-    → new.ticks + old.spent ≤ old.ticks + (buffer.most_cells + 1)
-    → IsRefused takes buffer old new (visit_each_in buffer xs tables old.spent)
-    (HearsAmong told step_to buffer xs tables old.spent old.visitor new.visitor) f
-each_memory takes told step_to buffer xs tables old new f may is ticks =
-    memory_refused takes buffer old new (visit_each_in buffer xs tables old.spent)
-    (HearsAmong told step_to buffer xs tables old.spent old.visitor new.visitor) f may is ticks
 
 -- a walk that has entered a part
 abbrev pub ticked : {V : Type 0} → Walk V → ℕ → Walk V

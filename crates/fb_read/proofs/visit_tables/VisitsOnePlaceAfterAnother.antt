@@ -1,6 +1,6 @@
 -- A visit of several places is one of each, place after place.
 use Rattle.std.proofs.Common.{◌==◌, ◌≡◌, ℕ, ◌+◌, ◌<◌, ◌≤◌, List, [], ◌∷◌, Bool, true, false, Option}
-use Rattle.std.proofs.Common.{None, Some, Result, Ok, Err, OnOk, nat_le, cond, refl, sym, ap, ◌∙◌, arith}
+use Rattle.std.proofs.Common.{None, Some, Result, Ok, Err, nat_le, cond, refl, sym, ap, ◌∙◌, arith}
 use Rattle.std.proofs.Common.{add-zero, add_assoc}
 use Rattle.std.proofs.lemmas.Bool.{le-leb}
 use Rattle.std.proofs.lemmas.Bool.Decides.{nat_tests}

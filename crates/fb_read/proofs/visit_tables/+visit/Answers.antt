@@ -1,10 +1,7 @@
-mod MemoryRunsOut
 mod SlotsEnd
 mod TablesEnd
 mod VectorsEnd
 mod VisitGoesOn
-use Rattle.fb_read.proofs.visit_tables.+visit.Answers.MemoryRunsOut.{no_entries_made, no_entry_added, no_defaults_added}
-use Rattle.fb_read.proofs.visit_tables.+visit.Answers.MemoryRunsOut.{no_elements_made, no_element_added, no_member_made}
 use Rattle.fb_read.proofs.visit_tables.+visit.Answers.SlotsEnd.{a_slot_refused, slots_passed, deprecated_passed}
 use Rattle.fb_read.proofs.visit_tables.+visit.Answers.SlotsEnd.{absent_passed, vector_behind_refused}
 use Rattle.fb_read.proofs.visit_tables.+visit.Answers.SlotsEnd.{vector_behind_passed, text_behind_refused}
@@ -24,24 +21,6 @@ use Rattle.fb_read.proofs.visit_tables.+visit.Answers.VectorsEnd.{element_refuse
 use Rattle.fb_read.proofs.visit_tables.+visit.Answers.VisitGoesOn.{next_element_visited, next_slot_visited}
 use Rattle.fb_read.proofs.visit_tables.+visit.Answers.VisitGoesOn.{next_slot_passed_by, no_slot_yet, no_element_yet}
 use Rattle.fb_read.proofs.visit_tables.+visit.Goals as goal
-
-pub visit_slots-returns-in_err-entries : goal.visit_slots-returns-in_err-entries
-visit_slots-returns-in_err-entries = no_entries_made
-
-pub visit_slots-returns-in_err-add_entry : goal.visit_slots-returns-in_err-add_entry
-visit_slots-returns-in_err-add_entry = no_entry_added
-
-pub visit_slots-returns-in_err-add_defaults : goal.visit_slots-returns-in_err-add_defaults
-visit_slots-returns-in_err-add_defaults = no_defaults_added
-
-pub visit_elements-returns-in_err-elements : goal.visit_elements-returns-in_err-elements
-visit_elements-returns-in_err-elements = no_elements_made
-
-pub visit_elements-returns-in_err-add_element : goal.visit_elements-returns-in_err-add_element
-visit_elements-returns-in_err-add_element = no_element_added
-
-pub visit_union-returns-in_err-member-in-Some : goal.visit_union-returns-in_err-member-in-Some
-visit_union-returns-in_err-member-in-Some = no_member_made
 
 pub visit_slots-returns-in_err-visited : goal.visit_slots-returns-in_err-visited
 visit_slots-returns-in_err-visited = a_slot_refused

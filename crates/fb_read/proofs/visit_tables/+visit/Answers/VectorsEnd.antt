@@ -125,7 +125,7 @@ inlines_passed g t c =
       each = vector_entered L b kind c.args.at c.in_ok-count.count c.args.walk.now.ticks c.tick.new.self
           c.in_ok-count.ensures.count (λ ds long lies.
           let free = items_free L b kind (c.args.at + 4) ds none lies in omega (arith, free, c.tick.ensures));
-      silent = refl;
+      silent = refl {a = c.args.walk.now.visitor};
       kept = vector_kept g.V.Visitor.keeps L b kind c.args.at c.in_ok-count.count c.in_ok-inlines-in-None.field-0
           c.in_ok-count.ensures.count
           c.in_ok-inlines-in-None.ensures.kept;
