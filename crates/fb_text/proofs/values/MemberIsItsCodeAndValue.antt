@@ -1,16 +1,20 @@
 -- What the printer's pieces add up to.
 use Rattle.std.proofs.Common.{◌≡◌, ℕ, zero, suc, ◌<◌, ◌||◌, List, [], ◌∷◌, length, map, slice_get, slice_index_or, Bool}
-use Rattle.std.proofs.Common.{true, Option, None, Some, Result, Err, refl, arith}
+use Rattle.std.proofs.Common.{true, false, Option, None, Some, Result, Err, refl, arith}
 use Rattle.fb_schema.specs.declared.types.FieldInfo.{FieldInfo}
 use Rattle.fb_schema.specs.Schema.{DeclaredField}
 use Rattle.fb_schema.specs.Seen.{field_seen}
 use Rattle.fb_layout.specs.Laid.{LaidSchema}
-use Rattle.fb_value.specs.Datum.{Datum, Parts, no_parts, more_parts, count}
+use Rattle.fb_value.specs.Datum.{Datum, a_number, a_text, a_vector, a_struct, a_table, a_member, an_unknown, Parts}
+use Rattle.fb_value.specs.Datum.{no_parts, more_parts, count}
 use Rattle.fb_value.specs.Nth.{nth_part}
 use Rattle.fb_text.specs.Texts.{has_code, code_text}
 use Rattle.fb_text.specs.declared.faults.WriteFault.{WriteFault}
 use Rattle.fb_text.specs.declared.faults.WriteFault.TheVariants.{NoMemberName}
 use Rattle.fb_text.specs.Printed.{is_entry_printed, slot_text, named_text, IfUnnamed}
+use Rattle.fb_text.specs.Shown.{IsTop}
+use Rattle.fb_text.specs.declared.shown.Found.{Found}
+use Rattle.fb_text.specs.declared.shown.Found.TheVariants.{Absent, Number, Text, Vector, Struct, Table, Member, Unknown}
 use Rattle.fb_text.specs.Writes.{State, Adds}
 use Rattle.fb_text.proofs.noted.PiecesAddUp.{added_then}
 
@@ -42,6 +46,22 @@ entry_added L defaults inner some f (Some d) more a b e printed code has named =
     rw (← printed) (added_then a b e (code_text L.schema inner some f.name f.shape d)
     (named_text L defaults inner (some || has_code f.shape d) f d) (code d refl)
     (rw (← (has d refl)) (named d refl)))
+
+-- what was found of an entry is there
+pub found_there : (found : Found) (o : Option Datum) → (found ≡ Absent → ⊥) → IsTop found o
+    → (d : Datum) × (o ≡ Some d)
+found_there Absent o some top = absurd (some refl)
+found_there (Number n) o some top = (a_number n, top)
+found_there (Text s) o some top = (a_text s.now, top)
+found_there Vector o some top = (a_vector top.0, top.1)
+found_there Struct o some top = (a_struct top.0, top.1)
+found_there (Table t) o some top = (a_table t.0 top.0, top.1)
+found_there (Member code) o some top = (a_member code top.0, top.1)
+found_there Unknown o some top = (an_unknown top.0, top.1)
+
+pub is_some_now : (some : Bool) → true ≡ (some || true)
+is_some_now true = refl
+is_some_now false = refl
 
 -- a writer that is never told a union without a name
 pub never_unnamed : {A : Type 0} (r : Result A WriteFault) (P : Type 0) → IfUnnamed r ⊥ → IfUnnamed r P

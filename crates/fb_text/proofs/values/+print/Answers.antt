@@ -16,6 +16,7 @@ use Rattle.fb_text.proofs.values.NestedStructIsAField.{struct_first}
 use Rattle.fb_text.proofs.values.OneMemberMore.{members_skip, members_step, members_behind, items_step, items_end}
 use Rattle.fb_text.proofs.values.OneMemberMore.{table_text}
 use Rattle.fb_text.proofs.values.MemberIsItsCodeAndValue.{seen_there, seen_long, part_there, entry_added}
+use Rattle.fb_text.proofs.values.MemberIsItsCodeAndValue.{found_there, is_some_now}
 use Rattle.fb_text.proofs.values.+print.Goals as goal
 
 pub put_member-returns-clause-text : goal.put_member-returns-clause-text
@@ -257,3 +258,13 @@ put_vector-returns g t c ds lies =
     c.loop-i.some ds c.loop-i.i over in
     let all = c.loop-i.invariant ds lies _ (added_as end (then c.put_closing.ensures c.put_str-2.ensures)) in
     then c.put_str.ensures (rw c.inside-inner.ensures at all)
+
+pub put_field-returns : goal.put_field-returns
+put_field-returns g t c = record {
+  text = λ o shows top.
+      let (d, is) = found_there c.args.found o c.in_default.not-Absent top in
+      rw is (then (rw c.as_str.ensures.value at c.put_member_line.ensures)
+      (c.put_found.ensures d (rw is at shows) (rw is at top)));
+  some = λ o top.
+      let (d, is) = found_there c.args.found o c.in_default.not-Absent top in rw is (is_some_now c.args.some);
+}
