@@ -83,7 +83,8 @@ objects::note_members-returns-clause-noted = table_adds_itself
 pub objects::note_members-index-requires : goal.objects::note_members-index-requires
 objects::note_members-index-requires = slot_has_a_text
 
-pub objects::note_members-close_table-requires-clause-within : goal.objects::note_members-close_table-requires-clause-within
+pub objects::note_members-close_table-requires-clause-within :
+    goal.objects::note_members-close_table-requires-clause-within
 objects::note_members-close_table-requires-clause-within = first_within
 
 pub objects::note_members-truncate-requires : goal.objects::note_members-truncate-requires

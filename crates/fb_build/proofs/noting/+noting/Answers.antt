@@ -11,7 +11,8 @@ use Rattle.fb_build.proofs.noting.+noting.Answers.TableIsNoted.{entry_there, all
 use Rattle.fb_build.proofs.noting.+noting.Answers.TableIsNoted.{first_kept, opened_again}
 use Rattle.fb_build.proofs.noting.+noting.Answers.VectorIsNoted.{elements_add, references_add, member_fits}
 use Rattle.fb_build.proofs.noting.+noting.Answers.VectorIsNoted.{member_adds, table_fits, fields_add, item_fits}
-use Rattle.fb_build.proofs.noting.+noting.Answers.VectorIsNoted.{item_adds, all_items_added, union_member_known, items_fit}
+use Rattle.fb_build.proofs.noting.+noting.Answers.VectorIsNoted.{item_adds, all_items_added, union_member_known}
+use Rattle.fb_build.proofs.noting.+noting.Answers.VectorIsNoted.{items_fit}
 use Rattle.fb_build.proofs.noting.+noting.Goals as goal
 
 pub note_entries-loop-k-init : goal.note_entries-loop-k-init
