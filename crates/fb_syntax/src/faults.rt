@@ -1,6 +1,5 @@
 //! Why a schema text is refused.
 use std::alloc::{AllocError, AllocFailed};
-use std::fmt;
 use thiserror::Error;
 
 /// What is wrong with a schema text, and the offset in bytes from its start.
@@ -8,12 +7,19 @@ use thiserror::Error;
 /// `Memory` is a refused allocation.
 #[derive(Clone, Copy, Debug, PartialEq, Eq, Drop, Error)]
 pub enum SyntaxFault {
+    #[error("the text isn't UTF-8 from {0} on")]
     NotUtf8(u64),
+    #[error("no token begins with the byte at {0}, or it may not be in a quoted text")]
     BadByte(u64),
+    #[error("the comment or quoted text from {0} on has no end")]
     Unterminated(u64),
+    #[error("the integer at {0} is too large")]
     NumberTooBig(u64),
+    #[error("the token at {0} is not expected there")]
     Unexpected(u64),
+    #[error("the vector at {0} is inside a vector")]
     NestedVector(u64),
+    #[error("out of memory")]
     Memory,
 }
 
@@ -63,36 +69,6 @@ impl SyntaxFault {
             | SyntaxFault::Unexpected(at)
             | SyntaxFault::NestedVector(at) => Some(at),
             SyntaxFault::Memory => None,
-        }
-    }
-}
-
-impl SyntaxFault {
-    // What is told of it before its offset, and behind it.
-    fn text(self) -> (&'static str, &'static str) {
-        match self {
-            SyntaxFault::NotUtf8(_) => ("the text isn't UTF-8 from ", " on"),
-            SyntaxFault::BadByte(_) => (
-                "no token begins with the byte at ",
-                ", or it may not be in a quoted text",
-            ),
-            SyntaxFault::Unterminated(_) => {
-                ("the comment or quoted text from ", " on has no end")
-            }
-            SyntaxFault::NumberTooBig(_) => ("the integer at ", " is too large"),
-            SyntaxFault::Unexpected(_) => ("the token at ", " is not expected there"),
-            SyntaxFault::NestedVector(_) => ("the vector at ", " is inside a vector"),
-            SyntaxFault::Memory => ("out of memory", ""),
-        }
-    }
-}
-
-impl fmt::Display for SyntaxFault {
-    fn fmt<W: fmt::Write>(&self, f: &mut fmt::Formatter<W>) -> fmt::Result {
-        let (front, behind) = self.text();
-        match self.offset() {
-            Some(at) => write!(f, "{front}{at}{behind}"),
-            None => f.write_str(front),
         }
     }
 }
