@@ -1,7 +1,6 @@
 pub mod Datum
 pub mod Fold
 pub mod Counts
-pub mod Counted
 pub mod UpTo
 pub mod View
 pub mod Fits

@@ -1,23 +1,14 @@
 //! Typed values, their counts, and what bytes hold.
 #![tactic(auto)]
 
-mod copies;
-mod counts;
-mod equality;
 mod faults;
-mod fit;
 mod framing;
 mod laws;
 mod limits;
 mod rooms;
-mod shapes;
 mod values;
 
-pub use copies::{copy, copy_part};
-pub use counts::{cells, depth, whole};
-pub use equality::same;
 pub use faults::ReadFault;
-pub use fit::fits;
 pub use framing::front_of;
 pub use laws::{
     cells_of_place, cells_of_value, each_table_reached, element_lies, entry_lies,
@@ -27,5 +18,5 @@ pub use laws::{
     part_lies, value_of_place, value_or_fault, value_where_all_keep, value_where_lies,
 };
 pub use limits::Limits;
-pub use rooms::{buffer_room, room, table_room, text_room, vector_room};
+pub use rooms::{buffer_room, table_room, text_room, vector_room};
 pub use values::Value;

@@ -1,7 +1,7 @@
 use Rattle.std.proofs.Common.{◌≡◌, length, arith, rules}
 use Rattle.fb_layout.specs.Laid.{stored_shape}
-use Rattle.fb_value.proofs.rooms.RoomIsThatOfTheParts.{room_end, vector_known, table_known}
-use Rattle.fb_value.proofs.rooms.+room.Goals as goal
+use Rattle.fb_owned.proofs.rooms.RoomIsThatOfTheParts.{room_end, vector_known, table_known}
+use Rattle.fb_owned.proofs.rooms.+room.Goals as goal
 
 pub room_in-returns-in-Many : goal.room_in-returns-in-Many
 room_in-returns-in-Many t c =

@@ -3,7 +3,7 @@ ghost use Rattle.std.specs.Prelude.{◌≡◌, ◌≤◌, IfOk, option_map};
 ghost use Rattle.fb_value.specs.View.{view, parts_view, entries_view};
 ghost use Rattle.fb_value.specs.Counts.{nesting};
 
-use crate::values::Value;
+use fb_value::Value;
 use std::alloc::{AllocError, Global};
 
 /// The same value in memory of its own.

@@ -13,9 +13,9 @@ use crate::shapes::{
     elements_wanted, is_table, may_be_absent, member_wanted, struct_wanted, takes_number,
     takes_text, takes_unknown,
 };
-use crate::values::Value;
 use fb_layout::{Layout, kind_in};
 use fb_schema::{Body, FieldInfo, Kind, Schema, Shape, TypeId};
+use fb_value::Value;
 
 /// Whether the type of this number may have the value.
 pub fn fits(layout: &Layout, type_id: TypeId, value: &Value) -> bool

@@ -3,7 +3,7 @@ ghost use Rattle.std.specs.Prelude.{◌≡◌, ◌≤◌, ◌↔◌, IsTrue, opt
 ghost use Rattle.fb_value.specs.View.{view, parts_view, entries_view};
 ghost use Rattle.fb_value.specs.Counts.{nesting};
 
-use crate::values::Value;
+use fb_value::Value;
 
 /// Whether both are the same value, whatever memory they are in.
 pub fn same(first: &Value, second: &Value) -> bool

@@ -2,10 +2,10 @@
 ghost use Rattle.std.specs.Prelude.{◌≡◌, ◌≤◌, ◌^◌, ◌+◌, max, ◌&&◌};
 ghost use Rattle.fb_value.specs.View.{view, parts_view, entries_view};
 ghost use Rattle.fb_value.specs.Counts.{cells as cells_of, depth as depth_of, is_whole, nesting};
-ghost use Rattle.fb_value.specs.Counted.{IsCountOf, IsCountOfParts, IsCountOfEntries};
+ghost use Rattle.fb_owned.specs.Counted.{IsCountOf, IsCountOfParts, IsCountOfEntries};
 ghost use Rattle.fb_value.specs.UpTo.{SomeBelow, at_most_usize};
 
-use crate::values::Value;
+use fb_value::Value;
 
 /// One for each table, text and vector, for each byte of a text and each element of a vector; None
 /// where that is over the type's range.

@@ -1,7 +1,7 @@
 use Rattle.std.proofs.Common.{arith}
 use Rattle.std.proofs.lemmas.Grind.{common_steps}
 use Rattle.fb_value.proofs.types.EachVariantHasItsView.{view-Fields}
-use Rattle.fb_value.proofs.copies.+copy.Goals as goal
+use Rattle.fb_owned.proofs.copies.+copy.Goals as goal
 
 pub copy_in-returns-in_ok-copy_entries-in-Fields : goal.copy_in-returns-in_ok-copy_entries-in-Fields
 copy_in-returns-in_ok-copy_entries-in-Fields t c =

@@ -3,7 +3,7 @@ use Rattle.std.proofs.lemmas.Option.{slice_get-map}
 use Rattle.fb_schema.specs.Seen.{type_seen}
 use Rattle.fb_schema.proofs.Got.{got}
 use Rattle.fb_value.specs.Fits.{kind_of_type}
-use Rattle.fb_value.proofs.fit.kind_of.Goals as goal
+use Rattle.fb_owned.proofs.fit.kind_of.Goals as goal
 
 pub returns-in-Some : goal.returns-in-Some
 returns-in-Some c =

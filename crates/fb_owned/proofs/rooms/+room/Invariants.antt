@@ -4,7 +4,7 @@ use Rattle.fb_layout.specs.Laid.{stored_kind, slot_of}
 use Rattle.fb_value.specs.UpTo.{at_most_usize}
 use Rattle.fb_value.specs.View.{parts_view, entries_view}
 use Rattle.fb_value.specs.Room.{parts_room, entries_room}
-use Rattle.fb_value.proofs.rooms.+room.Given as goal
+use Rattle.fb_owned.proofs.rooms.+room.Given as goal
 
 abbrev pub invariant-room_in_parts-loop-part : goal.invariant-room_in_parts-loop-part
 invariant-room_in_parts-loop-part l = (l.total < 2 ^ 64)

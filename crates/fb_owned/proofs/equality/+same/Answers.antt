@@ -1,8 +1,8 @@
 use Rattle.std.proofs.Common.{◌<◌, length, arith}
 use Rattle.std.proofs.lemmas.Bool.{false≢true}
 use Rattle.fb_value.proofs.types.EachVariantHasItsView.{view-Fields}
-use Rattle.fb_value.proofs.equality.EqualViewsHaveEqualParts.{parts_alike, entries_alike, parts_long, entries_long}
-use Rattle.fb_value.proofs.equality.+same.Goals as goal
+use Rattle.fb_owned.proofs.equality.EqualViewsHaveEqualParts.{parts_alike, entries_alike, parts_long, entries_long}
+use Rattle.fb_owned.proofs.equality.+same.Goals as goal
 
 pub same_in-returns-then-s-t : goal.same_in-returns-then-s-t
 same_in-returns-then-s-t t c =

@@ -1,6 +1,6 @@
 -- What a walk counts of a value.
 use Rattle.std.specs.Prelude.{ℕ, ◌≡◌, Bool}
-use Rattle.fb_value.specs.declared.counts.Counts.{Counts}
+use Rattle.fb_owned.specs.declared.counts.Counts.{Counts}
 use Rattle.fb_value.specs.Datum.{Datum, Parts, SlotEntries}
 use Rattle.fb_value.specs.Counts.{cells, parts_cells, entries_cells, depth, parts_depth, entries_depth}
 use Rattle.fb_value.specs.Counts.{is_whole, parts_whole, entries_whole}

@@ -2,7 +2,7 @@ use Rattle.std.proofs.Common.{arith}
 use Rattle.std.proofs.lemmas.List.{drop_all}
 use Rattle.std.proofs.lemmas.Grind.{common_steps}
 use Rattle.fb_value.proofs.types.EachVariantHasItsView.{view-Items, view-Fields, count-parts_view}
-use Rattle.fb_value.proofs.counts.+count.Goals as goal
+use Rattle.fb_owned.proofs.counts.+count.Goals as goal
 
 pub count-returns-in-Items : goal.count-returns-in-Items
 count-returns-in-Items t c =

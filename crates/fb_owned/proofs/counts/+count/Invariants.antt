@@ -2,7 +2,7 @@ use Rattle.std.proofs.Common.{◌≡◌, ◌<◌, ◌^◌, ◌+◌, max, drop, �
 use Rattle.fb_value.specs.View.{parts_view, entries_view}
 use Rattle.fb_value.specs.Counts.{parts_cells, entries_cells, parts_depth, entries_depth, parts_whole, entries_whole}
 use Rattle.fb_value.specs.UpTo.{at_most_usize}
-use Rattle.fb_value.proofs.counts.+count.Given as goal
+use Rattle.fb_owned.proofs.counts.+count.Given as goal
 
 abbrev pub invariant-count_parts-loop-part : goal.invariant-count_parts-loop-part
 invariant-count_parts-loop-part l =

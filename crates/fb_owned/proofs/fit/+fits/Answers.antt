@@ -4,9 +4,9 @@ use Rattle.std.proofs.lemmas.Bool.{false≢true}
 use Rattle.fb_layout.specs.Laid.{stored_shape}
 use Rattle.fb_value.specs.View.{parts_view, entries_view}
 use Rattle.fb_value.proofs.types.EachVariantHasItsView.{view-Fixed, view-Fields}
-use Rattle.fb_value.proofs.rooms.RoomIsThatOfTheParts.{slots_seen}
+use Rattle.fb_owned.proofs.rooms.RoomIsThatOfTheParts.{slots_seen}
 use Rattle.fb_value.proofs.types.ValueFitsPartByPart.{kinds_seen, parts_count, entries_count, struct_fits, table_fits}
-use Rattle.fb_value.proofs.fit.+fits.Goals as goal
+use Rattle.fb_owned.proofs.fit.+fits.Goals as goal
 
 pub parts_fit-returns-then-fields-parts : goal.parts_fit-returns-then-fields-parts
 parts_fit-returns-then-fields-parts t c = (

@@ -1,0 +1,1 @@
+-- Lemmas are below the modules that they serve: proofs/rooms/ has those of src/rooms.rt.
