@@ -4,9 +4,10 @@
 //! version.
 #![tactic(auto)]
 
+use fb_owned::{build, whole};
 use flatc_tool::{
-    DecodeOptions, EncodeOptions, Entries, Layout, SchemaTextFault, ToolFault, Value, View, build,
-    carry, conform, decode, encode, read, schema_of, verify, whole,
+    DecodeOptions, EncodeOptions, Entries, Layout, SchemaTextFault, ToolFault, Value, View, carry,
+    conform, decode, encode, read, schema_of, verify,
 };
 use std::alloc::Global;
 use std::io::{self, Write};

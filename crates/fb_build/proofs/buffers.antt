@@ -1,2 +1,1 @@
 pub mod FramedRoomHasTheCount
-pub mod RootIsNoted

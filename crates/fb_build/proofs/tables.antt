@@ -1,7 +1,6 @@
 pub mod CodeSlotHasNoEntry
 pub mod EachSlotAddsItsParts
 pub mod EndsNameTheParts
-pub mod PartsFitTheirSlots
 pub mod TableFitsItsRoom
 pub mod TableHasItsFields
 pub mod TableHasNoSlack

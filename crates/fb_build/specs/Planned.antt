@@ -1,7 +1,6 @@
--- What a plan stands for.
+-- What a plan of a tape stands for.
 use Rattle.std.specs.Prelude.{Bool}
 use Rattle.fb_layout.specs.Laid.{LaidSchema}
-use Rattle.fb_value.specs.declared.values.Value.{Value}
 use Rattle.fb_tape.specs.Tapes.{Taped}
 
 -- the tape that is to be laid, its layout, and whether the count of the bytes comes before the buffer
@@ -9,8 +8,3 @@ pub record TapePlanned : Type 0 where
   pub layout : LaidSchema
   pub tape : Taped
   pub prefixed : Bool
-
--- the value whose bytes are to be laid, and its layout
-pub record Planned : Type 0 where
-  pub layout : LaidSchema
-  pub value : Value

@@ -1,22 +1,17 @@
--- Plans as they are held: the tape means a value of the root table, and the memory is enough to lay it.
-use Rattle.std.specs.Prelude.{◌≡◌, ◌≤◌, ◌+◌, ◌-◌, false, List, [], Option, length, replicate}
+-- A plan of a tape as it is held: the tape means a value of the root table, and the memory is enough to lay it.
+use Rattle.std.specs.Prelude.{◌≡◌, ◌≤◌, ◌+◌, ◌-◌, [], length, replicate}
 use Rattle.std.specs.Vec.{vec_capacity}
 use Rattle.fb_layout.specs.Widths.{greatest}
-use Rattle.fb_value.specs.Datum.{Datum, a_table}
 use Rattle.fb_value.specs.Holds.{front_of}
-use Rattle.fb_value.specs.Room.{room_of}
-use Rattle.fb_value.specs.View.{view, entries_in}
 use Rattle.fb_tape.specs.KnownVtables.{EachHasOneNumber}
-use Rattle.fb_tape.specs.Tapes.{MeansRoot}
-use Rattle.fb_build.specs.declared.plans.Plan.TheInside.{Inside}
-use Rattle.fb_build.specs.declared.plans.TapePlan.TheInside.{Inside as TapeInside}
-use Rattle.fb_build.specs.Planned.{Planned, TapePlanned}
+use Rattle.fb_build.specs.declared.plans.TapePlan.TheInside.{Inside}
+use Rattle.fb_build.specs.Planned.{TapePlanned}
 use Rattle.fb_build.specs.TapeLaid.{SomeRoot, buffer_end}
 
-abbrev pub tape_planned_seen : TapeInside → TapePlanned
+abbrev pub tape_planned_seen : Inside → TapePlanned
 tape_planned_seen p = record { layout = p.layout.now; tape = p.tape; prefixed = p.prefixed }
 
-pub record IsTapeReady (p : TapeInside) : Type 0 where
+pub record IsTapeReady (p : Inside) : Type 0 where
   pub layout : p.tape.layout ≡ p.layout.now
   pub means : SomeRoot p.tape
   pub different : EachHasOneNumber p.tape.vtables
@@ -28,13 +23,3 @@ pub record IsTapeReady (p : TapeInside) : Type 0 where
   pub none_come : p.places.items ≡ []
   pub reserved : length p.tape.ops ≤ vec_capacity p.waiting
   pub places : length p.tape.vtables ≤ vec_capacity p.places
-
-abbrev pub planned_seen : Inside → Planned
-planned_seen p = record { layout = p.plan.layout; value = p.value.now }
-
-pub record IsReady (p : Inside) : Type 0 where
-  pub bare : p.plan.prefixed ≡ false
-  pub entries : List (Option Datum)
-  pub value : view p.value.now ≡ a_table p.plan.layout.schema.root (entries_in entries)
-  pub means : MeansRoot p.plan.tape entries
-  pub room : p.plan.tape.room + (8 + (greatest p.plan.layout - 1)) ≡ room_of p.plan.layout (view p.value.now)

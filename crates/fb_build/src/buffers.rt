@@ -1,69 +1,21 @@
-//! Builds buffers.
-ghost use Rattle.std.specs.Prelude.{◌≡◌, ◌≤◌, ◌<◌, length, true, Bool, IfOk, IfErr};
+//! Builds a buffer of a tape.
+ghost use Rattle.std.specs.Prelude.{◌≡◌, ◌≤◌, ◌<◌, length, IfOk, IfErr, Bool};
 ghost use Rattle.fb_value.specs.Bounds.{Bounds};
-ghost use Rattle.fb_value.specs.Counts.{cells, depth, is_whole};
-ghost use Rattle.fb_value.specs.Fits.{FitsRoot};
-ghost use Rattle.fb_value.specs.Holds.{Holds, HoldsFramed, front_of};
-ghost use Rattle.fb_value.specs.OldSlots.{OnlyOld, OnlyOldBehind};
-ghost use Rattle.fb_value.specs.Room.{room_of};
-ghost use Rattle.fb_value.specs.View.{view};
+ghost use Rattle.fb_value.specs.Counts.{cells, depth};
 ghost use Rattle.fb_value.specs.Datum.{Datum};
-ghost use Rattle.fb_build.specs.Covered.{Covered, CoveredFramed, EndsAligned, EndsAlignedFramed};
+ghost use Rattle.fb_value.specs.Holds.{HoldsFramed, front_of};
+ghost use Rattle.fb_value.specs.OldSlots.{OnlyOldBehind};
+ghost use Rattle.fb_build.specs.Covered.{CoveredFramed, EndsAlignedFramed};
 ghost use Rattle.fb_build.specs.FramedRoom.{framed_room};
 ghost use Rattle.fb_build.specs.NotedRoots.{NotesRoot};
 ghost use Rattle.fb_build.specs.declared.faults.BuildFault.TheVariants.{TooBig, Memory};
 
 use crate::faults::BuildFault;
-use crate::noting::note_root;
-use crate::plans::{Plan, TapePlan};
-use crate::rooms::table_with_parts_room;
+use crate::plans::TapePlan;
 use fb_layout::Layout;
 use fb_tape::Tape;
-use fb_value::{Value, buffer_room, front_of};
+use fb_value::{buffer_room, front_of};
 use std::alloc::Global;
-
-/// Takes all the memory that building a value takes, and lays no byte.
-pub fn plan<'v>(alloc: Global, layout: &'v Layout, value: &'v Value) -> Result<Plan<'v>, BuildFault>
-    requires fits { FitsRoot layout.now (view value.now) }
-    requires whole { is_whole (view value.now) ≡ true }
-    requires deep { depth (view value.now) ≤ 127 }
-    ensures layout { IfOk result (λ p. p.layout ≡ layout.now) }
-    ensures value { IfOk result (λ p. view p.value ≡ view value.now) }
-    ensures small { IfOk result (λ p. room_of layout.now (view value.now) ≤ 2147483647) }
-    ensures too_big { IfErr result (λ e. e ≡ TooBig → 2147483647 < room_of layout.now (view value.now)) }
-    ensures memory { IfErr result (λ e. e ≡ Memory → room_of layout.now (view value.now) ≤ 2147483647) }
-{
-    let _schema = layout.schema(); // its contract: the layout is well made
-    let Value::Fields(table, entries) = value else {
-        unreachable!();
-    };
-    let room = table_with_parts_room(layout, *table, entries);
-    // What is too big is so whatever memory there is.
-    let Some(_) = buffer_room(layout, room) else {
-        return Err(BuildFault::TooBig);
-    };
-    let tape = note_root(alloc, layout, *table, entries)?;
-    let plan = TapePlan::for_tape(alloc, layout, tape, false)?;
-    Ok(Plan { value, plan })
-}
-
-/// The bytes that encode a value of the root table.
-pub fn build(alloc: Global, layout: &Layout, value: &Value) -> Result<Vec<u8>, BuildFault>
-    requires fits { FitsRoot layout.now (view value.now) }
-    requires whole { is_whole (view value.now) ≡ true }
-    requires deep { depth (view value.now) ≤ 127 }
-    ensures holds { IfOk result (λ b. (most : Bounds) (raw : Bool) → depth (view value.now) ≤ most.depth
-        → cells (view value.now) ≤ most.cells → Holds layout.now most raw b.items (view value.now)) }
-    ensures old_slots { IfOk result (λ b. OnlyOld layout.now b.items) }
-    ensures covered { IfOk result (λ b. Covered layout.now b.items) }
-    ensures aligned { IfOk result (λ b. EndsAligned layout.now b.items) }
-    ensures short { IfOk result (λ b. length b.items ≤ room_of layout.now (view value.now)) }
-    ensures small { IfOk result (λ b. room_of layout.now (view value.now) ≤ 2147483647) }
-    ensures too_big { IfErr result (λ e. e ≡ TooBig → 2147483647 < room_of layout.now (view value.now)) }
-    ensures memory { IfErr result (λ e. e ≡ Memory → room_of layout.now (view value.now) ≤ 2147483647) }
-{
-    Ok(plan(alloc, layout, value)?.finish())
-}
 
 /// The bytes that encode a value of the root table, which is noted on a tape. All memory that laying them takes is
 /// taken before the first of them is laid. Where it is `prefixed`, the count of the buffer's bytes comes before it, and

@@ -11,7 +11,6 @@ mod noting;
 mod padding;
 mod plans;
 mod references;
-mod rooms;
 mod roots;
 mod tail;
 mod taped_data;
@@ -21,7 +20,7 @@ mod taped_ops;
 mod taped_references;
 mod taped_vtables;
 
-pub use buffers::{build, lay_root, plan};
+pub use buffers::lay_root;
 pub use defaults::is_default;
 pub use faults::BuildFault;
 pub use laws::{
@@ -31,4 +30,4 @@ pub use laws::{
     zero_is_computed, zero_outside,
 };
 pub use noting::{Noting, is_reference};
-pub use plans::Plan;
+pub use plans::TapePlan;

@@ -1,15 +1,14 @@
 //! What is to be laid, with all the memory that laying it takes.
-ghost use Rattle.std.specs.Prelude.{Bool, false, List, Option, ◌≡◌, ◌≤◌, ◌+◌, ◌-◌, length, IfOk};
+ghost use Rattle.std.specs.Prelude.{Bool, List, Option, ◌≡◌, ◌≤◌, ◌+◌, ◌-◌, length, IfOk};
 ghost use Rattle.fb_layout.specs.Widths.{greatest};
 ghost use Rattle.fb_value.specs.Bounds.{Bounds};
 ghost use Rattle.fb_value.specs.Counts.{cells, depth};
 ghost use Rattle.fb_value.specs.Datum.{Datum, a_table};
-ghost use Rattle.fb_value.specs.Holds.{Holds, HoldsFramed, front_of};
-ghost use Rattle.fb_value.specs.OldSlots.{OnlyOld, OnlyOldBehind};
-ghost use Rattle.fb_value.specs.Room.{room_of};
-ghost use Rattle.fb_value.specs.View.{view, entries_in};
+ghost use Rattle.fb_value.specs.Holds.{HoldsFramed, front_of};
+ghost use Rattle.fb_value.specs.OldSlots.{OnlyOldBehind};
+ghost use Rattle.fb_value.specs.View.{entries_in};
 ghost use Rattle.fb_tape.specs.Tapes.{MeansRoot};
-ghost use Rattle.fb_build.specs.Covered.{Covered, CoveredFramed, EndsAligned, EndsAlignedFramed};
+ghost use Rattle.fb_build.specs.Covered.{CoveredFramed, EndsAlignedFramed};
 ghost use Rattle.fb_build.specs.TapeLaid.{SomeRoot};
 
 use crate::laying::Laying;
@@ -19,7 +18,7 @@ use crate::taped_lengths::buffer_end;
 use crate::taped_ops::lay_tape;
 use fb_layout::Layout;
 use fb_tape::Tape;
-use fb_value::{Value, front_of};
+use fb_value::front_of;
 use std::alloc::{AllocError, Global};
 use std::marker::Model;
 
@@ -27,7 +26,7 @@ use std::marker::Model;
 /// that, a count for each part that waits, and a place for each vtable. A `prefixed` buffer has the count of its bytes
 /// in front.
 #[derive(Drop)]
-pub(crate) struct TapePlan<'l> {
+pub struct TapePlan<'l> {
     layout: &'l Layout,
     tape: Tape<'l>,
     prefixed: bool,
@@ -50,7 +49,7 @@ impl<'l> Model for TapePlan<'l> {
 
 impl<'l> TapePlan<'l> {
     /// Takes all the memory that laying a tape takes.
-    pub(crate) fn for_tape(
+    pub fn for_tape(
         alloc: Global,
         layout: &'l Layout,
         tape: Tape<'l>,
@@ -77,7 +76,7 @@ impl<'l> TapePlan<'l> {
     }
 
     /// Lays the bytes, with no memory but what the plan has.
-    pub(crate) fn finish(self) -> Vec<u8>
+    pub fn finish(self) -> Vec<u8>
         ensures holds { (xs : List (Option Datum)) (most : Bounds) (raw : Bool) → MeansRoot self.entry.tape xs
             → depth (a_table self.entry.layout.schema.root (entries_in xs)) ≤ most.depth
             → cells (a_table self.entry.layout.schema.root (entries_in xs)) ≤ most.cells
@@ -105,44 +104,5 @@ impl<'l> TapePlan<'l> {
         lay_tape(&mut laying, layout, &tape);
         let place = laying.waiting[0];
         close_tail(layout, laying.tail, place, prefixed).into_bytes()
-    }
-}
-
-/// A value for which all memory is taken.
-#[derive(Drop)]
-pub struct Plan<'v> {
-    pub(crate) value: &'v Value,
-    pub(crate) plan: TapePlan<'v>,
-}
-
-impl<'v> Model for Plan<'v> {
-    ghost use Rattle.fb_build.specs.Planned.{Planned};
-
-    ghost Value = { Planned };
-
-    ghost use Rattle.fb_value.specs.contracts.values.Value as value_contracts;
-    ghost use Rattle.std.specs.Coded.{codes};
-
-    ghost coded = { Prim.hlevel (codes, value_contracts.the_row.coded) };
-
-    ghost use Rattle.fb_build.specs.Ready.{planned_seen, IsReady};
-
-    ghost view = { planned_seen };
-
-    ghost invariant = { IsReady };
-}
-
-impl Plan<'_> {
-    /// Lays the bytes, with no memory but what the plan has.
-    pub fn finish(self) -> Vec<u8>
-        ensures holds { (most : Bounds) (raw : Bool) → depth (view self.entry.value) ≤ most.depth
-            → cells (view self.entry.value) ≤ most.cells → Holds self.entry.layout most raw result.items
-            (view self.entry.value) }
-        ensures old_slots { OnlyOld self.entry.layout result.items }
-        ensures covered { Covered self.entry.layout result.items }
-        ensures aligned { EndsAligned self.entry.layout result.items }
-        ensures short { length result.items ≤ room_of self.entry.layout (view self.entry.value) }
-    {
-        self.plan.finish()
     }
 }

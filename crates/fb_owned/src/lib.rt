@@ -1,15 +1,20 @@
 //! Values that a program owns.
 #![tactic(auto)]
 
+mod buffers;
 mod copies;
 mod counts;
 mod equality;
 mod fit;
+mod noting;
+mod plans;
 mod rooms;
 mod shapes;
 
+pub use buffers::{build, plan};
 pub use copies::{copy, copy_part};
 pub use counts::{cells, depth, whole};
 pub use equality::same;
 pub use fit::fits;
+pub use plans::Plan;
 pub use rooms::room;

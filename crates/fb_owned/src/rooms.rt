@@ -54,6 +54,10 @@ fn room_in_parts(layout: &Layout, kind: Kind, parts: &[Value]) -> usize
 {
     let mut total = 0usize;
     for part in parts {
+        // As most entries, most parts are numbers.
+        if let Value::Number(_) = part {
+            continue;
+        }
         total = total.saturating_add(room_in(layout, Shape::One(kind), part));
     }
     total

@@ -15,7 +15,7 @@ mod prints;
 pub use buffers::{encode, encode_owned};
 pub use checks::check;
 pub use evolution::{conform_names, conform_texts};
-pub use fb_build::{BuildFault, build};
+pub use fb_build::BuildFault;
 pub use fb_conform::{Breach, MovedName, carry, conform, moved_names};
 pub use fb_declare::SchemaFault;
 pub use fb_faults::ToolFault;
@@ -29,9 +29,7 @@ pub use fb_schema::TypeId;
 pub use fb_schema_text::{SchemaTextFault, schema_of};
 pub use fb_syntax::SyntaxFault;
 pub use fb_text::{Noted, TextFault, WriteFault};
-pub use fb_value::{
-    Limits, ReadFault, Value, cells, copy, depth, fits, nesting_of_depth, room, same, whole,
-};
+pub use fb_value::{Limits, ReadFault, Value, nesting_of_depth};
 pub use headline::{
     chains_carry, chains_conform, json_is_carried, old_programs_read, old_texts_are_carried,
     old_texts_are_read, other_json_is_refused, others_are_refused, streams_are_split,

@@ -1,6 +1,7 @@
 //! Calls on what is nested deep, for the stack that they take.
+use fb_owned::copy_part;
 use fb_read::{Entries, read};
-use fb_value::{Limits, copy_part};
+use fb_value::Limits;
 use flatc_tool::{ToolFault, schema_of, to_binary, to_json};
 use std::alloc::{AllocError, Global};
 use std::io;

@@ -7,13 +7,13 @@ ghost use Rattle.fb_value.specs.Fits.{FitsRoot};
 use crate::arming::{Matching, Outcome, arm, disarm};
 use crate::examples::Example;
 use crate::meanings::limits;
-use fb_build::{Plan, plan};
 use fb_conform::conform;
 use fb_layout::Layout;
+use fb_owned::{Plan, cells, depth, fits, plan, room, same, whole};
 use fb_read::{Entries, View, verify};
 use fb_schema::TypeId;
 use fb_text::{Noted, write_text};
-use fb_value::{Limits, Value, cells, depth, fits, room, same, whole};
+use fb_value::{Limits, Value};
 use flatc_tool::{DecodeOptions, decode_to, schema_of};
 
 /// The last table of the vector in the first slot, the struct's number in the second, or the member.

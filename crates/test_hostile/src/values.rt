@@ -9,11 +9,11 @@ use crate::arming::{Outcome, arm, disarm};
 use crate::examples::Example;
 use crate::meanings::meaning;
 use crate::memoryless::try_memoryless;
-use fb_build::{build, plan};
 use fb_conform::{carry, conform};
 use fb_layout::Layout;
+use fb_owned::{build, copy, plan};
 use fb_text::text_of;
-use fb_value::{Value, copy};
+use fb_value::Value;
 use flatc_tool::schema_of;
 
 pub(crate) fn is_printed_as(rt: &HostRuntime, layout: &Layout, value: &Value, text: &str) -> bool {

@@ -1,8 +1,7 @@
 -- Unions' slots in a declared schema, and what a table's slots store.
 use Rattle.std.specs.Prelude.{ℤ}
 use Rattle.std.proofs.Common.{◌≡◌, ◌≢◌, ℕ, zero, suc, ◌<◌, ◌≤◌, true, ◌≤ℤ◌, pos, List, [], ◌∷◌, length, map, drop}
-use Rattle.std.proofs.Common.{slice_get, Option, None, Some, option_map, refl, ap, sym, ◌∙◌, subst, arith}
-use Rattle.std.proofs.lemmas.Bool.{and_parts}
+use Rattle.std.proofs.Common.{slice_get, Option, None, Some, option_map, refl, ap, sym, ◌∙◌, arith}
 use Rattle.std.proofs.lemmas.Int.{ints}
 use Rattle.fb_schema.specs.declared.kinds.Base.TheVariants.{U8}
 use Rattle.fb_schema.specs.declared.kinds.TypeId.{TypeId}
@@ -18,13 +17,11 @@ use Rattle.fb_layout.specs.Laid.{scalar_kind, struct_kind, table_kind, union_kin
 use Rattle.fb_layout.specs.Laid.{vector_of, member_by_code}
 use Rattle.fb_layout.specs.Widths.{greatest}
 use Rattle.fb_value.specs.Datum.{Datum, a_member, an_unknown}
-use Rattle.fb_value.specs.Counts.{is_whole, entries_whole}
+use Rattle.fb_value.specs.Counts.{is_whole}
 use Rattle.fb_value.specs.Entries.{EntryFits}
 use Rattle.fb_value.specs.Fits.{Fits}
-use Rattle.fb_value.specs.View.{view, entries_view}
-use Rattle.fb_value.specs.declared.values.Value.{Value}
 use Rattle.fb_build.specs.Fields.{IsSimple, SlotFits, StoredFits, HasDefault, AreKnown, stored_here, stored_in, coded}
-use Rattle.fb_build.specs.Fields.{code_in, next_code, entries_seen}
+use Rattle.fb_build.specs.Fields.{code_in, next_code}
 use Rattle.fb_build.specs.Paired.{ArePaired}
 use Rattle.fb_build.specs.Parts.{EntryWhole}
 use Rattle.fb_build.proofs.fields.SlotStoresItsEntry.{in_mapped, same_some}
@@ -194,11 +191,3 @@ module _ (L : LaidSchema) (declared : IsDeclared L.schema) (fs : List Slot) (xs 
     low = low;
     defaults = defaults;
   }
-
-pub entry_whole : (es : List (Option Value)) → entries_whole (entries_view es) ≡ true → (k : ℕ) (x : Option Datum)
-    → slice_get (entries_seen es) k ≡ Some x → EntryWhole x
-entry_whole [] h k x e = cc
-entry_whole (None ∷ es) h zero x e = let x_is : None ≡ x = cc in subst EntryWhole x_is tt
-entry_whole (Some v ∷ es) h zero x e = let x_is : Some (view v) ≡ x = cc in subst EntryWhole x_is (and_parts _ _ h).0
-entry_whole (None ∷ es) h (suc k) x e = entry_whole es h k x e
-entry_whole (Some v ∷ es) h (suc k) x e = entry_whole es (and_parts _ _ h).1 k x e

@@ -1,39 +1,18 @@
 -- What each slot of a table stores, and its end-count once its field is laid.
 use Rattle.std.proofs.Common.{◌≡◌, ℕ, zero, suc, ◌+◌, ◌<◌, ◌≤◌, ◌⊎◌, inl, inr, Bool, true, false, cond, nat_lt, List}
-use Rattle.std.proofs.Common.{[], ◌∷◌, length, map, get_or, slice_get, slice_index, slice_set, Option, Some}
-use Rattle.std.proofs.Common.{option_map, refl, ap, sym, ◌∙◌, arith}
+use Rattle.std.proofs.Common.{[], ◌∷◌, length, slice_get, slice_index, slice_set, Option, Some}
+use Rattle.std.proofs.Common.{refl, ap, sym, ◌∙◌, arith}
 use Rattle.std.proofs.lemmas.List.{get_or-set_same, get_or-set_other}
 use Rattle.std.proofs.lemmas.Bool.{lt-ltb, ltb-true, ltb-false}
-use Rattle.fb_schema.specs.declared.types.FieldInfo.{FieldInfo}
-use Rattle.fb_schema.specs.Seen.{field_seen}
-use Rattle.fb_layout.specs.Laid.{LaidSchema, Slot, slot_of}
+use Rattle.fb_layout.specs.Laid.{LaidSchema, Slot}
 use Rattle.fb_layout.specs.Widths.{inline_size, inline_align}
 use Rattle.fb_value.specs.Datum.{Datum}
 use Rattle.fb_value.specs.Num.{divides}
-use Rattle.fb_value.specs.View.{view}
-use Rattle.fb_value.specs.declared.values.Value.{Value}
 use Rattle.fb_build.specs.Tails.{TailSeen, Grows}
 use Rattle.fb_build.specs.Fields.{IsSimple, above, from, EntryEnd, EntriesEnd}
-use Rattle.fb_build.specs.Fields.{slots_seen, entries_seen}
 use Rattle.fb_build.proofs.fields.FieldHasItsValue.{entry_grown}
 use Rattle.fb_build.proofs.tail.MultiplesAdd.{sum_divides}
 use Rattle.fb_build.proofs.fields.AlignmentDividesTheSize.{simple_multiple}
-
-get_mapped : {A B : Type 0} (f : A → B) (xs : List A) (i : ℕ) (x : A) → i < length xs → x ≡ get_or xs i x
-    → slice_get (map f xs) i ≡ Some (f x)
-get_mapped f [] i x low is = absurd (omega (arith, low))
-get_mapped f (y ∷ ys) zero x low is = ap (λ z. Some (f z)) (sym is)
-get_mapped f (y ∷ ys) (suc i) x low is = get_mapped f ys i x (omega (arith, low)) is
-
-pub slots_at : (L : LaidSchema) (slots : List FieldInfo) (k : ℕ) (r : FieldInfo) → k < length slots
-    → r ≡ get_or slots k r → slice_get (slots_seen L slots) k ≡ Some (slot_of L.schema (field_seen r))
-slots_at L [] k r low is = absurd (omega (arith, low))
-slots_at L (y ∷ ys) zero r low is = ap (λ z. Some (slot_of L.schema (field_seen z))) (sym is)
-slots_at L (y ∷ ys) (suc k) r low is = slots_at L ys k r (omega (arith, low)) is
-
-pub entries_at : (entries : List (Option Value)) (k : ℕ) (v : Option Value) → k < length entries
-    → v ≡ get_or entries k v → slice_get (entries_seen entries) k ≡ Some (option_map view v)
-entries_at entries k v low is = get_mapped (option_map view) entries k v low is
 
 pub ltb_yes : (j k : ℕ) → nat_lt j k ≡ true → j < k
 ltb_yes j k e = ltb-true j k e
@@ -45,14 +24,6 @@ pub in_mapped : {A : Type 0} (xs : List A) (i : ℕ) (x : A) → slice_get xs i 
 in_mapped [] i x e = cc
 in_mapped (y ∷ ys) zero x e = omega arith
 in_mapped (y ∷ ys) (suc i) x e = omega (arith, in_mapped ys i x e)
-
-pub slots_long : (L : LaidSchema) (slots : List FieldInfo) → length (slots_seen L slots) ≡ length slots
-slots_long L [] = refl
-slots_long L (s ∷ slots) = ap suc (slots_long L slots)
-
-pub entries_long : (entries : List (Option Value)) → length (entries_seen entries) ≡ length entries
-entries_long [] = refl
-entries_long (e ∷ entries) = ap suc (entries_long entries)
 
 pub whole_step : (L : LaidSchema) (a long longer free new : ℕ) (f : Slot) → IsSimple L f.shape
     → inline_align L f.shape ≡ a → longer + new ≡ long + free → new + inline_size L f.shape ≡ free

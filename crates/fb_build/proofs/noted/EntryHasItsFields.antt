@@ -3,24 +3,15 @@ use Rattle.std.specs.Prelude.{ℤ}
 use Rattle.std.proofs.Common.{◌≡◌, ◌-◌, ◌++◌, ◌∙◌, ℕ, true, false, List, [], ◌∷◌, None, Some, pos, refl, ap}
 use Rattle.std.proofs.lemmas.List.{append_assoc}
 use Rattle.fb_schema.specs.declared.kinds.Base.TheVariants.{U8}
-use Rattle.fb_schema.specs.declared.kinds.Kind.TheVariants.{Code}
-use Rattle.fb_schema.specs.declared.kinds.Shape.{Shape}
-use Rattle.fb_schema.specs.declared.kinds.Shape.TheVariants.{One}
-use Rattle.fb_layout.specs.Laid.{LaidSchema, Slot, StoredKind, StoredShape, stored_shape, one_of, vector_of}
+use Rattle.fb_layout.specs.Laid.{LaidSchema, Slot, StoredKind, StoredShape, one_of, vector_of}
 use Rattle.fb_layout.specs.Laid.{scalar_kind, struct_kind, table_kind, union_kind, code_kind, text_kind}
 use Rattle.fb_layout.specs.Widths.{inline_align}
 use Rattle.fb_value.specs.Datum.{Datum, a_number, a_text, a_vector, a_struct, a_table, a_member, an_unknown}
 use Rattle.fb_value.specs.Fits.{Fits}
 use Rattle.fb_tape.specs.OpenFields.{OpenField, AddsInlineField, IsInlineField, IsOpenIf, reference_field}
-use Rattle.fb_build.specs.Fields.{code_in, inline_kind, is_coded, is_reference, is_stored}
+use Rattle.fb_build.specs.Fields.{code_in, inline_kind, is_reference, is_stored}
 use Rattle.fb_build.specs.Noted.{AddsFields, AreFieldsOf}
 use Rattle.fb_build.proofs.tables.CodeSlotHasNoEntry.{no_code_entry}
-
--- a slot with an entry is no union's code
-pub no_code : (L : LaidSchema) (shape : Shape) (d : Datum) → Fits L (stored_shape L.schema shape) d
-    → is_coded shape ≡ false
-no_code L (One (Code u)) d fits = absurd (no_code_entry L u.0 d fits)
-no_code L _ d fits = refl
 
 -- the default isn't stored
 pub no_fields : (L : LaidSchema) (k : ℕ) (f : Slot) (d : Datum) → is_stored f (Some d) ≡ false
@@ -120,11 +111,6 @@ reference_fields L k f (a_struct ds) refers fits other = reference_open L k f (a
 reference_fields L k f (a_table t es) refers fits other = reference_open L k f (a_table t es) refers refl
 reference_fields L k f (a_member c d) refers fits other = cc
 reference_fields L k f (an_unknown c) refers fits other = reference_open L k f (an_unknown c) refers refl
-
--- a datum with a union's code is a member
-pub member_of : (d : Datum) (c : ℕ) → code_in (Some d) ≡ Some c → (e : Datum) × (d ≡ a_member c e)
-member_of (a_member b d) c is = let same : b ≡ c = cc in (d, ap (λ n. a_member n d) same)
-member_of _ c is = cc
 
 -- a union's value with its code
 pub member_fields : (L : LaidSchema) (k : ℕ) (f : Slot) (c : ℕ) (d : Datum) (before coded after : List OpenField)

@@ -1,6 +1,6 @@
 -- A vector that was laid.
 use Rattle.std.proofs.Common.{◌≡◌, ℕ, zero, suc, ◌+◌, ◌-◌, ◌*◌, ◌^◌, ◌<◌, ◌≤◌, ◌++◌, ◌==◌, Bool, true, false, ◌||◌}
-use Rattle.std.proofs.Common.{nat_lt, max, List, [], ◌∷◌, length, map, drop, get_or, slice_get, slice_index, Some, refl}
+use Rattle.std.proofs.Common.{nat_lt, max, List, [], ◌∷◌, length, drop, slice_get, slice_index, Some, refl}
 use Rattle.std.proofs.Common.{ap, sym, ◌∙◌, subst, arith, length-append}
 use Rattle.std.proofs.lemmas.Bool.{le-leb, and_from, and_parts}
 use Rattle.std.proofs.lemmas.List.{get_or-append-add}
@@ -13,8 +13,7 @@ use Rattle.fb_value.specs.Num.{Bytes, num, divides}
 use Rattle.fb_value.specs.Places.{part_place, ref_place, text_part, vector_part, target_of}
 use Rattle.fb_value.specs.Rules.{Aligned, fault_by, KeepsBy}
 use Rattle.fb_value.specs.Lies.{ElementBy, LiesBy, LiesItemsBy}
-use Rattle.fb_value.specs.View.{view, parts_in, parts_view}
-use Rattle.fb_value.specs.declared.values.Value.{Value}
+use Rattle.fb_value.specs.View.{parts_in}
 use Rattle.fb_value.specs.EachTable.{EachElement, EachItem, EachTable, EachTableAt, IsOldTable}
 use Rattle.fb_value.specs.Tails.{from_end}
 use Rattle.fb_layout.specs.Sizes.{IsAlignment}
@@ -179,18 +178,6 @@ one_more L a b kind d ds el g long lies h =
       tight = (element_tight L b.most b.bytes kind d el lies, rest.2);
       inline = (element_inline L b.most b.bytes kind d el lies, rest.3);
     }
-
-pub parts_next : (items : List Value) (i : ℕ) (v : Value) → i < length items → v ≡ get_or items i v
-    → parts_view (drop i items) ≡ more_parts (view v) (parts_view (drop (suc i) items))
-parts_next [] i v low is = absurd (omega (arith, low))
-parts_next (x ∷ items) zero v low is = rw is refl
-parts_next (x ∷ items) (suc i) v low is = parts_next items i v (omega (arith, low)) is
-
-pub views_at : (items : List Value) (i : ℕ) (v : Value) → i < length items → v ≡ get_or items i v
-    → slice_get (map view items) i ≡ Some (view v)
-views_at [] i v low is = absurd (omega (arith, low))
-views_at (x ∷ items) zero v low is = ap (λ z. Some (view z)) (sym is)
-views_at (x ∷ items) (suc i) v low is = views_at items i v (omega (arith, low)) is
 
 pub times_least : (k n z : ℕ) → k ≤ n → k * z ≤ n * z
 times_least k n z h =

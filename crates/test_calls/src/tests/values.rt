@@ -6,7 +6,8 @@ ghost use Rattle.fb_value.specs.View.{view};
 ghost use Rattle.fb_value.specs.Counts.{nesting};
 
 use super::{push_times, usual_limits};
-use fb_value::{Value, cells, copy, depth, fits, room, same, whole};
+use fb_owned::{cells, copy, depth, fits, room, same, whole};
+use fb_value::Value;
 use flatc_tool::{Entries, read, schema_of, to_binary};
 use std::alloc::Global;
 

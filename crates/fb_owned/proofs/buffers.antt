@@ -1,0 +1,2 @@
+-- What the proofs of src/buffers.rt use.
+pub mod RootIsNoted
