@@ -4,9 +4,9 @@
 //! version.
 #![tactic(auto)]
 
-use fb_owned::{build, whole};
+use fb_owned::{build, carry, whole};
 use flatc_tool::{
-    DecodeOptions, EncodeOptions, Entries, Layout, SchemaTextFault, ToolFault, Value, View, carry,
+    DecodeOptions, EncodeOptions, Entries, Layout, SchemaTextFault, ToolFault, Value, View,
     conform, decode, encode, read, schema_of, verify,
 };
 use std::alloc::Global;

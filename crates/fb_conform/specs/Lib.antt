@@ -8,7 +8,6 @@ pub mod Names
 pub mod MovedNames
 pub mod Movement
 pub mod Carry
-pub mod CarriedEntries
 pub mod Back
 pub mod NamesStay
 pub mod Laws

@@ -1,7 +1,6 @@
 -- Types of two schemas that have one full name.
 -- From the FlatBuffers documentation, "Evolution": a type is known by its full name, wherever it is declared.
-use Rattle.std.specs.Prelude.{ℕ, ◌≡◌, IsTrue, List, Option, Some, slice_get, option_map, option_and_then, unwrap_or}
-use Rattle.fb_schema.specs.declared.kinds.TypeId.{TypeId}
+use Rattle.std.specs.Prelude.{ℕ, ◌≡◌, IsTrue, Option, Some, slice_get, option_and_then, unwrap_or}
 use Rattle.fb_schema.specs.Schema.{DeclaredField, DeclaredSchema, body_at, slots_in, is_table}
 use Rattle.fb_schema.specs.Found.{type_named, name_at}
 use Rattle.fb_layout.specs.Laid.{LaidSchema}
@@ -40,7 +39,3 @@ pub record TableSlot (S T : DeclaredSchema) (t k : ℕ) (was is : Option Declare
 -- the number that an old type has in the new schema, 0 where it is gone
 abbrev pub to_new : LaidSchema → LaidSchema → ℕ → ℕ
 to_new A B t = unwrap_or (twin A.schema B.schema t) 0
-
--- the list has each old type's new number
-abbrev pub ListsNewNumbers : LaidSchema → LaidSchema → List TypeId → Type 0
-ListsNewNumbers A B numbers = (t : ℕ) → unwrap_or (option_map (λ u. u.0) (slice_get numbers t)) 0 ≡ to_new A B t

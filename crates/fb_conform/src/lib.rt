@@ -3,7 +3,6 @@
 
 mod bodies;
 mod breaches;
-mod carried_values;
 mod comparison;
 mod kept_fields;
 mod laws;
@@ -16,10 +15,10 @@ mod twins;
 mod walk;
 
 pub use breaches::Breach;
-pub use carried_values::carry;
 pub use comparison::{all_breaches, conform};
 pub use laws::{
     back_holds, carried_fits, carried_holds, carries_on, conforms_on, kept_unless_moved,
     means_carried, names_carry,
 };
 pub use names::{MovedName, moved_names};
+pub use twins::twin_of;

@@ -1,3 +1,5 @@
+pub mod CarriedEntries
 pub mod Counted
 pub mod Planned
 pub mod Ready
+pub mod NewNumbers

@@ -2,6 +2,7 @@
 #![tactic(auto)]
 
 mod buffers;
+mod carried_values;
 mod copies;
 mod counts;
 mod equality;
@@ -10,8 +11,10 @@ mod noting;
 mod plans;
 mod rooms;
 mod shapes;
+mod versions;
 
 pub use buffers::{build, plan};
+pub use carried_values::carry;
 pub use copies::{copy, copy_part};
 pub use counts::{cells, depth, whole};
 pub use equality::same;

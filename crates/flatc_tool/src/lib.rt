@@ -16,7 +16,7 @@ pub use buffers::{encode, encode_owned};
 pub use checks::check;
 pub use evolution::{conform_names, conform_texts};
 pub use fb_build::BuildFault;
-pub use fb_conform::{Breach, MovedName, carry, conform, moved_names};
+pub use fb_conform::{Breach, MovedName, conform, moved_names};
 pub use fb_declare::SchemaFault;
 pub use fb_faults::ToolFault;
 pub use fb_json::{JsonFault, Place};

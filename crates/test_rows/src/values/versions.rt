@@ -9,8 +9,9 @@ use crate::values::Case;
 use crate::values::meanings::{buffer_of, meaning, write_unmeant};
 use crate::values::readings::{value_in, write_unread};
 use crate::values::texts::try_alike;
-use fb_conform::{carry, conform, moved_names};
+use fb_conform::{conform, moved_names};
 use fb_layout::Layout;
+use fb_owned::carry;
 use fb_value::Value;
 use std::alloc::AllocError;
 

@@ -9,10 +9,10 @@ use Rattle.fb_value.specs.declared.values.Value.{Value}
 use Rattle.fb_value.specs.View.{view, entries_view}
 use Rattle.fb_value.proofs.types.EachVariantHasItsView.{view-Fields, view-Items, view-Member}
 use Rattle.fb_conform.specs.Carry.{carry, carry_slots}
-use Rattle.fb_conform.proofs.carried_values.EntriesAreCarriedInOrder.{one_carried, one_default, all_done, all_parts}
-use Rattle.fb_conform.proofs.carried_values.+carry.Goals as goal
-use Rattle.fb_conform.proofs.carried_values.+carry.Goals.{carry_entries-in-Some+in_ok-entry-in-Some}
-use Rattle.fb_conform.proofs.carried_values.+carry.Goals.{carry_entries-in-None}
+use Rattle.fb_owned.proofs.carried_values.EntriesAreCarriedInOrder.{one_carried, one_default, all_done, all_parts}
+use Rattle.fb_owned.proofs.carried_values.+carry.Goals as goal
+use Rattle.fb_owned.proofs.carried_values.+carry.Goals.{carry_entries-in-Some+in_ok-entry-in-Some}
+use Rattle.fb_owned.proofs.carried_values.+carry.Goals.{carry_entries-in-None}
 
 pub carry_entries-returns : goal.carry_entries-returns
 carry_entries-returns t c =

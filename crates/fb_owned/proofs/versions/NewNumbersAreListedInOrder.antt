@@ -9,7 +9,8 @@ use Rattle.std.proofs.lemmas.List.{length-append}
 use Rattle.fb_schema.specs.declared.kinds.TypeId.{TypeId}
 use Rattle.fb_schema.specs.Found.{type_named}
 use Rattle.fb_layout.specs.Laid.{LaidSchema}
-use Rattle.fb_conform.specs.Twins.{to_new, ListsNewNumbers}
+use Rattle.fb_conform.specs.Twins.{to_new}
+use Rattle.fb_owned.specs.NewNumbers.{ListsNewNumbers}
 
 got_before : {X : Type 0} (xs ys : List X) (k : ℕ) → k < length xs → slice_get (xs ++ ys) k ≡ slice_get xs k
 got_before [] ys k less = absurd (omega arith)

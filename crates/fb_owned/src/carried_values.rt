@@ -8,13 +8,14 @@ ghost use Rattle.fb_value.specs.Datum.{a_number};
 ghost use Rattle.fb_value.specs.Fits.{FitsRoot};
 ghost use Rattle.fb_value.specs.View.{view, parts_view, entries_view};
 ghost use Rattle.fb_conform.specs.Carry.{carry, carry_items, carry_slots};
-ghost use Rattle.fb_conform.specs.CarriedEntries.{carried_entry};
+ghost use Rattle.fb_owned.specs.CarriedEntries.{carried_entry};
 ghost use Rattle.fb_conform.specs.Conforms.{Conforms};
 
-use crate::twins::{Versions, new_numbers};
+use crate::copies::copy_part;
+use crate::versions::{Versions, new_numbers};
 use fb_layout::Layout;
 use fb_schema::{FieldInfo, Kind, Shape};
-use fb_value::{Value, copy_part};
+use fb_value::Value;
 use std::alloc::{AllocError, Global};
 
 /// A value of an old schema's root under a new schema that conforms to it.

@@ -1,8 +1,8 @@
 use Rattle.std.proofs.Common.{◌≡◌, ◌+◌, ◌*◌, take, map}
 use Rattle.fb_value.specs.View.{view}
 use Rattle.fb_conform.specs.Carry.{carry}
-use Rattle.fb_conform.proofs.carried_values.EntriesAreCarriedInOrder.{SoFar}
-use Rattle.fb_conform.proofs.carried_values.+carry.Given as goal
+use Rattle.fb_owned.proofs.carried_values.EntriesAreCarriedInOrder.{SoFar}
+use Rattle.fb_owned.proofs.carried_values.+carry.Given as goal
 
 abbrev pub invariant-carry_parts-loop-part : goal.invariant-carry_parts-loop-part
 invariant-carry_parts-loop-part l =

@@ -4,8 +4,8 @@ use Rattle.std.proofs.lemmas.List.{length-append, length-map}
 use Rattle.fb_schema.specs.Schema.{DeclaredSchema}
 use Rattle.fb_schema.specs.Seen.{type_seen}
 use Rattle.fb_conform.specs.Twins.{twin, to_new}
-use Rattle.fb_conform.proofs.twins.NewNumbersAreListedInOrder.{numbered_more, numbered_all}
-use Rattle.fb_conform.proofs.twins.new_numbers.Goals as goal
+use Rattle.fb_owned.proofs.versions.NewNumbersAreListedInOrder.{numbered_more, numbered_all}
+use Rattle.fb_owned.proofs.versions.new_numbers.Goals as goal
 
 pub loop-i-init : goal.loop-i-init
 loop-i-init c =

@@ -1,0 +1,2 @@
+-- What the proofs of src/versions.rt use.
+pub mod NewNumbersAreListedInOrder
