@@ -3,3 +3,5 @@ pub mod Counted
 pub mod Planned
 pub mod Ready
 pub mod NewNumbers
+pub mod Refused
+pub mod ShownValues

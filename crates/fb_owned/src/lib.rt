@@ -11,6 +11,8 @@ mod noting;
 mod plans;
 mod rooms;
 mod shapes;
+mod shown_values;
+mod texts;
 mod versions;
 
 pub use buffers::{build, plan};
@@ -21,3 +23,4 @@ pub use equality::same;
 pub use fit::fits;
 pub use plans::Plan;
 pub use rooms::room;
+pub use texts::{spaced_text_of, text_of};

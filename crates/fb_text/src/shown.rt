@@ -13,7 +13,7 @@ use fb_schema::TypeId;
 
 /// What is found where a value is read.
 #[derive(Clone, Copy)]
-pub(crate) enum Found<'a> {
+pub enum Found<'a> {
     Absent,
     Number(i128),
     Text(&'a str),
@@ -29,7 +29,7 @@ pub(crate) enum Found<'a> {
 /// Where a value is read, if there is one: in a buffer or in a `Value`.
 ///
 /// A child is lighter than what it is in, so that reading ends.
-pub(crate) trait Shown: Copy {
+pub trait Shown: Copy {
     ghost shows: { Self → LaidSchema → Option Datum → Type 0 };
 
     ghost weight: { Self → ℕ };

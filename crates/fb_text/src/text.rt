@@ -1,34 +1,29 @@
 //! The JSON text of a value of the root table.
-ghost use Rattle.std.specs.Prelude.{◌≡◌, ◌↔◌, Some, true, false, IfOk, IfErr, IsErr, IsTrue, string_bytes};
-ghost use Rattle.fb_value.specs.Counts.{is_whole};
+ghost use Rattle.std.specs.Prelude.{◌≡◌, ◌↔◌, Some, false, IsErr, IsTrue};
 ghost use Rattle.fb_value.specs.Datum.{Datum};
-ghost use Rattle.fb_value.specs.View.{view};
 ghost use Rattle.fb_read.specs.Shows.{Shows};
 ghost use Rattle.fb_json.specs.Meant.{type_place};
 ghost use Rattle.fb_text.specs.Texts.{json_text, spaced_text};
 ghost use Rattle.fb_text.specs.Noted.{write_failed, writer_of};
 ghost use Rattle.fb_text.specs.Printed.{IsPrinted, TellsFailure, IfUnnamed};
-ghost use Rattle.fb_text.specs.Unnamed.{IsRefused};
 ghost use Rattle.fb_text.specs.Writes.{IsWritten};
 
-use crate::faults::{TextFault, WriteFault};
+use crate::faults::WriteFault;
 use crate::indents::{Indent, Spacing};
 use crate::lines::put_line;
 use crate::noted::Noted;
-use crate::owned::ValueEntry;
 use crate::shown::Shown;
 use crate::unnamed::first_unnamed;
 use crate::values::{Style, put_value};
 use fb_json::Place;
-use fb_layout::Layout;
 use fb_read::{Entry, View};
 use fb_schema::{Kind, Shape};
-use fb_value::Value;
-use std::alloc::Global;
 use std::io::Write;
 
-/// Writes the text of a value of the root table, and the line feed at its end if it has lines.
-fn write_root<W: Write, S: Shown>(
+/// Writes the text of a value of the root table, and the line feed at its end if it has lines, from
+/// wherever it is read. It is JSON only where `first_unnamed` finds no union: none of that kind has a
+/// text.
+pub fn write_shown<W: Write, S: Shown>(
     shown: S,
     style: Style,
     spacing: Spacing,
@@ -94,54 +89,5 @@ pub fn write_spaced<W: Write>(
         layout: view.layout(),
         defaults,
     };
-    write_root(Entry::Table(*view), style, spacing, out)
-}
-
-/// The indented JSON text of a value of the root table, as `spaced_text_of` gives it.
-pub fn text_of(
-    alloc: Global,
-    layout: &Layout,
-    value: &Value,
-    defaults: bool,
-) -> Result<String, TextFault>
-    ensures text { IfOk result
-        (λ s. string_bytes s ≡ json_text layout.now defaults (view value.now)) }
-    ensures whole { IfOk result (λ _. is_whole (view value.now) ≡ true) }
-    ensures refused { IfErr result
-        (IsRefused (type_place layout.now.schema.root) (view value.now)) }
-{
-    spaced_text_of(alloc, layout, value, defaults, Spacing::Indented)
-}
-
-/// The JSON text of a value of the root table. `defaults` includes fields with default values.
-pub fn spaced_text_of(
-    alloc: Global,
-    layout: &Layout,
-    value: &Value,
-    defaults: bool,
-    spacing: Spacing,
-) -> Result<String, TextFault>
-    ensures text { IfOk result
-        (λ s. string_bytes s ≡ spaced_text spacing layout.now defaults (view value.now)) }
-    ensures whole { IfOk result (λ _. is_whole (view value.now) ≡ true) }
-    ensures refused { IfErr result
-        (IsRefused (type_place layout.now.schema.root) (view value.now)) }
-{
-    let place = Place {
-        owner: layout.schema().root(),
-        slot: None,
-    };
-    if let Some(unnamed) = first_unnamed(place, ValueEntry(Some(value))) {
-        return Err(TextFault::NoMemberName(unnamed));
-    }
-    let _names = layout.schema().types(); // tells that names are UTF-8
-    let style = Style { layout, defaults };
-    let mut out = Noted::over(Vec::new(alloc));
-    if write_root(ValueEntry(Some(value)), style, spacing, &mut out).is_err() {
-        return Err(TextFault::Memory); // what a `Vec` refuses
-    }
-    match String::from_utf8(out.into_inner()) {
-        Ok(text) => Ok(text),
-        Err(_) => unreachable!(),
-    }
+    write_shown(Entry::Table(*view), style, spacing, out)
 }

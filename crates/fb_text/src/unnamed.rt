@@ -24,7 +24,7 @@ fn place_in(place: Place, found: Found, i: usize) -> Place
 }
 
 /// The place of the first union, in the order of printing, whose code names no member.
-pub(crate) fn first_unnamed<S: Shown>(place: Place, shown: S) -> Option<Place>
+pub fn first_unnamed<S: Shown>(place: Place, shown: S) -> Option<Place>
     ensures { (L : LaidSchema) (o : Option Datum) → S.shows shown L o → result ≡ first_in_entry place o }
 {
     let found = shown.find();

@@ -26,9 +26,9 @@ use fb_layout::Layout;
 use fb_schema::{FieldInfo, Kind, Shape, TypeId};
 use std::io::Write;
 
-/// How values are printed.
+/// How values are printed: by the names of a layout, with or without fields that have default values.
 #[derive(Clone, Copy)]
-pub(crate) struct Style<'a> {
+pub struct Style<'a> {
     pub layout: &'a Layout,
     pub defaults: bool,
 }

@@ -11,8 +11,7 @@ use crate::meanings::meaning;
 use crate::memoryless::try_memoryless;
 use fb_conform::conform;
 use fb_layout::Layout;
-use fb_owned::{build, carry, copy, plan};
-use fb_text::text_of;
+use fb_owned::{build, carry, copy, plan, text_of};
 use fb_value::Value;
 use flatc_tool::schema_of;
 

@@ -1,6 +1,6 @@
 -- Numbers at their defaults aren't printed.
-use Rattle.std.proofs.Common.{◌≡◌, ◌<◌, ◌||◌, ◌∷◌, [], ℕ, zero, suc, List, length, map, slice_get, Bool, true, false}
-use Rattle.std.proofs.Common.{Option, Some, refl, arith}
+use Rattle.std.proofs.Common.{◌≡◌, ◌||◌, ◌∷◌, [], ℕ, zero, suc, List, map, slice_get, Bool, true, false}
+use Rattle.std.proofs.Common.{Option, Some, refl}
 use Rattle.std.proofs.lemmas.Bool.Decides.{Decides-int_eq}
 use Rattle.fb_schema.specs.Schema.{DeclaredField, DeclaredSchema, body_at, slots_in}
 use Rattle.fb_layout.specs.Laid.{LaidSchema, Slot, slot_of, slots_of, StoredShape, one_of, scalar_kind, default_of}
@@ -14,11 +14,6 @@ pub mapped_there : (S : DeclaredSchema) (fs : List DeclaredField) (k : ℕ) (f :
 mapped_there S [] k f e = cc
 mapped_there S (g ∷ fs) zero f e = let is : g ≡ f = cc in rw is refl
 mapped_there S (g ∷ fs) (suc k) f e = mapped_there S fs k f e
-
-pub there_within : (fs : List DeclaredField) (k : ℕ) (f : DeclaredField) → slice_get fs k ≡ Some f → k < length fs
-there_within [] k f e = cc
-there_within (g ∷ fs) zero f e = omega arith
-there_within (g ∷ fs) (suc k) f e = omega (arith, there_within fs k f e)
 
 default_unprinted : (f : DeclaredField) (hidden : Bool) (shape : StoredShape) → (hidden ≡ false → f.optional ≡ false)
     → is_entry_printed false f (number_entry (default_of hidden f.default shape)) ≡ false

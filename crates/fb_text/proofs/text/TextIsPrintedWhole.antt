@@ -1,7 +1,6 @@
 -- What stands at the start and at the end of a text.
-use Rattle.std.proofs.Common.{◌≡◌, ℕ, ◌<◌, [], List, length, Option, Some, Bool, true, false, Result, Ok, Err}
+use Rattle.std.proofs.Common.{◌≡◌, ℕ, ◌<◌, [], List, length, Option, Bool, true, false, Result, Ok, Err}
 use Rattle.std.proofs.Common.{refl, sym, arith}
-use Rattle.std.specs.Prelude.{is_err}
 use Rattle.std.proofs.KnownBytes.{Appends-nil}
 use Rattle.fb_layout.specs.Laid.{LaidSchema}
 use Rattle.fb_value.specs.Datum.{Datum, a_number, a_text, a_vector, a_struct, a_table, a_member, an_unknown}
@@ -43,9 +42,3 @@ whole_printed root d text start known (Ok x) whole written = (whole, written)
 whole_printed root d text start known (Err (WriteFailed n)) whole written =
     (whole, written.0, written.1, written.2, written.3)
 whole_printed root d text start known (Err (NoMemberName at)) whole written = absurd written
-
--- what a writer has got that had nothing
-pub written_items : (r : Result (Unit {0}) WriteFault) (old new text : List ℕ) → is_err r ≡ false → old ≡ []
-    → IsWritten (Some old) (Some new) text r → new ≡ text
-written_items (Ok x) old new text fine none got = rw none at got
-written_items (Err f) old new text fine none got = cc

@@ -6,7 +6,7 @@ use Rattle.std.specs.Option.{option_or, is_some}
 use Rattle.fb_layout.specs.Laid.{LaidSchema, StoredKind, scalar_kind, struct_kind, table_kind, text_kind, union_kind}
 use Rattle.fb_layout.specs.Laid.{code_kind, Slot, parts_of, struct_at, size_of}
 use Rattle.fb_value.specs.Datum.{Datum, a_number, a_text, a_vector, a_struct, a_table, a_member, an_unknown, Parts}
-use Rattle.fb_value.specs.Datum.{no_parts, more_parts, SlotEntries, no_entries, absent_entry, present_entry, count}
+use Rattle.fb_value.specs.Datum.{no_parts, more_parts, SlotEntries, no_entries, absent_entry, present_entry}
 use Rattle.fb_value.specs.Num.{Bytes, num}
 use Rattle.fb_value.specs.Places.{Place as Spot, text_part, part_place, target_of}
 use Rattle.fb_value.specs.Lies.{LiesInline, LiesParts, Element, Lies, LiesItems, LiesSlots}
@@ -75,12 +75,6 @@ unset_named L b at (suc k) (f ∷ fs) (x ∷ xs) (absent_entry es) lies unset =
 unset_named L b at (suc k) (f ∷ fs) (x ∷ xs) (present_entry d es) lies unset =
     unset_named L b at k fs xs es lies.1 unset
 unset_named L b at k _ _ _ lies unset = absurd lies
-
-pub parts_end : (at : Place) (i : ℕ) (ds : Parts) → count ds ≤ i → None ≡ first_in_parts at (parts_from i ds)
-parts_end at zero no_parts past = refl
-parts_end at (suc i) no_parts past = refl
-parts_end at zero (more_parts d ds) past = absurd (omega arith)
-parts_end at (suc i) (more_parts d ds) past = parts_end at i ds (omega arith)
 
 child_here : (at : Place) (i : ℕ) (ds : Parts)
     → first_in_parts at (parts_from i ds)

@@ -1,6 +1,7 @@
 //! Texts of values beside those of their bytes.
 use crate::values::Case;
-use fb_text::{Spacing, TextFault, spaced_text_of};
+use fb_owned::spaced_text_of;
+use fb_text::{Spacing, TextFault};
 use fb_value::Value;
 use flatc_tool::{DecodeOptions, ToolFault, decode};
 use std::alloc::AllocError;

@@ -1,7 +1,7 @@
 use Rattle.std.proofs.Common.{◌∙◌, ap}
 use Rattle.fb_schema.specs.Schema.{DeclaredSchema}
-use Rattle.fb_text.proofs.laws.NamesAreUtf8.{schema_utf8}
-use Rattle.fb_text.proofs.laws.TextIsUtf8.{text_utf8}
+use Rattle.fb_text.proofs.texts.NamesAreUtf8.{schema_utf8}
+use Rattle.fb_text.proofs.texts.TextIsUtf8.{text_utf8}
 use Rattle.fb_text.proofs.laws.FittingValuesAreUtf8.{root_spells}
 use Rattle.fb_text.proofs.laws.spaced_texts_are_utf8.Goals as goal
 

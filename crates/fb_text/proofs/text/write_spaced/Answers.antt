@@ -2,7 +2,7 @@ use Rattle.std.proofs.Common.{Some, refl, sym, ◌∙◌}
 use Rattle.std.proofs.KnownBytes.{Appends-nil}
 use Rattle.fb_json.specs.Meant.{type_place}
 use Rattle.fb_text.specs.Texts.{spaced_text}
-use Rattle.fb_text.proofs.text.WholeWhereEachUnionIsNamed.{named_whole, unnamed_part}
+use Rattle.fb_text.proofs.texts.WholeWhereEachUnionIsNamed.{named_whole, unnamed_part}
 use Rattle.fb_text.proofs.values.MemberIsItsCodeAndValue.{never_unnamed}
 use Rattle.fb_text.proofs.text.TextIsPrintedWhole.{some_text, whole_printed}
 use Rattle.fb_text.proofs.text.write_spaced.Goals as goal
@@ -28,10 +28,10 @@ returns-clause-printed g c d lies =
     let found = rw c.type_id.ensures
     at (c.first_unnamed.ensures c.args.view.now.layout.now (Some d) (refl, d, refl, lies)) in
     let whole = named_whole (type_place c.args.view.now.table.0) d (sym c.in_default.is ∙ found) in
-    let written = rw c.layout.ensures at (c.write_root.ensures.written d (sym c.layout.ensures, d, refl, lies)) in
+    let written = rw c.layout.ensures at (c.write_shown.ensures.written d (sym c.layout.ensures, d, refl, lies)) in
     whole_printed (type_place c.args.view.now.table.0) d (spaced_text c.args.spacing L c.args.defaults d) _ _
-    c.write_root.result whole
+    c.write_shown.result whole
     written
 
 pub returns-clause-untouched : goal.returns-clause-untouched
-returns-clause-untouched g c = never_unnamed c.write_root.result _ c.write_root.ensures.named
+returns-clause-untouched g c = never_unnamed c.write_shown.result _ c.write_shown.ensures.named

@@ -2,7 +2,8 @@ use Rattle.std.proofs.Common.{◌≡◌, ◌≤◌, arith}
 use Rattle.fb_value.specs.Datum.{a_table}
 use Rattle.fb_value.specs.Nth.{nth_entry}
 use Rattle.fb_read.specs.Shows.{Shows}
-use Rattle.fb_text.proofs.stored.DefaultsAreNotPrinted.{there_within, unprinted_behind}
+use Rattle.fb_text.proofs.texts.NothingBehindTheEnd.{there_within}
+use Rattle.fb_text.proofs.stored.DefaultsAreNotPrinted.{unprinted_behind}
 use Rattle.fb_text.proofs.stored.EntryShown.printed_slots.Goals as goal
 
 pub returns-in-Table-2-clause-behind : goal.returns-in-Table-2-clause-behind

@@ -2,7 +2,8 @@ use Rattle.std.proofs.Common.{◌≡◌, ◌≤◌, None, Some, sym, arith}
 use Rattle.fb_layout.specs.Laid.{stored_kind, slots_of}
 use Rattle.fb_value.specs.Datum.{a_table, count}
 use Rattle.fb_text.specs.Unnamed.{unnamed_from}
-use Rattle.fb_text.proofs.unnamed.OneEntryMore.{plain_kind, table_case, entries_end, parts_end, fields_named}
+use Rattle.fb_text.proofs.texts.NothingBehindTheEnd.{parts_end}
+use Rattle.fb_text.proofs.unnamed.OneEntryMore.{plain_kind, table_case, entries_end, fields_named}
 use Rattle.fb_text.proofs.unnamed.OneEntryMore.{items_named}
 use Rattle.fb_text.proofs.stored.EntryShown.searched.Goals as goal
 

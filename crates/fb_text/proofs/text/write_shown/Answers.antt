@@ -2,7 +2,7 @@ use Rattle.std.proofs.Common.{◌∙◌}
 use Rattle.fb_text.specs.Writes.{state_of}
 use Rattle.fb_text.proofs.noted.PiecesAddUp.{then}
 use Rattle.fb_text.proofs.text.TextIsPrintedWhole.{nothing_stands}
-use Rattle.fb_text.proofs.text.write_root.Goals as goal
+use Rattle.fb_text.proofs.text.write_shown.Goals as goal
 
 pub returns-clause-written : goal.returns-clause-written
 returns-clause-written g c d shows =

@@ -1,9 +1,9 @@
 use Rattle.std.proofs.Common.{◌≤◌, length, sym, arith, refl}
 use Rattle.std.proofs.lemmas.Option.{slice_get_past}
 use Rattle.fb_value.specs.Datum.{a_table}
-use Rattle.fb_text.proofs.owned.PartsAreLighter.{seen_there, entry_past}
-use Rattle.fb_text.proofs.stored.DefaultsAreNotPrinted.{there_within}
-use Rattle.fb_text.proofs.owned.ValueEntryShown.printed_slots.Goals as goal
+use Rattle.fb_owned.proofs.shown_values.PartsAreLighter.{seen_there, entry_past}
+use Rattle.fb_text.proofs.texts.NothingBehindTheEnd.{there_within}
+use Rattle.fb_owned.proofs.shown_values.ValueEntryShown.printed_slots.Goals as goal
 
 pub returns-in-Some-clause-behind : goal.returns-in-Some-clause-behind
 returns-in-Some-clause-behind c L t es k f shows all past there =

@@ -4,9 +4,10 @@ ghost use Rattle.fb_json.specs.declared.faults.Place.{Place};
 ghost use Rattle.fb_text.specs.Unnamed.{nth_child, unnamed_from};
 ghost use Rattle.fb_value.specs.Datum.{SlotEntries, a_table};
 ghost use Rattle.fb_value.specs.View.{view, entries_view};
-ghost use Rattle.fb_text.specs.Shown.{IsTop, HasWeight, size, size_in, count_in};
+ghost use Rattle.fb_text.specs.Shown.{IsTop, HasWeight};
+ghost use Rattle.fb_owned.specs.ShownValues.{size, size_in, count_in};
 
-use crate::shown::{Found, Shown};
+use fb_text::{Found, Shown};
 use fb_value::Value;
 
 /// What a value is.
@@ -92,7 +93,7 @@ pub(crate) struct ValueEntry<'a>(pub Option<&'a Value>);
 
 impl Shown for ValueEntry<'_> {
     ghost use Rattle.std.specs.Prelude.{◌≡◌, ◌^◌};
-    ghost use Rattle.fb_text.specs.Shown.{datum_of, size_in};
+    ghost use Rattle.fb_owned.specs.ShownValues.{datum_of, size_in};
 
     ghost shows = { λ e L o. o ≡ datum_of e };
 

@@ -3,9 +3,9 @@ use Rattle.std.specs.Option.{option_copied}
 use Rattle.fb_schema.proofs.Got.{got_of}
 use Rattle.fb_value.specs.View.{view, parts_view, entries_view}
 use Rattle.fb_value.proofs.types.EachVariantHasItsView.{view-Items, view-Fixed, view-Fields}
-use Rattle.fb_text.proofs.owned.PartsAreLighter.{part_viewed, entry_viewed, entry_past, part_light, entry_light}
-use Rattle.fb_text.proofs.owned.PartsAreLighter.{copied_view}
-use Rattle.fb_text.proofs.owned.child_of.Goals as goal
+use Rattle.fb_owned.proofs.shown_values.PartsAreLighter.{part_viewed, entry_viewed, entry_past, part_light, entry_light}
+use Rattle.fb_owned.proofs.shown_values.PartsAreLighter.{copied_view}
+use Rattle.fb_owned.proofs.shown_values.child_of.Goals as goal
 
 pub returns-in-Items-clause-known : goal.returns-in-Items-clause-known
 returns-in-Items-clause-known c =

@@ -6,8 +6,8 @@ use Rattle.fb_value.specs.declared.values.Value.{Value}
 use Rattle.fb_value.proofs.types.EachVariantHasItsView.{view-Items, view-Fixed, view-Fields, count-parts_view}
 use Rattle.fb_read.specs.Tails.{entries_from}
 use Rattle.fb_text.specs.Unnamed.{first_in_entries}
-use Rattle.fb_text.proofs.unnamed.OneEntryMore.{parts_end}
-use Rattle.fb_text.proofs.owned.children_of.Goals as goal
+use Rattle.fb_text.proofs.texts.NothingBehindTheEnd.{parts_end}
+use Rattle.fb_owned.proofs.shown_values.children_of.Goals as goal
 
 -- where no entries are left
 entries_over : (t j k : ℕ) (es : List (Option Value)) → length es ≤ k

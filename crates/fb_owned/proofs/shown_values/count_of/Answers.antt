@@ -1,6 +1,6 @@
 use Rattle.std.proofs.Common.{arith}
 use Rattle.fb_value.proofs.types.EachVariantHasItsView.{view-Items, count-parts_view}
-use Rattle.fb_text.proofs.owned.count_of.Goals as goal
+use Rattle.fb_owned.proofs.shown_values.count_of.Goals as goal
 
 pub returns-in-Items : goal.returns-in-Items
 returns-in-Items c =

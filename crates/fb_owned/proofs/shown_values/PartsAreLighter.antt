@@ -7,7 +7,7 @@ use Rattle.fb_value.specs.Datum.{present_entry}
 use Rattle.fb_value.specs.Nth.{nth_entry, nth_part}
 use Rattle.fb_value.specs.View.{view, parts_view, entries_view}
 use Rattle.fb_value.specs.declared.values.Value.{Value}
-use Rattle.fb_text.specs.Shown.{parts_size, entries_size, size_in}
+use Rattle.fb_owned.specs.ShownValues.{parts_size, entries_size, size_in}
 
 pub part_viewed : (vs : List Value) (i : ℕ) (o : Option Value) → o ≡ slice_get vs i
     → nth_part (parts_view vs) i ≡ option_map view o

@@ -1,15 +1,23 @@
-use Rattle.std.proofs.Common.{◌≡◌, ℕ, true, false, Some, IsUtf8, refl, ap, sym, subst, ◌∙◌}
+use Rattle.std.proofs.Common.{◌≡◌, ℕ, List, [], true, false, Some, Result, Ok, Err, IsUtf8, refl, ap, sym, subst, ◌∙◌}
+use Rattle.std.specs.Prelude.{is_err}
 use Rattle.fb_schema.specs.Schema.{DeclaredSchema}
 use Rattle.fb_value.specs.View.{view}
 use Rattle.fb_json.specs.Meant.{type_place}
 use Rattle.fb_json.proofs.texts.ValueTextsAreUtf8.{value_utf8}
 use Rattle.fb_text.specs.Texts.{spaced_text}
 use Rattle.fb_text.specs.Unnamed.{first_unnamed}
-use Rattle.fb_text.proofs.laws.NamesAreUtf8.{schema_utf8}
-use Rattle.fb_text.proofs.text.TextIsPrintedWhole.{written_items}
-use Rattle.fb_text.proofs.laws.TextIsUtf8.{text_utf8}
-use Rattle.fb_text.proofs.text.WholeWhereEachUnionIsNamed.{named_whole, unnamed_part}
-use Rattle.fb_text.proofs.text.spaced_text_of.Goals as goal
+use Rattle.fb_text.specs.Writes.{IsWritten}
+use Rattle.fb_text.specs.declared.faults.WriteFault.{WriteFault}
+use Rattle.fb_text.proofs.texts.NamesAreUtf8.{schema_utf8}
+use Rattle.fb_text.proofs.texts.TextIsUtf8.{text_utf8}
+use Rattle.fb_text.proofs.texts.WholeWhereEachUnionIsNamed.{named_whole, unnamed_part}
+use Rattle.fb_owned.proofs.texts.spaced_text_of.Goals as goal
+
+-- what a writer has got that had nothing
+written_items : (r : Result (Unit {0}) WriteFault) (old new text : List ℕ) → is_err r ≡ false → old ≡ []
+    → IsWritten (Some old) (Some new) text r → new ≡ text
+written_items (Ok x) old new text fine none got = rw none at got
+written_items (Err f) old new text fine none got = cc
 
 pub returns-in-Some-clause-refused : goal.returns-in-Some-clause-refused
 returns-in-Some-clause-refused c =
@@ -30,9 +38,9 @@ pub unreachable-requires : goal.unreachable-requires
 unreachable-requires c =
     let L = c.args.layout.now in
     let d = view c.args.value.now in
-    let made = written_items c.write_root.result _ _ (spaced_text c.args.spacing L c.args.defaults d)
+    let made = written_items c.write_shown.result _ _ (spaced_text c.args.spacing L c.args.defaults d)
     (sym c.is_err.ensures.value ∙ c.if-is_err.false) (rw c.over-out.ensures.same c.new.ensures.items)
-    (c.write_root.ensures.written d refl) in
+    (c.write_shown.ensures.written d refl) in
     let names = c.types-names.ensures.types ∙ ap (λ (s : DeclaredSchema). s.types) c.schema-2.ensures.schema in
     let text = text_utf8 L (schema_utf8 L.schema c.types-names.result.now names) c.args.defaults c.args.spacing d
     (value_utf8 c.args.value.now) in
@@ -44,9 +52,9 @@ pub returns-clause-text : goal.returns-clause-text
 returns-clause-text c =
     let L = c.args.layout.now in
     let d = view c.args.value.now in
-    let made = written_items c.write_root.result _ _ (spaced_text c.args.spacing L c.args.defaults d)
+    let made = written_items c.write_shown.result _ _ (spaced_text c.args.spacing L c.args.defaults d)
     (sym c.is_err.ensures.value ∙ c.if-is_err.false) (rw c.over-out.ensures.same c.new.ensures.items)
-    (c.write_root.ensures.written d refl) in
+    (c.write_shown.ensures.written d refl) in
     rw (c.in-Ok.ensures.ok, c.into_inner.ensures) made
 
 pub returns-clause-whole : goal.returns-clause-whole

@@ -1,7 +1,7 @@
 use Rattle.std.proofs.Common.{Some, ap, ◌∙◌}
 use Rattle.fb_value.specs.View.{view, parts_view, entries_view}
 use Rattle.fb_value.proofs.types.EachVariantHasItsView.{view-Items, view-Fixed, view-Fields, view-Member}
-use Rattle.fb_text.proofs.owned.top_of.Goals as goal
+use Rattle.fb_owned.proofs.shown_values.top_of.Goals as goal
 
 pub returns-in-Items-clause-top : goal.returns-in-Items-clause-top
 returns-in-Items-clause-top c =

@@ -1,0 +1,2 @@
+-- What the proofs of src/shown_values.rt use.
+pub mod PartsAreLighter

@@ -1,2 +1,0 @@
--- What the proofs of src/owned.rt use.
-pub mod PartsAreLighter
