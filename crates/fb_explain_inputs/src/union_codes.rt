@@ -7,19 +7,17 @@ use fb_explain_pages::{Page, push_names};
 use fb_explain_words::shapes::{field_at, members_of, type_name};
 use fb_json::Place;
 use fb_layout::Layout;
-use fb_read::{Entries, read_framed};
+use fb_read::{Entries, verify_framed};
 use fb_schema::{Kind, Shape};
-use fb_value::ReadFault;
 use std::alloc::{AllocError, Global};
 
-/// The first such union of the buffer's value.
+/// The first such union of the buffer.
 fn unnamed_in(
     alloc: Global,
     layout: &Layout,
     sources: &Sources<'_>,
 ) -> Result<Option<Unnamed>, AllocError> {
-    let value = read_framed(
-        alloc,
+    let root = verify_framed(
         layout,
         sources.input.bytes,
         sources.limits,
@@ -27,9 +25,8 @@ fn unnamed_in(
         sources.size_prefixed,
         &mut Entries::new(),
     );
-    match value {
-        Ok(value) => first_unnamed(alloc, &value),
-        Err(ReadFault::Memory) => Err(AllocError),
+    match root {
+        Ok(root) => first_unnamed(alloc, root),
         Err(_) => Ok(None),
     }
 }

@@ -1,7 +1,6 @@
-//! The first union of a value whose code no member has.
-use fb_read::Step;
-use fb_schema::TypeId;
-use fb_value::Value;
+//! The first union of a buffer whose code no member has.
+use fb_read::{Entry, Items, Step, View};
+use fb_schema::Kind;
 use std::alloc::{AllocError, Global};
 
 /// A union whose code no member has.
@@ -21,26 +20,10 @@ impl Unnamed {
 }
 
 #[cycle(unnamed)]
-fn first_in_items(alloc: Global, items: &[Value]) -> Result<Option<Unnamed>, AllocError> {
-    for (i, item) in items.iter().enumerate() {
-        if let Some(found) = first_unnamed(alloc, item)? {
-            return found.behind(Step::Element(i.min(u32::MAX as usize) as u32));
-        }
-    }
-    Ok(None)
-}
-
-#[cycle(unnamed)]
-fn first_in_entries(
-    alloc: Global,
-    owner: TypeId,
-    entries: &[Option<Value>],
-) -> Result<Option<Unnamed>, AllocError> {
-    for (i, entry) in entries.iter().enumerate() {
-        if let Some(part) = entry
-            && let Some(found) = first_unnamed(alloc, part)?
-        {
-            return found.behind(Step::Slot(owner, i.min(65535) as u16));
+fn first_in_items(alloc: Global, items: Items<'_>) -> Result<Option<Unnamed>, AllocError> {
+    for i in 0..items.count() {
+        if let Some(found) = first_in_entry(alloc, items.item(i))? {
+            return found.behind(Step::Element(i));
         }
     }
     Ok(None)
@@ -48,15 +31,28 @@ fn first_in_entries(
 
 /// The first union, in the order of slots and elements, whose code no member has.
 #[cycle(unnamed)]
-pub(crate) fn first_unnamed(alloc: Global, value: &Value) -> Result<Option<Unnamed>, AllocError> {
-    match value {
-        Value::Other(code) => Ok(Some(Unnamed {
+pub(crate) fn first_unnamed(alloc: Global, view: View<'_>) -> Result<Option<Unnamed>, AllocError> {
+    // behind the stored slots there are only defaults
+    for slot in 0..view.stored_slots() {
+        if let Some(found) = first_in_entry(alloc, view.slot(slot))? {
+            return found.behind(Step::Slot(view.type_id(), slot));
+        }
+    }
+    Ok(None)
+}
+
+#[cycle(unnamed)]
+fn first_in_entry(alloc: Global, entry: Entry<'_>) -> Result<Option<Unnamed>, AllocError> {
+    match entry {
+        Entry::Unknown(code) => Ok(Some(Unnamed {
             steps: Vec::new(alloc),
-            code: *code,
+            code,
         })),
-        Value::Member(_, member) => first_unnamed(alloc, member),
-        Value::Items(items) => first_in_items(alloc, items),
-        Value::Fields(owner, entries) => first_in_entries(alloc, *owner, entries),
-        Value::Number(_) | Value::Text(_) | Value::Fixed(_) => Ok(None),
+        Entry::Table(view) | Entry::Member(_, view) => first_unnamed(alloc, view),
+        Entry::Vector(items) => match items.kind {
+            Kind::Table(_) => first_in_items(alloc, items),
+            _ => Ok(None), // no union is in anything else that elements can be
+        },
+        Entry::Absent | Entry::Number(_) | Entry::Text(_) | Entry::Fixed(_) => Ok(None),
     }
 }
