@@ -4,10 +4,10 @@
 //! version.
 #![tactic(auto)]
 
-use fb_owned::{build, carry, whole};
+use fb_owned::{build, carry, read, whole};
 use flatc_tool::{
     DecodeOptions, EncodeOptions, Entries, Layout, SchemaTextFault, ToolFault, Value, View,
-    conform, decode, encode, read, schema_of, verify,
+    conform, decode, encode, schema_of, verify,
 };
 use std::alloc::Global;
 use std::io::{self, Write};

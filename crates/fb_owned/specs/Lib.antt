@@ -5,3 +5,6 @@ pub mod Ready
 pub mod NewNumbers
 pub mod Refused
 pub mod ShownValues
+pub mod Inlines
+pub mod Before
+pub mod Memory

@@ -1,3 +1,2 @@
 -- What the proofs of src/reader.rt use.
-pub mod RootValueIsHeld
 pub mod RootVisitDecides

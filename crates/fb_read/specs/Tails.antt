@@ -1,7 +1,5 @@
--- What is left of a table's entries and of a vector's elements, and what stands before that.
-use Rattle.std.specs.Prelude.{ℕ, zero, suc, List, [], ◌∷◌, Option, None, Some}
-use Rattle.fb_value.specs.declared.values.Value.{Value}
-use Rattle.fb_value.specs.View.{view}
+-- What is left of a table's entries and of a vector's elements.
+use Rattle.std.specs.Prelude.{ℕ, zero, suc, Option, None, Some}
 use Rattle.fb_value.specs.Datum.{Datum, Parts, no_parts, more_parts, SlotEntries}
 use Rattle.fb_value.specs.Datum.{no_entries, absent_entry, present_entry}
 
@@ -22,14 +20,3 @@ parts_from (suc i) (more_parts d ds) = parts_from i ds
 abbrev pub entry_before : Option Datum → SlotEntries → SlotEntries
 entry_before None es = absent_entry es
 entry_before (Some d) es = present_entry d es
-
--- entries behind those of values
-abbrev pub entries_before : List (Option Value) → SlotEntries → SlotEntries
-entries_before [] es = es
-entries_before (None ∷ vs) es = absent_entry (entries_before vs es)
-entries_before (Some v ∷ vs) es = present_entry (view v) (entries_before vs es)
-
--- elements behind those of values
-abbrev pub parts_before : List Value → Parts → Parts
-parts_before [] ds = ds
-parts_before (v ∷ vs) ds = more_parts (view v) (parts_before vs ds)

@@ -31,6 +31,11 @@ Gives takes_memory result after given = MatchResult result (λ _. given ≡ Ok a
 abbrev pub Finds : {T : Type 0} → Result T ReadFault → Option ReadFault → Type 0
 Finds result first = MatchResult result (λ _. first ≡ None) (λ f. first ≡ Some f)
 
+-- The same as far as memory lasts for it.
+abbrev pub FindsWhile : {T : Type 0} → Type 0 → Result T ReadFault → Option ReadFault → Type 0
+FindsWhile takes_memory result first = MatchResult result (λ _. first ≡ None)
+    (λ f. MemoryLasts takes_memory f → first ≡ Some f)
+
 -- An entry is kept: there is none, or what is kept of it stands for it.
 abbrev pub KeepsEntry : {K : Type 0} → (K → Datum → Type 0) → Option K → Option Datum → Type 0
 KeepsEntry keeps None o = o ≡ None
@@ -58,14 +63,6 @@ abbrev pub KeepsSlots : {E : Type 0} → (E → ℕ → SlotEntries → Type 0) 
     → E → Type 0
 KeepsSlots has buffer fs xs n entries = (es : SlotEntries)
     → LiesSlots buffer.layout.now buffer.bytes.now fs xs es → has entries n es
-
--- the number or struct at a position can only be this
-abbrev pub IsInline : LaidSchema → List ℕ → StoredKind → ℕ → Option Datum → Type 0
-IsInline L b kind p o = (d : Datum) → LiesInline L b kind p d → o ≡ Some d
-
--- the same of n elements from a position on
-abbrev pub AreItems : LaidSchema → List ℕ → StoredKind → ℕ → ℕ → Parts → Type 0
-AreItems L b kind p n ds = (others : Parts) → count others ≡ n → LiesItems L b kind p others → ds ≡ others
 
 -- The table at a position keeps its rules and the limits.
 abbrev pub IsOpen : Buffer → ℕ → ℕ → ℕ → ℕ → Type 0

@@ -21,10 +21,7 @@ pub use fb_declare::SchemaFault;
 pub use fb_faults::ToolFault;
 pub use fb_json::{JsonFault, Place};
 pub use fb_layout::{Layout, LayoutFault};
-pub use fb_read::{
-    Entries, Entry, FixedView, Items, View, read, read_framed, split_prefixed, verify,
-    verify_framed,
-};
+pub use fb_read::{Entries, Entry, FixedView, Items, View, split_prefixed, verify, verify_framed};
 pub use fb_schema::TypeId;
 pub use fb_schema_text::{SchemaTextFault, schema_of};
 pub use fb_syntax::SyntaxFault;

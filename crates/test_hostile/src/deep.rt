@@ -1,6 +1,6 @@
 //! Calls on what is nested deep, for the stack that they take.
-use fb_owned::copy_part;
-use fb_read::{Entries, read};
+use fb_owned::{copy_part, read};
+use fb_read::Entries;
 use fb_value::Limits;
 use flatc_tool::{ToolFault, schema_of, to_binary, to_json};
 use std::alloc::{AllocError, Global};

@@ -7,7 +7,8 @@ use crate::values::{is_printed_as, try_value_call};
 use fb_encode::{EncodeFault, TextFault, encode_text};
 use fb_json::value_of;
 use fb_layout::Layout;
-use fb_read::{Entries, read};
+use fb_owned::read;
+use fb_read::Entries;
 use flatc_tool::{
     DecodeOptions, EncodeOptions, ToolFault, decode, encode, encode_owned, schema_of,
 };

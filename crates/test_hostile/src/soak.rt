@@ -3,8 +3,8 @@
 use crate::dice::Dice;
 use crate::meanings::meaning;
 use fb_layout::Layout;
-use fb_owned::{build, text_of, whole};
-use fb_read::{Entries, View, read, verify};
+use fb_owned::{build, read, text_of, whole};
+use fb_read::{Entries, View, verify};
 use fb_text::{Noted, TextFault, WriteFault, write_text};
 use fb_value::{Limits, Value};
 use flatc_tool::{schema_of, to_binary, to_json};

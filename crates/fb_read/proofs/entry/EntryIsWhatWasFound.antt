@@ -18,7 +18,7 @@ use Rattle.fb_read.specs.Stored.{number_entry}
 use Rattle.fb_read.specs.Views.{entry_of, number_in, text_in, table_in, struct_in, vector_in, member_in}
 use Rattle.fb_read.proofs.places.AbsentSlotNamesNoPlace.{unset_place}
 use Rattle.fb_read.proofs.stored.StoredIsTheEntry.{absent_stored}
-use Rattle.fb_read.proofs.inlines.StructFieldsRankLower.{rank}
+use Rattle.fb_read.proofs.placed.StructFieldsRankLower.{rank}
 
 pub number_told : (o : Option Datum) (n : ℤ) → number_in o ≡ Some n → o ≡ Some (a_number n)
 number_told (Some (a_number m)) n e = let is : m ≡ n = cc in rw is refl

@@ -1,5 +1,5 @@
 -- A visit from the root decides whether the buffer holds a value.
-use Rattle.std.proofs.Common.{◌≡◌, ℕ, ◌+◌, List, Option, None, Some, Result, Ok, Err, refl, ap}
+use Rattle.std.proofs.Common.{◌≡◌, ℕ, ◌+◌, List, Option, None, Some, Result, Ok, Err, OnOk, refl, ap, arith}
 use Rattle.fb_layout.specs.Laid.{LaidSchema}
 use Rattle.fb_layout.specs.WellMade.{IsWellMade}
 use Rattle.fb_value.specs.declared.faults.ReadFault.{ReadFault}
@@ -16,8 +16,9 @@ use Rattle.fb_read.specs.declared.buffer.Buffer.{Buffer}
 use Rattle.fb_read.specs.declared.step.Step.{Step}
 use Rattle.fb_read.specs.declared.verdict.Verdict.{Verdict}
 use Rattle.fb_read.specs.FaultPaths.{Hears}
-use Rattle.fb_read.specs.Values.{Gives, Finds}
+use Rattle.fb_read.specs.Values.{Gives, Finds, FindsWhile}
 use Rattle.fb_read.specs.Visits.{outcome, visit}
+use Rattle.fb_read.specs.Walks.{EntersAt}
 
 pub err_told : (o : Option ReadFault) (n : ℕ) (f : ReadFault) → outcome o n ≡ Err f → o ≡ Some f
 err_told None n f e = cc
@@ -48,6 +49,23 @@ unfolding visit
 visit_finds L b most x tables spent after (Ok y) gives = ok_told (fault_from L b most x tables spent) _ after gives
 visit_finds L b most x tables spent after (Err f) gives =
     err_told (fault_from L b most x tables spent) _ f (gives (λ never. absurd never))
+
+-- One that may take memory finds it as far as memory lasts.
+pub visit_finds_while : {T : Type 0} (takes : Type 0) (L : LaidSchema) (b : Bytes) (most : Bounds) (x : Place)
+    (tables spent after : ℕ) (r : Result T ReadFault) → Gives takes r after (visit L b most x tables spent)
+    → FindsWhile takes r (fault_from L b most x tables spent)
+unfolding visit
+visit_finds_while takes L b most x tables spent after (Ok y) gives =
+    ok_told (fault_from L b most x tables spent) _ after gives
+visit_finds_while takes L b most x tables spent after (Err f) gives =
+    λ lasts. err_told (fault_from L b most x tables spent) _ f (gives lasts)
+
+-- What a walk has counted from 0 on is added to a count.
+pub entered_more : {T : Type 0} (buffer : Buffer) (x : Place) (start ticks old new : ℕ) (r : Result T ReadFault)
+    → start ≡ 0 → new ≡ old + ticks → OnOk r (EntersAt buffer x start ticks) → OnOk r (EntersAt buffer x old new)
+entered_more buffer x start ticks old new (Ok y) none is each = λ d lies.
+    (let all = each d lies in omega (arith, none, is, all))
+entered_more buffer x start ticks old new (Err f) none is each = tt
 
 module _ (p : ℕ) (front : Option ReadFault) (L : LaidSchema) (most : Bounds) (b : Bytes) (made : IsWellMade L) where
   -- refused behind a front that keeps its rules

@@ -22,7 +22,7 @@ use Rattle.fb_read.specs.Stored.{number_entry, defaults_of}
 use Rattle.fb_read.specs.Tails.{entries_from, parts_from, entry_before}
 use Rattle.fb_read.specs.Values.{KeepsEntry, KeepsItems}
 use Rattle.fb_read.specs.Visits.{slot_seen, slots_seen}
-use Rattle.fb_read.proofs.values.OneValueMore.{parts_here}
+use Rattle.fb_read.proofs.placed.PartsGoOn.{parts_here}
 use Rattle.fb_read.proofs.places.AbsentSlotNamesNoPlace.{unset_place}
 use Rattle.fb_read.proofs.places.FieldsAreTheirSlots.{slot_there, seen_drop, drop_past}
 use Rattle.fb_read.proofs.visit_tables.EnteredPartsAreCounted.{target_size, lies_from}

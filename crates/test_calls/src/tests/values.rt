@@ -6,9 +6,9 @@ ghost use Rattle.fb_value.specs.View.{view};
 ghost use Rattle.fb_value.specs.Counts.{nesting};
 
 use super::{push_times, usual_limits};
-use fb_owned::{cells, copy, depth, fits, room, same, whole};
+use fb_owned::{cells, copy, depth, fits, read, room, same, whole};
 use fb_value::Value;
-use flatc_tool::{Entries, read, schema_of, to_binary};
+use flatc_tool::{Entries, schema_of, to_binary};
 use std::alloc::Global;
 
 const INT: &[u8] = b"table T { a:int; } root_type T;";

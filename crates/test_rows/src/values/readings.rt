@@ -2,7 +2,8 @@
 use crate::values::Case;
 use crate::values::agree::table_agrees;
 use crate::values::texts::try_alike;
-use fb_read::{Entries, read_framed, verify_framed};
+use fb_owned::read_framed;
+use fb_read::{Entries, verify_framed};
 use fb_value::{ReadFault, Value};
 use std::alloc::AllocError;
 

@@ -3,8 +3,8 @@ use Rattle.fb_layout.specs.Laid.{stored_kind}
 use Rattle.fb_schema.specs.declared.types.FieldInfo.{FieldInfo}
 use Rattle.fb_schema.specs.declared.kinds.TypeId.{TypeId}
 use Rattle.fb_read.specs.Kinds.{structure_wanted}
-use Rattle.fb_read.proofs.items.PartsLieInTheirPlaces.{field_kind, field_within, field_struct, field_no_struct}
-use Rattle.fb_read.proofs.items.PartsLieInTheirPlaces.{field_past, structure_fits}
+use Rattle.fb_read.proofs.placed.PartsLieInTheirPlaces.{field_kind, field_within, field_struct, field_no_struct}
+use Rattle.fb_read.proofs.placed.PartsLieInTheirPlaces.{field_past, structure_fits}
 use Rattle.fb_read.proofs.fixed_view.FixedView.fixed.Goals as goal
 
 pub returns-then-index-fields-clause-shows : goal.returns-then-index-fields-clause-shows

@@ -5,8 +5,8 @@ use Rattle.fb_schema.specs.declared.types.FieldInfo.{FieldInfo}
 use Rattle.std.specs.Prelude.{FitsSigned}
 use Rattle.std.specs.Int.{w128}
 use Rattle.fb_read.specs.Kinds.{base_wanted}
-use Rattle.fb_read.proofs.items.PartsLieInTheirPlaces.{field_kind, field_within, field_number, field_no_number}
-use Rattle.fb_read.proofs.items.PartsLieInTheirPlaces.{field_past, base_fits}
+use Rattle.fb_read.proofs.placed.PartsLieInTheirPlaces.{field_kind, field_within, field_number, field_no_number}
+use Rattle.fb_read.proofs.placed.PartsLieInTheirPlaces.{field_past, base_fits}
 use Rattle.fb_read.proofs.fixed_view.FixedView.number.Goals as goal
 
 pub returns-then-index-fields : goal.returns-then-index-fields

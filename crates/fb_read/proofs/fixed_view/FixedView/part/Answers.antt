@@ -7,9 +7,9 @@ use Rattle.fb_layout.specs.Laid.{stored_kind}
 use Rattle.fb_schema.specs.declared.types.FieldInfo.{FieldInfo}
 use Rattle.fb_schema.specs.declared.kinds.TypeId.{TypeId}
 use Rattle.fb_read.specs.Kinds.{base_wanted, structure_wanted}
-use Rattle.fb_read.proofs.items.PartsLieInTheirPlaces.{field_kind, field_within, field_there, field_number}
-use Rattle.fb_read.proofs.items.PartsLieInTheirPlaces.{field_struct, field_past, base_fits, structure_fits}
-use Rattle.fb_read.proofs.inlines.StructFieldsRankLower.{field_rank}
+use Rattle.fb_read.proofs.placed.PartsLieInTheirPlaces.{field_kind, field_within, field_there, field_number}
+use Rattle.fb_read.proofs.placed.PartsLieInTheirPlaces.{field_struct, field_past, base_fits, structure_fits}
+use Rattle.fb_read.proofs.placed.StructFieldsRankLower.{field_rank}
 use Rattle.fb_read.proofs.entry.EntryIsWhatWasFound.{number_told, struct_told, nothing_inline, rank_told}
 use Rattle.fb_read.proofs.fixed_view.FixedView.part.Goals as goal
 

@@ -6,8 +6,8 @@ use Rattle.fb_schema.specs.declared.kinds.Kind.{Kind}
 use Rattle.fb_layout.specs.Laid.{stored_kind, size_of}
 use Rattle.fb_read.specs.Kinds.{base_wanted, structure_wanted, table_wanted, is_text}
 use Rattle.fb_read.specs.Stored.{text_behind}
-use Rattle.fb_read.proofs.items.PartsLieInTheirPlaces.{item_within, item_number, item_text_sure, item_text}
-use Rattle.fb_read.proofs.items.PartsLieInTheirPlaces.{item_table_lies, item_table, item_struct, base_fits}
+use Rattle.fb_read.proofs.placed.PartsLieInTheirPlaces.{item_within, item_number, item_text_sure, item_text}
+use Rattle.fb_read.proofs.placed.PartsLieInTheirPlaces.{item_table_lies, item_table, item_struct, base_fits}
 use Rattle.fb_read.proofs.entry.EntryIsWhatWasFound.{number_told, text_told, table_told, struct_told}
 use Rattle.fb_read.proofs.items.Items.item.Goals as goal
 

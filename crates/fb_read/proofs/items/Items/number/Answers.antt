@@ -3,7 +3,7 @@ use Rattle.std.proofs.Common.{◌∙◌, sym, rules}
 use Rattle.std.specs.Prelude.{FitsSigned}
 use Rattle.std.specs.Int.{w128}
 use Rattle.fb_layout.specs.Laid.{stored_kind, size_of}
-use Rattle.fb_read.proofs.items.PartsLieInTheirPlaces.{item_within, item_number, item_no_number, base_fits}
+use Rattle.fb_read.proofs.placed.PartsLieInTheirPlaces.{item_within, item_number, item_no_number, base_fits}
 use Rattle.fb_read.proofs.items.Items.number.Goals as goal
 
 pub number_at-requires : goal.number_at-requires

@@ -1,7 +1,7 @@
 use Rattle.std.proofs.Common.{◌∙◌, Some, sym, ap}
 use Rattle.fb_layout.specs.Laid.{stored_kind}
 use Rattle.fb_read.specs.Stored.{text_behind}
-use Rattle.fb_read.proofs.items.PartsLieInTheirPlaces.{item_text_sure, item_text, item_no_text}
+use Rattle.fb_read.proofs.placed.PartsLieInTheirPlaces.{item_text_sure, item_text, item_no_text}
 use Rattle.fb_read.proofs.items.Items.text.Goals as goal
 
 pub text_behind-requires : goal.text_behind-requires

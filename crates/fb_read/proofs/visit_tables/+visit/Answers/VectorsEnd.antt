@@ -17,7 +17,7 @@ use Rattle.fb_read.proofs.visit_tables.EnteredPartsAreCounted.{vector_entered, i
 use Rattle.fb_read.proofs.visit_tables.FrontIsFreeOfFaults.{front_fails, front_whole, element_named, elements_long}
 use Rattle.fb_read.proofs.visit_tables.KeepsWhatLies.{vector_kept}
 use Rattle.fb_read.proofs.visit_tables.VisitsOnePlaceAfterAnother.{visit_vector, small_no, no_references}
-use Rattle.fb_read.proofs.values.OneValueMore.{parts_end as last_part}
+use Rattle.fb_read.proofs.placed.PartsGoOn.{parts_end as last_part}
 use Rattle.fb_read.proofs.visit_tables.+visit.Goals as goal
 
 pub vector_reference_refused : goal.visit_vector_behind-returns-in_err-target

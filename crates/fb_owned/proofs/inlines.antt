@@ -1,0 +1,3 @@
+-- What the proofs of src/inlines.rt use.
+pub mod FieldsAreWhole
+pub mod OneInlineMore

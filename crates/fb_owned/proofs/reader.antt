@@ -1,0 +1,2 @@
+-- What the proofs of src/reader.rt use.
+pub mod RootValueIsHeld

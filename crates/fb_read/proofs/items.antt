@@ -1,2 +1,0 @@
--- What the proofs of src/items.rt use.
-pub mod PartsLieInTheirPlaces
