@@ -101,6 +101,19 @@ fn push_content(page: &mut Page, scene: Scene<'_>, node: &Node, piece: &Piece) {
     }
 }
 
+/// The step to a piece from the part that it is of; none where no path is shown.
+fn step_to(what: What, table: TypeId) -> Option<Step> {
+    match what {
+        What::Field(slot) | What::Member(slot, _) | What::UnknownMember(slot, _) => {
+            Some(Step::Slot(table, slot))
+        }
+        What::Table | What::UnknownField(_) | What::Length | What::Content => Some(Step::Reference),
+        What::Vtable | What::Count | What::Root | What::Identifier | What::Gap | What::Fault => {
+            None
+        }
+    }
+}
+
 /// Adds what a piece of a part is.
 fn push_part(page: &mut Page, scene: Scene<'_>, piece: &Piece, node: &Node) {
     let schema = scene.layout.schema();
@@ -109,6 +122,10 @@ fn push_part(page: &mut Page, scene: Scene<'_>, piece: &Piece, node: &Node) {
         Lead::Table(table) | Lead::Vtable(table) => table,
         Lead::Text | Lead::Vector(_) => schema.root(),
     };
+    if let Some(step) = step_to(piece.what, table) {
+        push_path(page, scene, piece.node, step);
+        page.push_str(": ");
+    }
     match piece.what {
         What::Vtable => {
             page.push_str("vtable of ");
@@ -116,8 +133,6 @@ fn push_part(page: &mut Page, scene: Scene<'_>, piece: &Piece, node: &Node) {
             push_shared(page, node, " tables");
         }
         What::Table => {
-            push_path(page, scene, piece.node, Step::Reference);
-            page.push_str(": ");
             page.push_str("table ");
             page.push_str(type_name(schema, table));
             page.push_str(", vtable at ");
@@ -125,41 +140,23 @@ fn push_part(page: &mut Page, scene: Scene<'_>, piece: &Piece, node: &Node) {
             page.push_integer(i128::from(piece.start) - i128::from(back));
             push_shared(page, node, " references");
         }
-        What::Field(slot) => {
-            push_path(page, scene, piece.node, Step::Slot(table, slot));
-            page.push_str(": ");
-            push_field(page, scene, table, slot, at);
-        }
+        What::Field(slot) => push_field(page, scene, table, slot, at),
         What::Member(slot, code) => {
-            push_path(page, scene, piece.node, Step::Slot(table, slot));
-            page.push_str(": ");
             push_member(page, scene, table, slot, code);
             push_target(page, scene.bytes, at);
         }
-        What::UnknownMember(slot, code) => {
-            push_path(page, scene, piece.node, Step::Slot(table, slot));
-            page.push_str(": ");
+        What::UnknownMember(_, code) => {
             page.push_str("value of a union under code ");
             page.push_number(u64::from(code));
             page.push_str(", which no member has");
         }
         What::UnknownField(slot) => {
-            push_path(page, scene, piece.node, Step::Reference);
-            page.push_str(": ");
             page.push_str("field in slot ");
             page.push_number(u64::from(slot));
             page.push_str(", not in the schema");
         }
-        What::Length => {
-            push_path(page, scene, piece.node, Step::Reference);
-            page.push_str(": ");
-            push_length(page, scene, node);
-        }
-        What::Content => {
-            push_path(page, scene, piece.node, Step::Reference);
-            page.push_str(": ");
-            push_content(page, scene, node, piece);
-        }
+        What::Length => push_length(page, scene, node),
+        What::Content => push_content(page, scene, node, piece),
         What::Count | What::Root | What::Identifier | What::Gap | What::Fault => {}
     }
 }

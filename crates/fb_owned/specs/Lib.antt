@@ -3,7 +3,6 @@ pub mod Counted
 pub mod Planned
 pub mod Ready
 pub mod NewNumbers
-pub mod Refused
 pub mod ShownValues
 pub mod Inlines
 pub mod Before

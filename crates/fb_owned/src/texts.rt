@@ -4,7 +4,7 @@ ghost use Rattle.fb_value.specs.Counts.{is_whole};
 ghost use Rattle.fb_value.specs.View.{view};
 ghost use Rattle.fb_json.specs.Meant.{type_place};
 ghost use Rattle.fb_text.specs.Texts.{json_text, spaced_text};
-ghost use Rattle.fb_owned.specs.Refused.{IsRefused};
+ghost use Rattle.fb_text.specs.Unnamed.{IsRefused};
 
 use crate::shown_values::ValueEntry;
 use fb_json::Place;

@@ -1,15 +1,18 @@
 -- The first union, in the order of printing, whose code names no member.
 -- From the FlatBuffers documentation, "Evolution": a reader may know fewer members of a union than a writer.
-use Rattle.std.specs.Prelude.{ℕ, zero, min, ◌+◌, Bool, true, false, Option, None, Some}
+use Rattle.std.specs.Prelude.{ℕ, zero, min, ◌+◌, ◌≡◌, Bool, true, false, Option, None, Some}
 use Rattle.std.specs.Option.{option_or}
 use Rattle.fb_schema.specs.declared.kinds.Kind.TheVariants.{Table, Union}
 use Rattle.fb_schema.specs.declared.kinds.Shape.{Shape}
 use Rattle.fb_schema.specs.declared.kinds.Shape.TheVariants.{One, Many}
 use Rattle.fb_value.specs.Datum.{Datum, a_number, a_text, a_vector, a_struct, a_table, a_member, an_unknown, Parts}
 use Rattle.fb_value.specs.Datum.{no_parts, more_parts, SlotEntries, no_entries, absent_entry, present_entry}
+use Rattle.fb_value.specs.Counts.{is_whole}
 use Rattle.fb_value.specs.Nth.{nth_entry, nth_part}
 use Rattle.fb_read.specs.Tails.{entries_from, parts_from}
 use Rattle.fb_json.specs.declared.faults.Place.{Place}
+use Rattle.fb_text.specs.declared.faults.TextFault.{TextFault}
+use Rattle.fb_text.specs.declared.faults.TextFault.TheVariants.{NoMemberName, Memory}
 use Rattle.fb_json.specs.Meant.{slot_place}
 
 -- the slot of a table; a value that fits no type may have more entries than there are numbers of slots
@@ -65,3 +68,8 @@ may_have_unions (One (Table t)) = true
 may_have_unions (One (Union u)) = true
 may_have_unions (Many (Table t)) = true
 may_have_unions _ = false
+
+-- A value with such a union is refused, with its place. Memory is told only of a value without.
+abbrev pub IsRefused : Place → Datum → TextFault → Type 0
+IsRefused root d (NoMemberName at) = (is_whole d ≡ false) × (first_unnamed root d ≡ Some at)
+IsRefused root d Memory = is_whole d ≡ true
