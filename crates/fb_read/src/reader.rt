@@ -112,8 +112,8 @@ pub fn visit_buffer<H: Hearer>(
     (walk.visitor.hearer, visited)
 }
 
-/// Walks over all that is reached from the root of a buffer, which may be `prefixed`, and returns what the visitor keeps
-/// of the root. `entries` rises by one for each table, vector and text that is entered.
+/// Walks over all that is reached from the root of a buffer, which may be `prefixed`, and returns what the visitor
+/// keeps of the root. `entries` rises by one for each table, vector and text that is entered.
 pub fn visit_root<V: Visitor + Drop>(
     buffer: &Buffer,
     visitor: V,
