@@ -1,19 +1,18 @@
 #!/usr/bin/env python3
-"""Proves a program or library with all that it stands on, builds it, and leaves it in crates/CRATE/out.
+"""Proves programs and libraries for C with all that they stand on, builds them, and leaves them in crates/CRATE/out.
 
-usage: tools/build.py CRATE [--over-gate]
+usage: tools/build.py CRATE.. [--over-gate]
 
-The crates are proved by rt ci, side by side, in a copy of the tree that has nothing else and no must-fail edits. Where
-the toolchain keeps what passes (kit 13f does), a later build, and the gate, prove only what has changed since, and what
-is above it. A crate that is built already, of the same files, isn't built again.
+The crates are proved side by side, a job each. What a library states is left in out/CRATE, with a sum of all that its
+proof read: a later build proves only what has changed since, and what is above it.
 
-With --over-gate a library for C is only compiled, over the libraries that rt ci proved and left in this tree.
+With --over-gate the libraries and programs that rt ci has just proved, and left in this tree, are taken as they are.
 """
 import argparse
 import contextlib
+import functools
 import hashlib
 import os
-import re
 import shutil
 import signal
 import subprocess
@@ -56,116 +55,204 @@ def jobs_here():
     return max(min(len(os.sched_getaffinity(0)), memory // MEMORY_OF_A_JOB), 1)
 
 
+@functools.cache
+def kit():
+    """The toolchain's folder."""
+    return os.path.dirname(subprocess.run(["rt", "doc"], capture_output=True, text=True, check=True).stdout.strip())
+
+
+def is_program(name):
+    return os.path.exists(f"{ROOT}/crates/{name}/src/main.rt")
+
+
+def is_library_for_c(crates, name):
+    return "staticlib" in crates[name][0].partition(":")[0]
+
+
+def statements_of(name):
+    """Where what a library states lies once it is proved."""
+    return f"{ROOT}/out/{name}/{name}.rlib"
+
+
+def made_of(crates, name):
+    """What a proof of a crate leaves, and the file with the sum of what it read."""
+    if is_program(name):
+        made = f"{ROOT}/crates/{name}/out/{name}"
+    elif is_library_for_c(crates, name):
+        made = f"{ROOT}/crates/{name}/out/lib{name}.a"
+    else:
+        made = statements_of(name)
+    return made, f"{os.path.dirname(made)}/built"
+
+
+def files_of(name):
+    """The files of a crate that its proof reads."""
+    for part in PARTS:
+        for at, folders, files in os.walk(f"{ROOT}/crates/{name}/{part}"):
+            folders.sort()
+            yield from (f"{at}/{it}" for it in sorted(files))
+
+
 def sum_of(crates, name):
-    """A sum of all that a build of a crate reads."""
-    names = [*below(crates, name), name]
-    version = subprocess.run(["rt", "version"], capture_output=True, text=True, check=True).stdout
-    total = hashlib.sha256(repr((version, [crates[it][0] for it in names])).encode())
-    tops = [f"{ROOT}/crates/{it}/{part}" for it in names for part in PARTS]
-    for at, folders, files in (found for top in tops for found in os.walk(top)):
-        folders.sort()
-        for file in sorted(files):
-            with open(f"{at}/{file}", "rb") as it:
-                total.update(repr((os.path.relpath(f"{at}/{file}", ROOT), it.read())).encode())
+    """A sum of all that a proof of a crate reads, where the crates below it are proved."""
+    total = hashlib.sha256(crates[name][0].encode())
+    # The file format of a library holds a sum of its other files.
+    formats = [f"{statements_of(it)}/format" for it in below(crates, name)]
+    for path in [f"{kit()}/KIT-ID", *formats, *files_of(name)]:
+        with open(path, "rb") as it:
+            total.update(repr((os.path.relpath(path, ROOT), it.read())).encode())
     return total.hexdigest()
 
 
-def copy_crates(crates, names, room):
-    """Copies crates to an empty folder that rt takes for a repository of these alone, without edits."""
-    with open(f"{room}/crates.txt", "w", encoding="utf-8") as it:
-        it.writelines(crates[name][0] for name in names)
-    shutil.copy(f"{ROOT}/HANDLES", room)
-    os.mkdir(f"{room}/.git")
-    left = shutil.ignore_patterns("out", "must-fail", "mutations", "not-compiled")
-    for name in names:
-        shutil.copytree(f"{ROOT}/crates/{name}", f"{room}/crates/{name}", ignore=left)
+def is_proved(crates, name):
+    made, noted = made_of(crates, name)
+    with contextlib.suppress(OSError), open(noted, encoding="ascii") as it:
+        return os.path.exists(made) and it.read() == sum_of(crates, name)
+    return False
 
 
-@contextlib.contextmanager
-def started(words, folder):
-    """A process whose lines can be read, and which ends with the block, as do those that it started."""
-    where = {**os.environ, "RT_JOBS": os.environ.get("RT_JOBS") or str(jobs_here())}
-    how = {"stdin": subprocess.DEVNULL, "stdout": subprocess.PIPE, "stderr": subprocess.STDOUT, "errors": "replace"}
-    with subprocess.Popen(words, cwd=folder, env=where, start_new_session=True, **how) as child:
-        try:
-            yield child
-        finally:
-            with contextlib.suppress(ProcessLookupError):
-                os.killpg(child.pid, signal.SIGTERM)
-
-
-def prove(room, count):
-    """Has rt ci prove the crates in a folder; prints how far it is, and what fails. Returns whether all are proved."""
-    began, done, said = time.monotonic(), 0, []
-    with started(["rt", "ci"], room) as child:
-        for line in child.stdout:
-            found = re.match(r"rt: (\S+) (proved$|is kept: )", line)
-            said = [line] if line.startswith("== ") else [*said, line]
-            if found:
-                done += 1
-                minutes, rest = divmod(round(time.monotonic() - began), 60)
-                how = "proved" if found[2] == "proved" else "proved before"
-                print(f"[{done} of {count}, {minutes}:{rest:02}] {found[1]}: {how}", flush=True)
-            elif re.match(r"rt: .* NOT PROVED", line):
-                print("".join(said), end="", flush=True)
-        if child.wait() == 0:
-            return True
-        print("".join(said[-20:]), end="")
-        return False
-
-
-def over_gate(crates, name, verb, top=ROOT):
-    """How rattle is called on a crate over the libraries that rt ci left, which hold statements without proofs."""
-    kit = os.path.dirname(subprocess.run(["rt", "doc"], capture_output=True, text=True, check=True).stdout.strip())
+def words_of(crates, name, verb):
+    """How rattle is called on a crate, over what the libraries below it state."""
+    listed = crates[name][0].partition("#")[0].partition(":")[2].split()
+    own = {it: os.path.dirname(statements_of(it)) for it in below(crates, name)}
+    words = [f"{kit()}/bin/rattle", verb, "--crate-name", name, "src/main.rt" if is_program(name) else "src/lib.rt"]
     # What a crate uses without listing it comes first.
-    listed = dict.fromkeys(["std", *crates[name][0].partition(":")[2].split()])
-    own = {it: f"{top}/crates/{it}/out/rlib" for it in below(crates, name)}
-    words = [f"{kit}/bin/rattle", verb, "--crate-name", name, "src/lib.rt"]
-    for it in listed:
-        words += ["--extern", f"{it}={own.get(it, f'{kit}/rlibs')}/{it}.rlib"]
-    for folder in [f"{kit}/rlibs", *own.values()]:
+    for it in dict.fromkeys(["std", *listed]):
+        words += ["--extern", f"{it}={own.get(it, f'{kit()}/rlibs')}/{it}.rlib"]
+    for folder in [f"{kit()}/rlibs", *own.values()]:
         words += ["-L", f"dependency={folder}"]
-    words += ["--antt-project", f"{kit}/rattle/logic/antt-project.json", "--logic-built", f"{kit}/logic_built"]
-    return kit, words
+    words += ["--antt-project", f"{kit()}/rattle/logic/antt-project.json", "--logic-built", f"{kit()}/logic_built"]
+    return [*words, "--crate-type", "staticlib"] if is_library_for_c(crates, name) else words
 
 
-def build_over_gate(crates, name, top=ROOT):
-    """Builds a library for C with the compiler alone."""
-    kit, words = over_gate(crates, name, "build", top)
-    words += ["--crate-type", "staticlib", "--links", f"{name}="]
-    words += ["--toolchain", f"{kit}/toolchain", "--backend", "llvm"]
-    words += ["--jobs", str(min(jobs_here(), MOST_JOBS_OF_A_CRATE)), "-o", f"out/lib{name}.a"]
-    os.makedirs(f"{top}/crates/{name}/out", exist_ok=True)
-    return subprocess.run(words, cwd=f"{top}/crates/{name}", check=False).returncode
+def commands_of(crates, name):
+    """The commands that prove a crate and leave what it is for."""
+    made, _ = made_of(crates, name)
+    words = [*words_of(crates, name, "build"), "--links", f"{name}=", "--jobs", "1"]
+    compiled = ["--toolchain", f"{kit()}/toolchain", "--backend", "llvm"]
+    if is_program(name):
+        link = [f"{kit()}/bin/rattle-link", "--target", "x86_64-unknown-linux-gnu", "--toolchain", f"{kit()}/toolchain"]
+        archives = [f"{kit()}/c/libos_c.a", f"{kit()}/c/liblibc_c.a"]
+        return [[*words, *compiled, "-o", f"{made}.o"], [*link, "-o", made, f"{made}.o", *archives]]
+    return [[*words, *(compiled if is_library_for_c(crates, name) else ["--statements"]), "-o", made]]
 
 
-def build(crates, name):
-    is_library = "staticlib" in crates[name][0].partition(":")[0]
-    made = f"crates/{name}/out/" + (f"lib{name}.a" if is_library else name)
-    noted, total = f"{ROOT}/crates/{name}/out/built", sum_of(crates, name)
-    if os.path.exists(f"{ROOT}/{made}") and os.path.exists(noted) and open(noted, encoding="ascii").read() == total:
-        return 0
-    names = [*below(crates, name), name]
-    with tempfile.TemporaryDirectory(prefix=f"build-{name}-") as room:
-        copy_crates(crates, names, room)
-        if not prove(room, len(names)):
-            return 1
-        if is_library and build_over_gate(crates, name, room):
-            return 1
-        os.makedirs(os.path.dirname(noted), exist_ok=True)
-        shutil.copy2(f"{room}/{made}", f"{ROOT}/{made}")
-    with open(noted, "w", encoding="ascii") as it:
-        it.write(total)
-    return 0
+class Proof:
+    """A crate's proof, in processes of their own."""
+
+    def __init__(self, crates, name):
+        self.name, (self.made, self.noted) = name, made_of(crates, name)
+        self.sum, self.seconds = sum_of(crates, name), 0
+        self.commands = commands_of(crates, name)
+        self.log = tempfile.TemporaryFile(mode="w+", errors="replace")
+        with contextlib.suppress(FileNotFoundError):
+            os.remove(self.noted)
+        os.makedirs(os.path.dirname(self.made), exist_ok=True)
+        self.go_on()
+
+    def go_on(self):
+        how = {"stdin": subprocess.DEVNULL, "stdout": self.log, "stderr": subprocess.STDOUT}
+        where = f"{ROOT}/crates/{self.name}"
+        self.child = subprocess.Popen(self.commands.pop(0), cwd=where, start_new_session=True, **how)
+
+    def kill(self):
+        with contextlib.suppress(ProcessLookupError):
+            os.killpg(self.child.pid, signal.SIGTERM)
+
+    def has_ended(self):
+        ended, status, used = os.wait4(self.child.pid, os.WNOHANG)
+        if ended:
+            self.seconds += used.ru_utime + used.ru_stime
+            self.child.returncode = os.waitstatus_to_exitcode(status)
+            if self.child.returncode == 0 and self.commands:
+                self.go_on()
+        return self.child.returncode is not None
+
+    def note(self, crates):
+        """Notes the sum of what was read, unless it has changed since. Returns whether the crate is proved."""
+        if self.child.returncode:
+            self.log.seek(0)
+            print("".join(self.log.readlines()[-40:]), end="", flush=True)
+            return False
+        if sum_of(crates, self.name) == self.sum:
+            with open(self.noted, "w", encoding="ascii") as it:
+                it.write(self.sum)
+        return True
+
+
+def longest_first(crates, names):
+    """Some crates, those first on which the most text rests that is proved one crate after another."""
+    size = {name: sum(os.path.getsize(it) for it in files_of(name)) for name in names}
+
+    @functools.cache
+    def above(name):
+        return size[name] + max((above(it) for it in names if name in crates[it][1]), default=0)
+
+    return sorted(names, key=above, reverse=True)
+
+
+def tell(began, done, count, name, how):
+    minutes, rest = divmod(round(time.monotonic() - began), 60)
+    print(f"[{done} of {count}, {minutes}:{rest:02}] {name}: {how}", flush=True)
+
+
+def prove(crates, names):
+    """Proves crates, each once those below it are; prints how far it is, and what fails. Returns whether all are."""
+    began, jobs, failed = time.monotonic(), jobs_here(), False
+    left, running, proved = longest_first(crates, names), [], []
+    try:
+        while running or (left and not failed):
+            ready = [it for it in left if all(other in proved or other not in names for other in crates[it][1])]
+            if ready and len(running) < jobs and not failed:
+                name = ready[0]
+                left.remove(name)
+                if is_proved(crates, name):
+                    proved.append(name)
+                    tell(began, len(proved), len(names), name, "proved before")
+                else:
+                    running.append(Proof(crates, name))
+                continue
+            time.sleep(0.1)
+            for it in [it for it in running if it.has_ended()]:
+                running.remove(it)
+                well = it.note(crates)
+                failed = failed or not well
+                proved += [it.name] * well
+                how = f"{'proved' if well else 'NOT PROVED'} ({it.seconds:.0f} s of processor time)"
+                tell(began, len(proved), len(names), it.name, how)
+    finally:
+        for it in running:
+            it.kill()
+    return not failed
+
+
+def take_over_gate(crates, names):
+    """Takes what rt ci left of crates, all of which it has proved."""
+    for name in names:
+        made, noted = made_of(crates, name)
+        left = f"{ROOT}/crates/{name}/out/rlib/{name}.rlib"
+        if made == statements_of(name):
+            if not os.path.exists(left):
+                continue
+            shutil.rmtree(os.path.dirname(made), ignore_errors=True)
+            os.makedirs(os.path.dirname(made))
+            os.rename(left, made)
+        if os.path.exists(made) and not is_library_for_c(crates, name):
+            with open(noted, "w", encoding="ascii") as it:
+                it.write(sum_of(crates, name))
 
 
 def main():
     parser = argparse.ArgumentParser(description=__doc__.split("\n", 1)[0])
-    parser.add_argument("crate")
+    parser.add_argument("crates", nargs="+")
     parser.add_argument("--over-gate", action="store_true")
     given = parser.parse_args()
     signal.signal(signal.SIGTERM, lambda *_: sys.exit(143))
-    return (build_over_gate if given.over_gate else build)(read_crates(), given.crate)
+    crates = read_crates()
+    names = list(dict.fromkeys(it for name in given.crates for it in [*below(crates, name), name]))
+    if given.over_gate:
+        take_over_gate(crates, names)
+    return 0 if prove(crates, names) else 1
 
 
 if __name__ == "__main__":

@@ -1,10 +1,9 @@
 #!/usr/bin/env python3
 """Tells what a check of a crate spends its time on.
 
-usage: tools/costs.py CRATE [--test] [--over FOLDER] [--lines N]
+usage: tools/costs.py CRATE [--test] [--lines N]
 
-rt ci proves the crates below, in a copy of the tree; with --over it has left them in FOLDER. Then one job checks the
-crate from nothing. The prover writes a file for each module that it has checked, so the time between two files is what
+The crates below are proved first, as tools/build.py does. Then one job checks the crate from nothing. The prover writes a file for each module that it has checked, so the time between two files is what
 the second one took, by the clock. Prints the seconds by kind of module, by function, and of single modules, N lines of
 each. With --test the crate's tests are checked too.
 
@@ -18,15 +17,13 @@ import os
 import sys
 import tempfile
 
-from build import ROOT, below, copy_crates, over_gate, prove, read_crates
+from build import ROOT, below, prove, read_crates, words_of
 from mutations import run
 
 
-def check(crates, name, top, kept, flags):
+def check(crates, name, kept, flags):
     """Checks a crate from nothing, and leaves a file for each module in a folder. Returns whether it is proved."""
-    words = [*over_gate(crates, name, "check", top)[1], "--jobs", "1", "--incremental", kept, *flags]
-    if os.path.exists(f"{ROOT}/crates/{name}/src/main.rt"):
-        words[words.index("src/lib.rt")] = "src/main.rt"
+    words = [*words_of(crates, name, "check"), "--jobs", "1", "--incremental", kept, *flags]
     status, lines = run(words, f"{ROOT}/crates/{name}")
     print(lines[-1])
     return status == 0
@@ -68,18 +65,13 @@ def main():
     parser = argparse.ArgumentParser(description=__doc__.split("\n", 1)[0])
     parser.add_argument("crate")
     parser.add_argument("--test", action="store_true", help="with the crate's tests")
-    parser.add_argument("--over", metavar="FOLDER", help="a tree where rt ci has left the crates below")
     parser.add_argument("--lines", type=int, default=20)
     given = parser.parse_args()
     crates = read_crates()
-    with tempfile.TemporaryDirectory(prefix=f"costs-{given.crate}-") as room:
-        names = below(crates, given.crate)
-        if names and not given.over:
-            copy_crates(crates, names, room)
-            if not prove(room, len(names)):
-                return 1
-        kept = tempfile.mkdtemp(dir=room)
-        proved = check(crates, given.crate, given.over or room, kept, ["--test"] if given.test else [])
+    if not prove(crates, below(crates, given.crate)):
+        return 1
+    with tempfile.TemporaryDirectory(prefix=f"costs-{given.crate}-") as kept:
+        proved = check(crates, given.crate, kept, ["--test"] if given.test else [])
         report(modules_in(kept, given.crate), given.lines)
     return 0 if proved else 1
 

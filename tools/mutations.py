@@ -6,12 +6,12 @@ usage: tools/mutations.py [CRATE..]      tries the edits of all crates, or of th
        tools/mutations.py --not-compiled tries the edits of crates/*/not-compiled instead
 
 An edit has the form that rt gives those in must-fail/: lines 'file: src/lib.rt', and then pairs of lines 'old: TEXT'
-and 'new: TEXT', where the old text is in that file exactly once. rt ci proves the crates below, in a copy of the tree.
-Each crate is proved once, and over what that leaves each of its edits is tried: in the modules that it changes, and in
-the whole crate where these are still proved. The last line is 'N refused, M not refused'.
+and 'new: TEXT', where the old text is in that file exactly once. The crates below are proved first, as tools/build.py
+does. Each crate is proved once, and over what that leaves each of its edits is tried: in the modules that it changes,
+and in the whole crate where these are still proved. The last line is 'N refused, M not refused'.
 
 An edit in crates/*/not-compiled writes what can't even be compiled, and has a line 'error: NAME' more: the compiler has
-to refuse it with that error, and no other. rt ci has to have left the crates below. The last line is
+to refuse it with that error, and no other. The crates below have to be proved. The last line is
 'N passed, M failed'.
 """
 import argparse
@@ -25,7 +25,7 @@ import subprocess
 import sys
 import tempfile
 
-from build import MOST_JOBS_OF_A_CRATE, ROOT, below, copy_crates, jobs_here, over_gate, prove, read_crates
+from build import MOST_JOBS_OF_A_CRATE, ROOT, below, jobs_here, prove, read_crates, words_of
 
 
 def edited(edit, folder):
@@ -111,7 +111,7 @@ def compile_edit(edit, name, words):
 def do_none_compile(crates):
     passed, failed = 0, 0
     for edit, name in [(it, name) for name in crates for it in edits_of(name, "not-compiled")]:
-        words = [*over_gate(crates, name, "check")[1], "--jobs", "1", "--only", ""]
+        words = [*words_of(crates, name, "check"), "--jobs", "1", "--only", ""]
         well, why = compile_edit(edit, name, words)
         passed, failed = passed + well, failed + (not well)
         if why:
@@ -167,9 +167,9 @@ def try_edit(edit, name, words, seed):
     return False, "NOT REFUSED: the crate is still proved with it"
 
 
-def try_crate(crates, name, top):
+def try_crate(crates, name):
     """Tries the edits of a crate over the libraries below; returns how many were refused."""
-    words, jobs = over_gate(crates, name, "check", top)[1], jobs_here()
+    words, jobs = words_of(crates, name, "check"), jobs_here()
     with tempfile.TemporaryDirectory(prefix=f"seed-{name}-") as seed:
         more = ["--jobs", str(min(jobs, MOST_JOBS_OF_A_CRATE)), "--incremental", seed]
         proved, lines = check([*words, *more], f"{ROOT}/crates/{name}")
@@ -185,19 +185,13 @@ def try_crate(crates, name, top):
     return refused
 
 
-def try_all(crates, names, top):
+def try_all(crates, names):
     """Tries the edits of some crates; returns how many weren't refused."""
     names = [it for it in names if edits_of(it)]
     wanted = [it for it in crates if any(it in below(crates, name) for name in names)]
-    wanted.sort(key=lambda it: len(below(crates, it)))
-    refused = 0
-    with tempfile.TemporaryDirectory(prefix="mutations-") as room:
-        if wanted and not top:
-            copy_crates(crates, wanted, room)
-            if not prove(room, len(wanted)):
-                return 1
-        for name in names:
-            refused += try_crate(crates, name, top or room)
+    if not prove(crates, wanted):
+        return 1
+    refused = sum(try_crate(crates, name) for name in names)
     left = sum(len(edits_of(it)) for it in names) - refused
     print(f"{refused} refused, {left} not refused")
     return left
@@ -208,7 +202,6 @@ def main():
     parser.add_argument("crates", nargs="*")
     parser.add_argument("--applies", action="store_true")
     parser.add_argument("--not-compiled", action="store_true")
-    parser.add_argument("--over", metavar="FOLDER", help="a tree where rt ci has left the crates below")
     given = parser.parse_args()
     crates = read_crates()
     if given.applies:
@@ -216,7 +209,7 @@ def main():
     if given.not_compiled:
         return 1 if do_none_compile(crates) else 0
     names = [it for it in crates if it in given.crates or not given.crates]
-    return 1 if try_all(crates, names, given.over) else 0
+    return 1 if try_all(crates, names) else 0
 
 
 if __name__ == "__main__":
