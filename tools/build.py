@@ -95,10 +95,11 @@ def files_of(name):
 
 def sum_of(crates, name):
     """A sum of all that a proof of a crate reads, where the crates below it are proved."""
-    total = hashlib.sha256(crates[name][0].encode())
+    with open(f"{kit()}/KIT-ID", encoding="utf-8") as it:
+        total = hashlib.sha256(repr((it.read(), crates[name][0])).encode())
     # The file format of a library holds a sum of its other files.
     formats = [f"{statements_of(it)}/format" for it in below(crates, name)]
-    for path in [f"{kit()}/KIT-ID", *formats, *files_of(name)]:
+    for path in [*formats, *files_of(name)]:
         with open(path, "rb") as it:
             total.update(repr((os.path.relpath(path, ROOT), it.read())).encode())
     return total.hexdigest()
