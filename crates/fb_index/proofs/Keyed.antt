@@ -1,10 +1,12 @@
 -- A byte string is found from its digest on, also after others came.
-use Rattle.std.proofs.Common.{◌≡◌, ℕ, zero, suc, ◌≤◌, ◌<◌, ◌⊎◌, inl, inr, true, false, List, [], ◌∷◌, ◌++◌, length}
+use Rattle.std.proofs.Common.{◌≡◌, ℕ, zero, suc, ◌≤◌, ◌<◌, ◌⊎◌, ◌||◌, inl, inr, true, false, List, [], ◌∷◌, ◌++◌}
+use Rattle.std.proofs.Common.{if◌then◌else◌, length}
 use Rattle.std.proofs.Common.{nat_eq, Some, None, position, slice_get, refl, sym, ap, ◌∙◌, eq-eqb}
 use Rattle.std.specs.List.{list_any}
 use Rattle.std.proofs.lemmas.Bool.{cases_lt}
 use Rattle.std.proofs.Math.Nat.{eq-or-lt_of_le}
-use Rattle.indexmap.specs.IndexSet.{insert_key}
+use Rattle.std.specs.Map.{keys_of}
+use Rattle.indexmap.specs.IndexMap.{insert_entry}
 use Rattle.fb_index.specs.HashKeys.{digest_by}
 use Rattle.fb_index.specs.declared.hash_key.HashKey.{HashKey}
 use Rattle.fb_index.specs.DigestIndexes.{key_behind, IsKeyed}
@@ -68,5 +70,11 @@ each_keyed keys strings key bytes y each free keyed first i v at =
     ]
 
 -- a key that is free is inserted last
-pub inserted : (keys : List ℕ) (y : ℕ) → list_any (nat_eq y) keys ≡ false → insert_key nat_eq keys y ≡ keys ++ y ∷ []
-inserted keys y free = rw free refl
+pub inserted : {X : Type 0} (x : X) (y : ℕ) (es : List (ℕ × X)) → list_any (nat_eq y) (keys_of es) ≡ false
+    → keys_of (insert_entry nat_eq es y x) ≡ keys_of es ++ y ∷ []
+inserted x y [] free = refl
+inserted x y (e ∷ es) free =
+    let rest = inserted x y es in
+    elim (nat_eq y e.0) as (λ b. (b || list_any (nat_eq y) (keys_of es)) ≡ false
+    → keys_of (if b then (e.0, x) ∷ es else e ∷ insert_entry nat_eq es y x) ≡ e.0 ∷ (keys_of es ++ y ∷ []))
+    [ true ↦ λ e. cc | false ↦ λ none. ap (λ ks. e.0 ∷ ks) (rest none) ] free

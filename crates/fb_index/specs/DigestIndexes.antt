@@ -2,7 +2,7 @@
 use Rattle.std.specs.Prelude.{ℕ, ◌≡◌, ◌≤◌, ◌<◌, ◌+◌, ◌-◌, ◌%◌, ◌^◌, true, min, List, length, nat_eq, Some, position}
 use Rattle.std.specs.Prelude.{slice_get}
 use Rattle.std.specs.List.{list_any}
-use Rattle.indexmap.specs.IndexSet.{spare, hasher_of}
+use Rattle.indexmap.specs.IndexMap.{keys, spare, hasher_of}
 use Rattle.fb_index.specs.HashKeys.{digest_by}
 use Rattle.fb_index.specs.declared.digest_index.DigestIndex.TheInside.{Inside}
 
@@ -23,9 +23,9 @@ pub record IsKeyed (keys : List ℕ) (digest place : ℕ) : Type 0 where
   pub taken : (n : ℕ) → n < far → list_any (nat_eq (key_behind digest n)) keys ≡ true
 
 abbrev pub digested_seen : Inside → Digested
-digested_seen x = record { strings = x.seen.strings; spare = min (spare x.keys) (2 ^ 32 - 1 - length x.keys.keys) }
+digested_seen x = record { strings = x.seen.strings; spare = min (spare x.keys) (2 ^ 32 - 1 - length (keys x.keys)) }
 
 pub record IsDigested (x : Inside) : Type 0 where
-  pub each : length x.seen.strings ≡ length x.keys.keys
+  pub each : length x.seen.strings ≡ length (keys x.keys)
   pub keyed : (place : ℕ) (bytes : List ℕ) → slice_get x.seen.strings place ≡ Some bytes
-      → IsKeyed x.keys.keys (digest_by (hasher_of x.keys) bytes) place
+      → IsKeyed (keys x.keys) (digest_by (hasher_of x.keys) bytes) place

@@ -2,13 +2,17 @@
 ghost use Rattle.std.specs.Prelude.{◌≡◌, ◌≤◌, ◌<◌, ◌+◌, ◌^◌, ◌++◌, ℕ, [], ◌∷◌, length, nat_eq};
 ghost use Rattle.std.specs.Prelude.{slice_get, true, false, Some, IfNone, IfSome, OnOk};
 ghost use Rattle.std.specs.List.{list_any};
+ghost use Rattle.indexmap.specs.IndexMap.{keys};
 ghost use Rattle.fb_index.specs.DigestIndexes.{key_behind};
 
 use crate::byte_strings::ByteStrings;
 use crate::hash_key::HashKey;
-use indexmap::IndexSet;
+use indexmap::IndexMap;
 use std::alloc::{AllocError, Global};
 use std::marker::Model;
+
+// An `IndexSet` would have each crate that makes a schema public read half as much of `indexmap` again when it is proved.
+type Keys = IndexMap<u32, (), HashKey>;
 
 /// An index of byte strings by digests under a key.
 ///
@@ -17,7 +21,7 @@ use std::marker::Model;
 #[derive(Drop)]
 pub struct DigestIndex {
     // of the byte string at each place its digest, or the first number behind it that was free
-    keys: IndexSet<u32, HashKey>,
+    keys: Keys,
     seen: ByteStrings,
 }
 
@@ -38,16 +42,23 @@ fn key_behind(digest: u64, far: usize) -> u32
     (digest.wrapping_add(far as u64) & 0xFFFF_FFFF) as u32
 }
 
-/// The first number from a digest on that is no key.
-fn free_key(keys: &IndexSet<u32, HashKey>, digest: u64) -> u32
-    requires few { length keys.now.keys + 1 < 2 ^ 32 }
-    ensures free { list_any (nat_eq result) keys.now.keys ≡ false }
-    ensures first { (far : ℕ) × (far ≤ length keys.now.keys) × (result ≡ key_behind digest far)
-        × ((n : ℕ) → n < far → list_any (nat_eq (key_behind digest n)) keys.now.keys ≡ true) }
+/// Whether a number is a key.
+fn is_key(taken: &Keys, number: u32) -> bool
+    ensures { result ≡ list_any (nat_eq number) (keys taken.now) }
 {
-    for far in 0..keys.len() + 1 {
+    taken.contains_key(&number)
+}
+
+/// The first number from a digest on that is no key.
+fn free_key(taken: &Keys, digest: u64) -> u32
+    requires few { length (keys taken.now) + 1 < 2 ^ 32 }
+    ensures free { list_any (nat_eq result) (keys taken.now) ≡ false }
+    ensures first { (far : ℕ) × (far ≤ length (keys taken.now)) × (result ≡ key_behind digest far)
+        × ((n : ℕ) → n < far → list_any (nat_eq (key_behind digest n)) (keys taken.now) ≡ true) }
+{
+    for far in 0..taken.len() + 1 {
         let key = key_behind(digest, far);
-        if !keys.contains(&key) {
+        if !is_key(taken, key) {
             return key;
         }
     }
@@ -60,7 +71,7 @@ impl DigestIndex {
         ensures { result.strings ≡ [] }
     {
         DigestIndex {
-            keys: IndexSet::with_hasher(alloc, key),
+            keys: IndexMap::with_hasher(alloc, key),
             seen: ByteStrings::new(),
         }
     }
@@ -70,7 +81,7 @@ impl DigestIndex {
         ensures strings { self.new.strings ≡ self.old.strings }
         ensures spare { OnOk result (more ≤ self.new.spare) }
     {
-        // An `IndexSet` has no room for so many either.
+        // An `IndexMap` has no room for so many either.
         if more > (u32::MAX as usize).saturating_sub(self.keys.len()) {
             return Err(AllocError);
         }
@@ -102,7 +113,7 @@ impl DigestIndex {
         ensures spare { self.old.spare ≤ self.new.spare + 1 }
     {
         let key = free_key(&self.keys, self.keys.hasher().digest(bytes));
-        match self.keys.insert(key) {
+        match self.keys.insert(key, ()) {
             Ok(_) => self.seen.push(bytes),
             Err(_) => unreachable!(),
         }
