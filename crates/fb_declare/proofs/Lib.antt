@@ -6,3 +6,4 @@ pub mod TablesKept
 pub mod StructsKept
 pub mod Kept
 pub mod OneSchema
+pub mod SchemaTextHasOneLayout

@@ -6,3 +6,6 @@ pub mod Declares
 pub mod FaultTable
 pub mod Faults
 pub mod NameSet
+pub mod SchemaTexts
+pub mod SchemaLaws
+pub mod TextFaultTable

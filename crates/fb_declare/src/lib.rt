@@ -1,16 +1,20 @@
-//! What the declarations of a FlatBuffers schema text give, and where they are at fault.
+//! What the declarations of a FlatBuffers schema text give, and where they are at fault; the text's layout.
 #![tactic(auto)]
 
 mod attribute_faults;
 mod enum_faults;
 mod faults;
 mod field_faults;
+mod laws;
 mod name_set;
 mod root;
 mod schema;
+mod schema_layouts;
 mod tables;
 mod types;
 mod unions;
 
 pub use faults::SchemaFault;
+pub use laws::schema_laws;
 pub use schema::{declare, one_schema};
+pub use schema_layouts::{SchemaTextFault, schema_of};

@@ -1,11 +1,10 @@
 //! Where memory ran out.
 use fb_build::BuildFault;
-use fb_declare::SchemaFault;
+use fb_declare::{SchemaFault, SchemaTextFault, schema_of};
 use fb_explain_pages::Page;
 use fb_faults::ToolFault;
 use fb_json::JsonFault;
 use fb_layout::{Layout, LayoutFault};
-use fb_schema_text::{SchemaTextFault, schema_of};
 use fb_syntax::SyntaxFault;
 use fb_text::TextFault;
 use fb_value::ReadFault;

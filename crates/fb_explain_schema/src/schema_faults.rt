@@ -1,7 +1,7 @@
 //! What is wrong with a schema text.
 use crate::bad_defaults::push_bad_default;
 use crate::declared::{declarations_of, is_in_a_union, is_under_an_enum, name_of, type_at};
-use fb_declare::SchemaFault;
+use fb_declare::{SchemaFault, SchemaTextFault};
 use fb_explain_declared::{Rule, push_broken};
 use fb_explain_pages::{Page, Source, push_excerpt, push_place};
 use fb_explain_words::schema_tokens::{name_at, token_at};
@@ -9,7 +9,6 @@ use fb_explain_words::syntax_faults::{another_kind, push_syntax_sentence};
 use fb_explain_words::unsupported::{is_unsupported_attribute, push_others, unsupported_at};
 use fb_explain_words::words::value_of;
 use fb_layout::LayoutFault;
-use fb_schema_text::SchemaTextFault;
 use fb_syntax::{Decls, SyntaxFault};
 
 /// What attributes are for.

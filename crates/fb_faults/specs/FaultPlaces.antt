@@ -1,7 +1,7 @@
 -- What a fault of the tool says of its place, besides an offset: a declared type, a slot, how much was written.
 use Rattle.std.specs.Prelude.{ℕ, Option, None, Some, option_map}
 use Rattle.std.specs.Option.{option_map_or}
-use Rattle.fb_schema_text.specs.FaultTable as schema_faults
+use Rattle.fb_declare.specs.TextFaultTable as schema_faults
 use Rattle.fb_value.specs.declared.faults.ReadFault.TheVariants as the_read
 use Rattle.fb_json.specs.FaultTable as json_faults
 use Rattle.fb_json.specs.declared.faults.Place.{Place}

@@ -1,6 +1,6 @@
 -- The tool's faults: number, name and offset, of a layer's fault that layer's.
 use Rattle.std.specs.Prelude.{ℕ, List, Option, None, codes}
-use Rattle.fb_schema_text.specs.FaultTable as schema_faults
+use Rattle.fb_declare.specs.TextFaultTable as schema_faults
 use Rattle.fb_value.specs.FaultTable as read_faults
 use Rattle.fb_build.specs.FaultTable as build_faults
 use Rattle.fb_json.specs.FaultTable as json_faults

@@ -3,7 +3,7 @@ use fb_build::BuildFault;
 use fb_conform::{Breach, MovedName};
 use fb_json::{JsonFault, Place};
 use fb_schema::TypeId;
-use fb_schema_text::SchemaTextFault;
+use fb_declare::SchemaTextFault;
 use fb_text::{TextFault, WriteFault};
 use fb_value::ReadFault;
 use thiserror::Error;

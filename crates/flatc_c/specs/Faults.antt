@@ -6,7 +6,7 @@ use Rattle.fb_faults.specs.FaultTable.{name_of, number_of, offset_of}
 use Rattle.fb_faults.specs.FaultPlaces.{owner_of, slot_of}
 use Rattle.fb_faults.specs.declared.faults.ToolFault.{ToolFault}
 use Rattle.fb_faults.specs.declared.faults.ToolFault.TheVariants.{Schema, Read, Breach}
-use Rattle.fb_schema_text.specs.declared.schema_layouts.SchemaTextFault.{SchemaTextFault}
+use Rattle.fb_declare.specs.declared.schema_layouts.SchemaTextFault.{SchemaTextFault}
 use Rattle.flatc_c.specs.declared.faults.Fault.{Fault}
 
 -- a name in a field of fixed size

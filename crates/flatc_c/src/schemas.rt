@@ -4,7 +4,7 @@ ghost use Rattle.std_alloc.specs.Arc.{arc_value};
 ghost use Rattle.fb_layout.specs.Laid.{LaidSchema};
 ghost use Rattle.fb_conform.specs.Conforms.{Conforms};
 ghost use Rattle.fb_conform.specs.Order.{IsFirst};
-ghost use Rattle.fb_schema_text.specs.SchemaTexts.{IsAccepted, IsRefused, IsWant};
+ghost use Rattle.fb_declare.specs.SchemaTexts.{IsAccepted, IsRefused, IsWant};
 ghost use Rattle.flatc_c.specs.Handles.{HasLayout, layout_of};
 ghost use Rattle.flatc_c.specs.Faults.{Told, OnSchemaFault, OnBreach};
 

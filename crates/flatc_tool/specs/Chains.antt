@@ -8,7 +8,7 @@ use Rattle.fb_value.specs.Num.{Bytes}
 use Rattle.fb_value.specs.Holds.{Holds}
 use Rattle.fb_conform.specs.Carry.{carry}
 use Rattle.fb_conform.specs.Back.{back}
-use Rattle.fb_schema_text.specs.SchemaTexts.{IsAccepted}
+use Rattle.fb_declare.specs.SchemaTexts.{IsAccepted}
 use Rattle.flatc_tool.specs.Jobs.{JsonMeans, IsBinary}
 use Rattle.flatc_tool.specs.Evolution.{TextsConform}
 

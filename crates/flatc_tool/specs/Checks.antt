@@ -5,7 +5,7 @@ use Rattle.fb_value.specs.Bounds.{Bounds}
 use Rattle.fb_value.specs.Datum.{Datum}
 use Rattle.fb_value.specs.Num.{Bytes}
 use Rattle.fb_value.specs.Holds.{Holds, Refuses}
-use Rattle.fb_schema_text.specs.SchemaTexts.{IsAccepted, IsRefused}
+use Rattle.fb_declare.specs.SchemaTexts.{IsAccepted, IsRefused}
 use Rattle.fb_faults.specs.declared.faults.ToolFault.{ToolFault}
 use Rattle.fb_faults.specs.declared.faults.ToolFault.TheVariants.{Schema, Read}
 

@@ -5,7 +5,7 @@ use Rattle.fb_layout.specs.Laid.{LaidSchema}
 use Rattle.fb_conform.specs.Conforms.{Conforms}
 use Rattle.fb_conform.specs.Order.{IsFirst}
 use Rattle.fb_conform.specs.Names.{KeepsNames, IsFirstMoved}
-use Rattle.fb_schema_text.specs.SchemaTexts.{IsAccepted, IsRefused}
+use Rattle.fb_declare.specs.SchemaTexts.{IsAccepted, IsRefused}
 use Rattle.fb_faults.specs.declared.faults.ToolFault.{ToolFault}
 use Rattle.fb_faults.specs.declared.faults.ToolFault.TheVariants.{Breach, NameMoved, Older, Newer, Memory}
 

@@ -16,7 +16,7 @@ use Rattle.fb_text.specs.Texts.{json_text}
 use Rattle.fb_build.specs.Covered.{Covered}
 use Rattle.fb_read.specs.declared.view.View.{View}
 use Rattle.fb_conform.specs.Carry.{carry}
-use Rattle.fb_schema_text.specs.SchemaTexts.{IsAccepted}
+use Rattle.fb_declare.specs.SchemaTexts.{IsAccepted}
 use Rattle.flatc_tool.specs.JsonText.{IsTree}
 use Rattle.flatc_tool.specs.Jobs.{JsonMeans, IsBinary, BinaryRefused, IsText, TextRefused, IsNotMemory}
 use Rattle.flatc_tool.specs.Checks.{IsSound, CheckRefused}

@@ -22,7 +22,7 @@ use Rattle.fb_build.specs.Covered.{CoveredFramed, EndsAlignedFramed}
 use Rattle.fb_build.specs.FramedRoom.{framed_room}
 use Rattle.fb_build.specs.declared.faults.BuildFault.TheVariants as the_build
 use Rattle.fb_encode.specs.Encoded.{TreeRefused}
-use Rattle.fb_schema_text.specs.SchemaTexts.{IsRefused, IsWant, OfLayout}
+use Rattle.fb_declare.specs.SchemaTexts.{IsRefused, IsWant, OfLayout}
 use Rattle.flatc_tool.specs.JsonText.{IsTree}
 use Rattle.fb_faults.specs.declared.faults.ToolFault.{ToolFault}
 use Rattle.fb_faults.specs.declared.faults.ToolFault.TheVariants.{Schema, Json, Build, Read, Text, Older, Newer}

@@ -1,5 +1,5 @@
 -- The laws of the layers that the tool's promises are composed from. Each is a public law of the layer's crate.
-use Rattle.fb_schema_text.specs.SchemaLaws.{SchemaLaws}
+use Rattle.fb_declare.specs.SchemaLaws.{SchemaLaws}
 use Rattle.fb_value.specs.Laws.{OneValue, ValueOrFault, OneLeastFault, FitsWhereHeld}
 use Rattle.fb_value.specs.Messages.{OneMessageInFront, MessageIsWhole, HeldIsMessage}
 use Rattle.fb_json.specs.Laws.{AllThatIsMeant, MeantIsWhole, OnlyWhatIsMeant}

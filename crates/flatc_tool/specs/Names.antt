@@ -12,7 +12,7 @@ use Rattle.fb_value.specs.Holds.{Holds}
 use Rattle.fb_json.specs.Means.{Means}
 use Rattle.fb_conform.specs.Carry.{carry}
 use Rattle.fb_conform.specs.NamesStay.{NamesStay}
-use Rattle.fb_schema_text.specs.SchemaTexts.{IsAccepted}
+use Rattle.fb_declare.specs.SchemaTexts.{IsAccepted}
 use Rattle.flatc_tool.specs.JsonText.{IsTree}
 use Rattle.flatc_tool.specs.Jobs.{JsonMeans, IsBinary}
 use Rattle.flatc_tool.specs.Evolution.{TextsKeepNames}

@@ -12,7 +12,7 @@ use Rattle.fb_json.specs.Meant.{type_place}
 use Rattle.fb_text.specs.Unnamed.{IsRefused as IsUnnamed}
 use Rattle.fb_text.specs.Writes.{counted}
 use Rattle.fb_text.specs.declared.faults.WriteFault.TheVariants.{NoMemberName, WriteFailed}
-use Rattle.fb_schema_text.specs.SchemaTexts.{IsRefused, OfLayout}
+use Rattle.fb_declare.specs.SchemaTexts.{IsRefused, OfLayout}
 use Rattle.flatc_tool.specs.Jobs.{IsTextFramed, IsNotMemory}
 use Rattle.fb_faults.specs.declared.faults.ToolFault.{ToolFault}
 use Rattle.fb_faults.specs.declared.faults.ToolFault.TheVariants.{Schema, Read, Text, Write}

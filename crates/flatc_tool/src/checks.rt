@@ -4,9 +4,9 @@ ghost use Rattle.flatc_tool.specs.Checks.{IsSound, CheckRefused};
 ghost use Rattle.flatc_tool.specs.Jobs.{IsNotMemory};
 
 use crate::laws::layer_laws;
+use fb_declare::schema_of;
 use fb_faults::ToolFault;
 use fb_read::{Entries, verify};
-use fb_schema_text::schema_of;
 use fb_value::Limits;
 use std::alloc::Global;
 

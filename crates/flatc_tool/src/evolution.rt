@@ -1,15 +1,15 @@
 //! The comparison of an old schema text with a new one.
 ghost use Rattle.std.specs.Prelude.{OnOk, IfOk, IfErr};
 ghost use Rattle.fb_conform.specs.Conforms.{Conforms};
-ghost use Rattle.fb_schema_text.specs.SchemaTexts.{IsAccepted};
+ghost use Rattle.fb_declare.specs.SchemaTexts.{IsAccepted};
 ghost use Rattle.flatc_tool.specs.Evolution.{TextsConform, ConformRefused, TextsKeepNames, NamesRefused};
 ghost use Rattle.flatc_tool.specs.Jobs.{IsNotMemory};
 
 use crate::laws::layer_laws;
 use fb_conform::{conform, moved_names};
+use fb_declare::schema_of;
 use fb_faults::ToolFault;
 use fb_layout::Layout;
-use fb_schema_text::schema_of;
 use std::alloc::Global;
 
 /// The layouts of an old schema text and of a new one that conforms to it.

@@ -5,8 +5,8 @@ ghost use Rattle.flatc_tool.specs.Jobs.{IsBinary, MayBeBinary, BinaryRefused, Is
 use crate::buffers::encode;
 use crate::laws::layer_laws;
 use crate::options::EncodeOptions;
+use fb_declare::schema_of;
 use fb_faults::ToolFault;
-use fb_schema_text::schema_of;
 use fb_value::Limits;
 use std::alloc::Global;
 

@@ -5,8 +5,8 @@ use fb_conform::{
     back_holds, carried_fits, carried_holds, carries_on, conforms_on, kept_unless_moved,
     means_carried, names_carry,
 };
+use fb_declare::schema_laws;
 use fb_json::{all_that_is_meant, meant_is_whole, only_what_is_meant};
-use fb_schema_text::schema_laws;
 use fb_value::{
     fits_where_held, held_is_message, message_is_whole, one_least_fault, one_message_in_front,
     one_value, value_or_fault,

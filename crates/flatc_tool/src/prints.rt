@@ -7,8 +7,8 @@ ghost use Rattle.flatc_tool.specs.Prints.{IsSent, PrintRefused, TellsFailure, If
 use crate::json_texts::{decode, decode_to};
 use crate::laws::layer_laws;
 use crate::options::DecodeOptions;
+use fb_declare::schema_of;
 use fb_faults::ToolFault;
-use fb_schema_text::schema_of;
 use fb_text::Noted;
 use fb_value::Limits;
 use std::alloc::Global;

@@ -5,11 +5,11 @@ use Rattle.fb_value.specs.declared.faults.ReadFault.{ReadFault}
 use Rattle.fb_value.specs.Bounds.{Bounds}
 use Rattle.fb_value.specs.Num.{Bytes}
 use Rattle.fb_value.specs.Holds.{Refuses}
-use Rattle.fb_schema_text.specs.declared.schema_layouts.SchemaTextFault.{SchemaTextFault}
+use Rattle.fb_declare.specs.declared.schema_layouts.SchemaTextFault.{SchemaTextFault}
 use Rattle.flatc_tool.specs.LayerLaws.{LayerLaws}
-use Rattle.fb_schema_text.specs.SchemaTexts.{IsAccepted, IsRefused, IsWant}
+use Rattle.fb_declare.specs.SchemaTexts.{IsAccepted, IsRefused, IsWant}
 use Rattle.flatc_tool.specs.Checks.{IsSound}
-use Rattle.fb_schema_text.proofs.SchemaTextHasOneLayout.{refused_excludes, same_accepted}
+use Rattle.fb_declare.proofs.SchemaTextHasOneLayout.{refused_excludes, same_accepted}
 
 -- what is sound has an accepted schema
 accepted_of : (schema : List ℕ) (bytes : Option Bytes) (most : Bounds) (raw : Bool) → IsSound schema bytes most raw

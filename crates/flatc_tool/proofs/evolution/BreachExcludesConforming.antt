@@ -5,9 +5,9 @@ use Rattle.fb_conform.specs.declared.breaches.Breach.{Breach}
 use Rattle.fb_conform.specs.Conforms.{Conforms}
 use Rattle.fb_conform.specs.Order.{IsFirst}
 use Rattle.flatc_tool.specs.LayerLaws.{LayerLaws}
-use Rattle.fb_schema_text.specs.SchemaTexts.{IsAccepted}
+use Rattle.fb_declare.specs.SchemaTexts.{IsAccepted}
 use Rattle.flatc_tool.specs.Evolution.{TextsConform}
-use Rattle.fb_schema_text.proofs.SchemaTextHasOneLayout.{same_accepted}
+use Rattle.fb_declare.proofs.SchemaTextHasOneLayout.{same_accepted}
 
 -- the layouts of texts that conform do so
 pub conforms_at : (laws : LayerLaws) (old new : List ℕ) (A B : LaidSchema) → IsAccepted old A → IsAccepted new B

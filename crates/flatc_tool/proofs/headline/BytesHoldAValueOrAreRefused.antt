@@ -16,7 +16,7 @@ use Rattle.fb_text.specs.declared.faults.WriteFault.TheVariants.{NoMemberName, W
 use Rattle.fb_conform.specs.Conforms.{Conforms}
 use Rattle.fb_conform.specs.Carry.{carry}
 use Rattle.flatc_tool.specs.LayerLaws.{LayerLaws}
-use Rattle.fb_schema_text.specs.SchemaTexts.{IsAccepted}
+use Rattle.fb_declare.specs.SchemaTexts.{IsAccepted}
 use Rattle.flatc_tool.specs.Jobs.{JsonMeans, IsBinaryOf, IsBinary, IsText, TextRefused, IsNotMemory}
 use Rattle.flatc_tool.specs.Checks.{CheckRefused}
 use Rattle.flatc_tool.specs.Prints.{PrintRefused}
@@ -30,7 +30,7 @@ use Rattle.fb_faults.specs.declared.faults.ToolFault.TheVariants.{NameMoved}
 use Rattle.fb_faults.specs.declared.faults.ToolFault.TheVariants.{Older, Newer, FileRead, FileWrite, FileTooLong}
 use Rattle.fb_faults.specs.declared.faults.ToolFault.TheVariants.{BadJson, Memory}
 use Rattle.flatc_tool.proofs.evolution.BreachExcludesConforming.{conforms_at}
-use Rattle.fb_schema_text.proofs.SchemaTextHasOneLayout.{same_accepted, refused_excludes}
+use Rattle.fb_declare.proofs.SchemaTextHasOneLayout.{same_accepted, refused_excludes}
 use Rattle.flatc_tool.proofs.buffers.RefusalExcludesABuffer.{same_value}
 
 -- ---- what the calls return for bytes that hold a value

@@ -6,7 +6,7 @@ use Rattle.fb_value.specs.Fits.{FitsRoot}
 use Rattle.fb_conform.specs.Conforms.{Conforms}
 use Rattle.fb_conform.specs.Carry.{carry}
 use Rattle.flatc_tool.specs.LayerLaws.{LayerLaws}
-use Rattle.fb_schema_text.specs.SchemaTexts.{IsAccepted}
+use Rattle.fb_declare.specs.SchemaTexts.{IsAccepted}
 use Rattle.flatc_tool.specs.Evolution.{TextsConform}
 use Rattle.flatc_tool.specs.Chains.{OldProgramsRead, ConformInTurn, last_of, ChainsConform, CarriedInTurn, ChainsCarry}
 use Rattle.flatc_tool.proofs.evolution.BreachExcludesConforming.{conforms_at}

@@ -4,11 +4,11 @@ use Rattle.fb_layout.specs.Laid.{LaidSchema}
 use Rattle.fb_conform.specs.Conforms.{Conforms}
 use Rattle.fb_conform.specs.Names.{KeepsNames}
 use Rattle.flatc_tool.specs.LayerLaws.{LayerLaws}
-use Rattle.fb_schema_text.specs.SchemaTexts.{IsAccepted}
+use Rattle.fb_declare.specs.SchemaTexts.{IsAccepted}
 use Rattle.flatc_tool.specs.Evolution.{TextsKeepNames}
 use Rattle.flatc_tool.specs.Names.{OldTextsAreRead, OldTextsAreCarried}
 use Rattle.flatc_tool.proofs.buffers.RefusalExcludesABuffer.{same_tree}
-use Rattle.fb_schema_text.proofs.SchemaTextHasOneLayout.{same_accepted}
+use Rattle.fb_declare.proofs.SchemaTextHasOneLayout.{same_accepted}
 
 -- the layouts of texts that keep names
 pub kept_at : (laws : LayerLaws) (old new : List ℕ) (A B : LaidSchema) → IsAccepted old A → IsAccepted new B

@@ -15,7 +15,7 @@ use Rattle.fb_json.specs.Refuses.{IsFirst, root_meant}
 use Rattle.fb_build.specs.declared.faults.BuildFault.TheVariants as the_build
 use Rattle.flatc_tool.specs.LayerLaws.{LayerLaws}
 use Rattle.flatc_tool.specs.JsonText.{IsTree}
-use Rattle.fb_schema_text.specs.SchemaTexts.{IsAccepted}
+use Rattle.fb_declare.specs.SchemaTexts.{IsAccepted}
 use Rattle.flatc_tool.specs.Jobs.{JsonMeans, IsBinary, BinaryRefused, IsNotMemory}
 use Rattle.flatc_tool.specs.Headline.{NoneIsMeant, OtherJsonIsRefused}
 use Rattle.fb_faults.specs.declared.faults.ToolFault.{ToolFault}
@@ -24,7 +24,7 @@ use Rattle.fb_faults.specs.declared.faults.ToolFault.TheVariants.{NameMoved}
 use Rattle.fb_faults.specs.declared.faults.ToolFault.TheVariants.{Older, Newer, FileRead, FileWrite, FileTooLong}
 use Rattle.fb_faults.specs.declared.faults.ToolFault.TheVariants.{BadJson, Memory}
 use Rattle.flatc_tool.proofs.buffers.RefusalExcludesABuffer.{same_tree, broken}
-use Rattle.fb_schema_text.proofs.SchemaTextHasOneLayout.{same_accepted, refused_excludes}
+use Rattle.fb_declare.proofs.SchemaTextHasOneLayout.{same_accepted, refused_excludes}
 
 module _ (laws : LayerLaws) (schema json : List ℕ) (most : Bounds) (unknown : Bool) (L : LaidSchema)
     (accepted : IsAccepted schema L) where

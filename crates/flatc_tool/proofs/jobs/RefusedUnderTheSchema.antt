@@ -3,7 +3,7 @@ use Rattle.std.proofs.Common.{List, ℕ, Bool, Option}
 use Rattle.fb_layout.specs.Laid.{LaidSchema}
 use Rattle.fb_value.specs.Bounds.{Bounds}
 use Rattle.fb_value.specs.Num.{Bytes}
-use Rattle.fb_schema_text.specs.SchemaTexts.{IsAccepted}
+use Rattle.fb_declare.specs.SchemaTexts.{IsAccepted}
 use Rattle.flatc_tool.specs.Jobs.{BinaryRefused, BinaryRefusedOf, TextRefused, TextRefusedOf}
 use Rattle.flatc_tool.specs.Prints.{PrintRefused, PrintRefusedOf}
 use Rattle.fb_faults.specs.declared.faults.ToolFault.{ToolFault}

@@ -1,6 +1,6 @@
 use Rattle.std.proofs.Common.{rules}
 use Rattle.flatc_tool.proofs.evolution.BreachExcludesConforming.{breach_excludes}
-use Rattle.fb_schema_text.proofs.SchemaTextHasOneLayout.{refused_excludes}
+use Rattle.fb_declare.proofs.SchemaTextHasOneLayout.{refused_excludes}
 use Rattle.flatc_tool.proofs.evolution.conforming.Goals as goal
 
 pub returns-in-Err-clause-refused : goal.returns-in-Err-clause-refused

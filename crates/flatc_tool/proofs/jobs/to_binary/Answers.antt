@@ -1,6 +1,6 @@
 use Rattle.std.proofs.lemmas.Result.{IfErr-weaker, IfOk-weaker}
 use Rattle.flatc_tool.specs.Jobs.{BinaryRefused, IsBinary, MayBeBinary, MayBeBinaryOf, IsNotMemory}
-use Rattle.fb_schema_text.proofs.SchemaTextHasOneLayout.{refused_has_none, none_of_layout}
+use Rattle.fb_declare.proofs.SchemaTextHasOneLayout.{refused_has_none, none_of_layout}
 use Rattle.flatc_tool.proofs.jobs.RefusedUnderTheSchema.{binary_refused}
 use Rattle.flatc_tool.proofs.jobs.to_binary.Goals as goal
 

@@ -2,7 +2,7 @@ use Rattle.std.proofs.lemmas.Result.{IfErr-weaker, on_ok_weaker}
 use Rattle.fb_text.specs.Noted.{writer_of}
 use Rattle.flatc_tool.specs.Jobs.{MayBeText, MayBeTextOf}
 use Rattle.flatc_tool.specs.Prints.{IsOfInput, PrintRefused}
-use Rattle.fb_schema_text.proofs.SchemaTextHasOneLayout.{refused_has_none, none_of_layout}
+use Rattle.fb_declare.proofs.SchemaTextHasOneLayout.{refused_has_none, none_of_layout}
 use Rattle.flatc_tool.proofs.jobs.RefusedUnderTheSchema.{print_refused}
 use Rattle.flatc_tool.proofs.prints.print_to.Goals as goal
 

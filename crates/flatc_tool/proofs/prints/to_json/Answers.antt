@@ -1,7 +1,7 @@
 use Rattle.std.proofs.Common.{string_bytes}
 use Rattle.std.proofs.lemmas.Result.{IfErr-weaker, IfOk-weaker}
 use Rattle.flatc_tool.specs.Jobs.{IsText, TextRefused, MayBeText, MayBeTextOf, IsNotMemory}
-use Rattle.fb_schema_text.proofs.SchemaTextHasOneLayout.{refused_has_none, none_of_layout}
+use Rattle.fb_declare.proofs.SchemaTextHasOneLayout.{refused_has_none, none_of_layout}
 use Rattle.flatc_tool.proofs.jobs.RefusedUnderTheSchema.{text_refused}
 use Rattle.flatc_tool.proofs.prints.to_json.Goals as goal
 

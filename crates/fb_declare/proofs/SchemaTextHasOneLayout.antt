@@ -15,10 +15,10 @@ use Rattle.fb_declare.specs.Declares.{Declares}
 use Rattle.fb_declare.specs.TypeFaults.{faults_of}
 use Rattle.fb_declare.specs.Faults.{least_of}
 use Rattle.fb_layout.specs.Laid.{LaidSchema}
-use Rattle.fb_schema_text.specs.declared.schema_layouts.SchemaTextFault.{SchemaTextFault}
-use Rattle.fb_schema_text.specs.declared.schema_layouts.SchemaTextFault.TheVariants.{Syntax, Schema, Layout}
-use Rattle.fb_schema_text.specs.SchemaLaws.{SchemaLaws}
-use Rattle.fb_schema_text.specs.SchemaTexts.{IsAccepted, IsSyntaxRefused, IsRefused, IsWant, OfLayout}
+use Rattle.fb_declare.specs.declared.schema_layouts.SchemaTextFault.{SchemaTextFault}
+use Rattle.fb_declare.specs.declared.schema_layouts.SchemaTextFault.TheVariants.{Syntax, Schema, Layout}
+use Rattle.fb_declare.specs.SchemaLaws.{SchemaLaws}
+use Rattle.fb_declare.specs.SchemaTexts.{IsAccepted, IsSyntaxRefused, IsRefused, IsWant, OfLayout}
 
 -- a text reads as one list of declarations
 pub one_parse : (laws : SchemaLaws) (text : List ℕ) (d e : DeclsRead) → Parses text d → Parses text e → d ≡ e

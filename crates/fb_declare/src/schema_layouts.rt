@@ -3,11 +3,12 @@ ghost use Rattle.std.specs.Prelude.{◌≡◌, ◌↔◌, ℕ, IfOk, IfErr, Err,
 ghost use Rattle.std.specs.Str.Lossy.{utf8_valid_len};
 ghost use Rattle.fb_syntax.specs.declared.faults.SyntaxFault.TheVariants.{NotUtf8};
 ghost use Rattle.fb_layout.specs.Laid.{LaidSchema};
-ghost use Rattle.fb_schema_text.specs.declared.schema_layouts.SchemaTextFault.TheVariants.{Syntax};
-ghost use Rattle.fb_schema_text.specs.SchemaTexts.{IsAccepted, IsRefused, IsWant};
+ghost use Rattle.fb_declare.specs.declared.schema_layouts.SchemaTextFault.TheVariants.{Syntax};
+ghost use Rattle.fb_declare.specs.SchemaTexts.{IsAccepted, IsRefused, IsWant};
 
+use crate::faults::SchemaFault;
 use crate::laws::schema_laws;
-use fb_declare::{SchemaFault, declare};
+use crate::schema::declare;
 use fb_layout::{Layout, LayoutFault, lay};
 use fb_schema::TypeId;
 use fb_syntax::{SyntaxFault, parse};
@@ -28,7 +29,7 @@ pub enum SchemaTextFault {
 
 impl SchemaTextFault {
     ghost use Rattle.std.specs.Prelude.{◌≡◌, option_map};
-    ghost use Rattle.fb_schema_text.specs.FaultTable.{number_of, name_of, offset_of, owner_of};
+    ghost use Rattle.fb_declare.specs.TextFaultTable.{number_of, name_of, offset_of, owner_of};
 
     /// The fault's number; no other fault has it.
     pub fn number(self) -> u8

@@ -15,8 +15,8 @@ use Rattle.fb_layout.specs.Laid.{LaidSchema}
 use Rattle.fb_layout.specs.WellMade.{IsWellMade}
 use Rattle.fb_layout.specs.Refused.{Refuses}
 use Rattle.fb_layout.specs.declared.faults.LayoutFault.TheVariants as layout_faults
-use Rattle.fb_schema_text.specs.declared.schema_layouts.SchemaTextFault.{SchemaTextFault}
-use Rattle.fb_schema_text.specs.declared.schema_layouts.SchemaTextFault.TheVariants.{Syntax, Schema, Layout}
+use Rattle.fb_declare.specs.declared.schema_layouts.SchemaTextFault.{SchemaTextFault}
+use Rattle.fb_declare.specs.declared.schema_layouts.SchemaTextFault.TheVariants.{Syntax, Schema, Layout}
 
 -- The text reads as declarations, these declare the schema, and the layout is that schema's.
 pub record IsAccepted (text : List ℕ) (L : LaidSchema) : Type 0 where

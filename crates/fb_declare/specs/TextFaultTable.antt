@@ -4,8 +4,8 @@ use Rattle.fb_syntax.specs.FaultTable as syntax_faults
 use Rattle.fb_schema.specs.declared.kinds.TypeId.{TypeId}
 use Rattle.fb_declare.specs.FaultTable as schema_faults
 use Rattle.fb_layout.specs.FaultTable as layout_faults
-use Rattle.fb_schema_text.specs.declared.schema_layouts.SchemaTextFault.{SchemaTextFault}
-use Rattle.fb_schema_text.specs.declared.schema_layouts.SchemaTextFault.TheVariants.{Syntax, Schema, Layout}
+use Rattle.fb_declare.specs.declared.schema_layouts.SchemaTextFault.{SchemaTextFault}
+use Rattle.fb_declare.specs.declared.schema_layouts.SchemaTextFault.TheVariants.{Syntax, Schema, Layout}
 
 abbrev pub row_of : SchemaTextFault → ℕ × List ℕ
 row_of (Syntax f) = syntax_faults.row_of f

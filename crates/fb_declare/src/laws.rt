@@ -1,7 +1,7 @@
 //! The laws of the layers that read a schema text, in one place.
-ghost use Rattle.fb_schema_text.specs.SchemaLaws.{SchemaLaws};
+ghost use Rattle.fb_declare.specs.SchemaLaws.{SchemaLaws};
 
-use fb_declare::one_schema;
+use crate::schema::one_schema;
 use fb_layout::{no_layout_where_refused, one_layout};
 use fb_syntax::{one_reading, one_spelling};
 

@@ -1,3 +1,0 @@
-pub mod SchemaTexts
-pub mod SchemaLaws
-pub mod FaultTable
