@@ -1,6 +1,6 @@
 -- What bytes a tree of JSON gives.
 -- From the FlatBuffers documentation, "Using the schema compiler": `--binary`.
-use Rattle.std.specs.Prelude.{◌≤◌, ◌<◌, Bool, false, length}
+use Rattle.std.specs.Prelude.{◌≤◌, ◌<◌, Bool, length}
 use Rattle.serde_json.specs.Data.{Data}
 use Rattle.fb_layout.specs.Laid.{LaidSchema}
 use Rattle.fb_value.specs.Bounds.{Bounds}
@@ -35,9 +35,6 @@ pub record IsEncodedFramed (prefixed : Bool) (L : LaidSchema) (most : Bounds) (u
   pub aligned : EndsAlignedFramed prefixed L b
   pub short : length b ≤ framed_room prefixed L value
 
-abbrev pub IsEncoded : LaidSchema → Bounds → Bool → Data → Bytes → Type 0
-IsEncoded L most unknown t b = IsEncodedFramed false L most unknown t b
-
 -- what is refused for a rule that the tree breaks
 pub record BreaksARule (L : LaidSchema) (most : Bounds) (unknown : Bool) (t : Data) (f : JsonFault) : Type 0 where
   pub refuses : trees.Refuses L most unknown t f
@@ -56,6 +53,3 @@ EncodeRefusedFramed prefixed L most unknown t (Build the_build.TooBig) =
     (d : Datum) × Means L most unknown t d × (2147483647 < framed_room prefixed L d)
 EncodeRefusedFramed prefixed L most unknown t (Build the_build.Memory) =
     (d : Datum) × Means L most unknown t d × (framed_room prefixed L d ≤ 2147483647)
-
-abbrev pub EncodeRefused : LaidSchema → Bounds → Bool → Data → EncodeFault → Type 0
-EncodeRefused L most unknown t f = EncodeRefusedFramed false L most unknown t f

@@ -1,4 +1,4 @@
-//! From a JSON text, or its tree, straight to a buffer.
+//! From a JSON text straight to a buffer.
 #![tactic(auto)]
 
 mod elements;
@@ -17,4 +17,3 @@ mod vectors;
 
 pub use faults::{EncodeFault, TextFault};
 pub use texts::{encode_owned_text, encode_text};
-pub use trees::encode_tree;

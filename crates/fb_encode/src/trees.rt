@@ -8,13 +8,13 @@ ghost use Rattle.fb_value.specs.Datum.{Datum};
 ghost use Rattle.fb_tape.specs.Tapes.{Waits};
 ghost use Rattle.fb_json.specs.Refuses.{IsFirst, MayLackMemory};
 ghost use Rattle.fb_build.specs.NotedRoots.{NotesRoot};
-ghost use Rattle.fb_encode.specs.Encoded.{EncodeRefused, EncodeRefusedFramed, IsEncoded, IsEncodedFramed};
+ghost use Rattle.fb_encode.specs.Encoded.{EncodeRefusedFramed, IsEncodedFramed};
 ghost use Rattle.fb_encode.specs.RootsNoted.{IsRootNoted};
 
 use crate::faults::EncodeFault;
 use crate::parts::note_object;
 use fb_build::{Noting, lay_root};
-use fb_json::{JsonFault, Place, Source, first_fault_refuses, only_what_is_meant};
+use fb_json::{JsonFault, Place, Source, only_what_is_meant};
 use fb_layout::Layout;
 use fb_tape::Tape;
 use fb_value::Limits;
@@ -70,34 +70,4 @@ pub(crate) fn lay_noted<'l>(
         Ok(bytes) => Ok(bytes),
         Err(fault) => Err(EncodeFault::Build(fault)),
     }
-}
-
-/// The bytes that encode the value that a tree means under a layout, as the root table's.
-///
-/// The tree is given away: its value is noted on a tape, and then the tree is dropped. Memory for the bytes is taken
-/// behind that, and before the first of them is laid. The error is that of the tree's first fault, and then that of
-/// the value's size.
-pub fn encode_tree(
-    alloc: Global,
-    layout: &Layout,
-    tree: Json,
-    limits: Limits,
-    unknown: bool,
-) -> Result<Vec<u8>, EncodeFault>
-    ensures encoded { IfOk result (λ b. IsEncoded layout.now limits unknown (tree_view tree) b.items) }
-    ensures refused { IfErr result (EncodeRefused layout.now limits unknown (tree_view tree)) }
-{
-    first_fault_refuses();
-    let source = Source {
-        alloc,
-        layout,
-        unknown,
-    };
-    let noting = Noting::new(alloc, layout);
-    let tape = match note_root(source, noting, &tree, limits) {
-        Ok(tape) => tape,
-        Err(fault) => return Err(EncodeFault::Json(fault)),
-    };
-    drop(tree);
-    lay_noted(alloc, layout, tape, false)
 }
