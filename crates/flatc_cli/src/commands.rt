@@ -200,8 +200,6 @@ const NUMBERS: &JobWords = &JobWords {
     )],
 };
 
-const JOBS: &[&JobWords] = &[BINARY, JSON, CHECK, CONFORM, INSPECT, NUMBERS];
-
 fn flag<'a>(alloc: Global, name: &'a str, help: &'a str) -> Arg<'a>
     ensures rule { rule_of result ≡ flag_rule name.entry.now }
     ensures local { result.global ≡ false }
@@ -291,5 +289,9 @@ pub(crate) fn flatc_command<'a>(alloc: Global) -> Result<Command<'a>, AllocError
     ensures { IfOk result (HasApp flatc_app) }
 {
     let command = plain_command(alloc)?;
-    with_jobs(alloc, command, JOBS)
+    with_jobs(
+        alloc,
+        command,
+        &[BINARY, JSON, CHECK, CONFORM, INSPECT, NUMBERS],
+    )
 }
