@@ -279,7 +279,11 @@ fn with_jobs<'a>(
 {
     let mut command = command;
     for job in jobs {
-        command = command.subcommand(job_command(alloc, job)?)?;
+        let Ok(own) = job_command(alloc, job) else {
+            drop(command);
+            return Err(AllocError);
+        };
+        command = command.subcommand(own)?;
     }
     Ok(command)
 }

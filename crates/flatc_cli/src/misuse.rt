@@ -55,7 +55,10 @@ fn command_of<'a>(alloc: Global, job: &str) -> Result<Command<'a>, AllocError> {
 fn told(alloc: Global, job: &str, kind: ErrorKind, message: &str) -> Result<Error, AllocError>
     ensures { IfOk result (λ e. kind_of e ≡ kind) }
 {
-    command_of(alloc, job)?.error(kind, message)
+    let mut command = command_of(alloc, job)?;
+    let error = command.error(kind, message);
+    drop(command);
+    error
 }
 
 /// An error about a line of a job, in clap's form and with the job's usage.
@@ -132,10 +135,14 @@ pub(crate) fn other_line(alloc: Global) -> Error
     ensures { IsRefusal (kind_of result) }
 {
     let told = match flatc_command(alloc) {
-        Ok(mut command) => command.error(
-            ErrorKind::UnknownArgument,
-            "the line is more than one job over one file",
-        ),
+        Ok(mut command) => {
+            let error = command.error(
+                ErrorKind::UnknownArgument,
+                "the line is more than one job over one file",
+            );
+            drop(command);
+            error
+        }
         Err(error) => Err(error),
     };
     match told {
