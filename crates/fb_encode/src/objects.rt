@@ -190,8 +190,13 @@ fn note_next(
     }
     text_is_read_without_brackets();
     let read = walk.reader.read(text)?;
-    let tree = innermost(&read, MOST_BRACKETS - text.brackets)?;
-    note_tree(source, walk, slot, Some(tree), behind, levels)
+    let Some(tree) = innermost(&read, MOST_BRACKETS - text.brackets) else {
+        drop(read);
+        return Err(Unread::Piece);
+    };
+    let noted = note_tree(source, walk, slot, Some(tree), behind, levels);
+    drop(read);
+    noted
 }
 
 /// Whether what a slot of this shape names may be read in pieces.

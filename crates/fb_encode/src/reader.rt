@@ -139,26 +139,28 @@ impl Reader {
     {
         text_is_read_without_brackets();
         let read = self.read(excerpt)?;
-        let _tree = innermost(&read, MOST_BRACKETS - excerpt.brackets)?;
+        let Some(_tree) = innermost(&read, MOST_BRACKETS - excerpt.brackets) else {
+            drop(read);
+            return Err(Unread::Piece);
+        };
+        drop(read);
         Ok(())
     }
 }
 
-/// The tree in so many arrays, of which each has one element.
-pub(crate) fn innermost(tree: &Json, arrays: u8) -> Result<&Json, Unread>
-    ensures { IfOk result (λ inner. tree_view tree.now ≡ in_arrays arrays (tree_view inner.now)) }
+/// The tree in so many arrays. None where one of them isn't an array of one element.
+pub(crate) fn innermost(tree: &Json, arrays: u8) -> Option<&Json>
+    ensures { IfSome result (λ inner. tree_view tree.now ≡ in_arrays arrays (tree_view inner.now)) }
 {
     let mut inner = tree;
     for _ in 0..arrays {
-        let Some(elements) = inner.as_array() else {
-            return Err(Unread::Piece);
-        };
+        let elements = inner.as_array()?;
         if elements.len() != 1 {
-            return Err(Unread::Piece);
+            return None;
         }
         inner = &elements[0];
     }
-    Ok(inner)
+    Some(inner)
 }
 
 /// The elements of the array in so many arrays, of which each has one element.
@@ -167,7 +169,10 @@ pub(crate) fn innermost_elements(tree: &Json, arrays: u8) -> Result<&[Json], Unr
         tree_view tree.now ≡ in_arrays arrays (array (items_view elements.now))) }
     ensures some { IfOk result (λ elements. 0 < length elements.now) }
 {
-    let Some(elements) = innermost(tree, arrays)?.as_array() else {
+    let Some(inner) = innermost(tree, arrays) else {
+        return Err(Unread::Piece);
+    };
+    let Some(elements) = inner.as_array() else {
         return Err(Unread::Piece);
     };
     if elements.is_empty() {

@@ -121,9 +121,12 @@ fn note_at_once<'l>(source: Source<'l>, json: &[u8], limits: Limits) -> Result<T
         }
     };
     let Ok(noting) = Noting::with_capacity(source.alloc, source.layout) else {
+        drop(tree);
         return Err(TextFault::Memory);
     };
-    match note_root(source, noting, &tree, limits) {
+    let noted = note_root(source, noting, &tree, limits);
+    drop(tree);
+    match noted {
         Ok(tape) => Ok(tape),
         Err(fault) => Err(TextFault::Encode(EncodeFault::Json(fault))),
     }

@@ -112,8 +112,9 @@ text_read t c =
     let text = c.in-Some.text in
     let low = rw c.in-Some.is at c.requires.brackets in
     let is = inner_is_read c.text_is_read_without_brackets.ensures text.brackets text.text.now low
-    c.in_ok-read.ensures.utf8 c.in_ok-read.read c.in_ok-tree.tree.now c.in_ok-read.ensures.tree c.in_ok-tree.ensures in
-    rw c.in-Some.is (on_ok c.note_tree-2.result _ (tree_view c.in_ok-tree.tree.now, is))
+    c.in_ok-read.ensures.utf8 c.in_ok-read.read c.in-Some-innermost.tree.now c.in_ok-read.ensures.tree
+    c.in-Some-innermost.ensures in
+    rw c.in-Some.is (on_ok c.note_tree-noted.result _ (tree_view c.in-Some-innermost.tree.now, is))
 
 pub text_noted : goal.objects::note_next-returns-clause-noted
 text_noted t c seen found =
@@ -122,8 +123,9 @@ text_noted t c seen found =
     let text = c.in-Some.text in
     let low = rw c.in-Some.is at c.requires.brackets in
     let is = inner_is_read c.text_is_read_without_brackets.ensures text.brackets text.text.now low
-    c.in_ok-read.ensures.utf8 c.in_ok-read.read c.in_ok-tree.tree.now c.in_ok-read.ensures.tree c.in_ok-tree.ensures in
+    c.in_ok-read.ensures.utf8 c.in_ok-read.read c.in-Some-innermost.tree.now c.in_ok-read.ensures.tree
+    c.in-Some-innermost.ensures in
     let used = used_by c.args.slot.field.now.deprecated c.args.text text c.requires.old c.in-Some.is in
     let here = rw c.in-Some.is at (found used) in
-    rw c.in-Ok.is (c.note_tree-2.ensures.noted seen
+    rw c.in-Ok.is (c.note_tree-noted.ensures.noted seen
     (here ∙ ap (λ d. Some (d, meant L unknown d)) (tree_is text.brackets text.text.now _ is)))

@@ -19,8 +19,8 @@ returns c =
     let trees = c.deref.result.now in
     let filled = sym c.is_empty.ensures ∙ c.if-is_empty.false in
     record {
-      are = c.in_ok-innermost.ensures ∙ ap (in_arrays c.args.arrays)
-          (array_by (tree_view c.in_ok-innermost.field-0.now) (items_view trees)
-          (rw c.deref.ensures.value c.in-Some.ensures));
+      are = c.in-Some.ensures ∙ ap (in_arrays c.args.arrays)
+          (array_by (tree_view c.in-Some.inner.now) (items_view trees)
+          (rw c.deref.ensures.value c.in-Some-as_array.ensures));
       some = grind (arith, nat_tests, filled, c.deref.ensures.len);
     }

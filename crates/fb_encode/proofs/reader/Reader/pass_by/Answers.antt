@@ -5,11 +5,11 @@ use Rattle.fb_encode.proofs.reader.Reader.pass_by.Goals as goal
 
 pub returns : goal.returns
 returns c =
-    let t = tree_view c.in_ok-_tree._tree.now in (
+    let t = tree_view c.in-Some._tree.now in (
       t,
       record {
         utf8 = c.in_ok-read.ensures.utf8;
         read = read_without c.text_is_read_without_brackets.ensures c.args.excerpt.brackets c.args.excerpt.text.now t
-            c.requires (c.in_ok-read.ensures.tree ∙ ap Some c.in_ok-_tree.ensures);
+            c.requires (c.in_ok-read.ensures.tree ∙ ap Some c.in-Some.ensures);
       },
     )
