@@ -163,20 +163,15 @@ pub(crate) fn innermost(tree: &Json, arrays: u8) -> Option<&Json>
     Some(inner)
 }
 
-/// The elements of the array in so many arrays, of which each has one element.
-pub(crate) fn innermost_elements(tree: &Json, arrays: u8) -> Result<&[Json], Unread>
-    ensures are { IfOk result (λ elements.
+/// The elements of the array in so many arrays. None where one of those isn't an array of one element, or where this
+/// isn't an array or has no elements.
+pub(crate) fn innermost_elements(tree: &Json, arrays: u8) -> Option<&[Json]>
+    ensures are { IfSome result (λ elements.
         tree_view tree.now ≡ in_arrays arrays (array (items_view elements.now))) }
-    ensures some { IfOk result (λ elements. 0 < length elements.now) }
+    ensures some { IfSome result (λ elements. 0 < length elements.now) }
 {
-    let Some(inner) = innermost(tree, arrays) else {
-        return Err(Unread::Piece);
-    };
-    let Some(elements) = inner.as_array() else {
-        return Err(Unread::Piece);
-    };
-    if elements.is_empty() {
-        return Err(Unread::Piece);
+    match innermost(tree, arrays)?.as_array() {
+        Some(elements) if !elements.is_empty() => Some(elements),
+        _ => None,
     }
-    Ok(elements)
 }

@@ -23,7 +23,8 @@ returns-clause-noted c =
           (c.in_ok-read.ensures.tree ∙ ap Some c.in-Some.ensures);
     } in
     let found : IsNotedOr L shape given a b c.note_part-noted.result =
-    noted_or L shape given a b c.note_part-noted.result c.note_part-noted.ensures.noted c.note_part-noted.ensures.refused in
+    noted_or L shape given a b c.note_part-noted.result c.note_part-noted.ensures.noted
+    c.note_part-noted.ensures.refused in
     if_ok_then c.unless_memory.result _ _ (λ r same. (
       t,
       as_tree,

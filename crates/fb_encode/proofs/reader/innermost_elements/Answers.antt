@@ -14,13 +14,13 @@ array_by (string s) ds is = cc
 array_by (object ms) ds is = cc
 array_by (array es) ds is = let same : ds ≡ es = cc in ap array (sym same)
 
-pub returns : goal.returns
-returns c =
+pub returns-in-Some : goal.returns-in-Some
+returns-in-Some c =
     let trees = c.deref.result.now in
-    let filled = sym c.is_empty.ensures ∙ c.if-is_empty.false in
+    let filled = sym c.is_empty.ensures ∙ c.if-not-is_empty.true in
     record {
-      are = c.in-Some.ensures ∙ ap (in_arrays c.args.arrays)
-          (array_by (tree_view c.in-Some.inner.now) (items_view trees)
-          (rw c.deref.ensures.value c.in-Some-as_array.ensures));
+      are = c.in_ok-innermost.ensures ∙ ap (in_arrays c.args.arrays)
+          (array_by (tree_view c.in_ok-innermost.field-0.now) (items_view trees)
+          (rw c.deref.ensures.value c.in-Some.ensures));
       some = grind (arith, nat_tests, filled, c.deref.ensures.len);
     }
