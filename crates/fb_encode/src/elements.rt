@@ -84,6 +84,10 @@ pub(crate) fn push_elements(
     Ok(left)
 }
 
+/// Drops a value that is a number. It is inlined, so that nothing is done where the value is known to be one.
+#[inline(always)]
+pub(crate) fn drop_number(_value: Value) {}
+
 /// Adds a number or a struct to the vector that was begun, and returns the cells that are left. `parts` is where those
 /// of a struct are kept meanwhile.
 #[inline(always)]
@@ -111,7 +115,10 @@ fn push_next(
         levels,
     } = vector;
     if let Some(number) = number_of(source, element, kind, place) {
-        tape.push_element(kind, &Value::Number(number?))?;
+        let value = Value::Number(number?);
+        let pushed = tape.push_element(kind, &value);
+        drop_number(value);
+        pushed?;
         return Ok(left);
     }
     let Kind::Struct(structure) = kind else {

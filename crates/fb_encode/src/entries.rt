@@ -16,6 +16,7 @@ ghost use Rattle.fb_encode.specs.StoredAs.{IsStoredAs};
 ghost use Rattle.fb_encode.specs.SlotsRead.{NotesSlot, left_of, present_given, slot_given};
 ghost use Rattle.fb_encode.specs.TreesNoted.{IsEntryNoted, IsPart, IsSlot};
 
+use crate::elements::drop_number;
 use crate::parts::{note_object, note_part};
 use fb_build::{Noting, is_default};
 use fb_json::{JsonFault, Place, Source, is_null, number_of, struct_parts, without};
@@ -189,9 +190,12 @@ fn note_inline(
     };
     let value = Value::Number(number?);
     if is_default(slot.field, &value) {
+        drop_number(value);
         return Ok(left);
     }
-    opened.push_inline(source.layout, slot.number, kind, &value)?;
+    let pushed = opened.push_inline(source.layout, slot.number, kind, &value);
+    drop_number(value);
+    pushed?;
     Ok(left)
 }
 

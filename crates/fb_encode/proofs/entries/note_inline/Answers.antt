@@ -65,4 +65,4 @@ returns-clause-noted c T whole =
     inline_noted L slot.number (field_seen slot.field.now) c.requires.used (stored_kind L.schema c.args.kind)
     (a_number number) (ap (stored_shape L.schema) c.requires.kind) c.requires.inline
     (rw c.in_ok-number.was at c.in-Some.ensures.fits) refl _ c.args.left is T whole c.args.opened.now
-    c.push_inline.new.self (rw seen at stored) (rw seen at c.in_ok-push_inline.ensures.adds)
+    c.push_inline-pushed.new.self (rw seen at stored) (rw seen at c.in_ok-pushed.ensures.adds)
