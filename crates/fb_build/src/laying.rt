@@ -1,17 +1,19 @@
 //! Lays the operations of a tape, one after the other.
-ghost use Rattle.std.specs.Prelude.{[], ◌∷◌, ◌≡◌, ◌≤◌, ◌<◌, ◌+◌, ◌-◌, ◌++◌, ◌^◌, length, take, max};
+ghost use Rattle.std.specs.Prelude.{[], ◌∷◌, ◌≡◌, ◌≤◌, ◌<◌, ◌+◌, ◌-◌, ◌++◌, ◌^◌, length, take, max, IfOk};
 ghost use Rattle.std.specs.Vec.{vec_capacity};
 ghost use Rattle.fb_tape.specs.Alignments.{aligned_to};
 ghost use Rattle.fb_tape.specs.declared.ops.Op.TheVariants.{Data, References, Table};
 ghost use Rattle.fb_build.specs.Lengths.{data_end, references_end, fields_end, table_end};
 ghost use Rattle.fb_build.specs.NotesLaid.{notes_references, notes_size};
 ghost use Rattle.fb_build.specs.Steps.{MayLayNext, Steps};
+ghost use Rattle.fb_build.specs.TapeLaid.{IsFresh};
 
 use crate::tail::Tail;
 use crate::taped_fields::lay_fields;
 use crate::taped_vtables::{NumberedVtable, close_table};
 use crate::{taped_data, taped_references};
 use fb_tape::{Alignment, NotedField};
+use std::alloc::{AllocError, Global};
 
 /// What is laid of a tape: the tail, the end-counts of the parts that wait, and those of the vtables that have come.
 #[derive(Drop)]
@@ -19,6 +21,37 @@ pub(crate) struct Laying {
     pub(crate) tail: Tail,
     pub(crate) waiting: Vec<u32>,
     pub(crate) places: Vec<u32>,
+}
+
+impl Laying {
+    /// Nothing that is laid, in a block as long as this, with memory for so many parts that wait and so many vtables.
+    pub(crate) fn with_room(
+        alloc: Global,
+        end: usize,
+        parts: usize,
+        vtables: usize,
+    ) -> Result<Laying, AllocError>
+        requires short { end ≤ 2147483647 }
+        ensures room { IfOk result (λ l. l.tail.free ≡ end) }
+        ensures reserved { IfOk result (λ l. parts ≤ vec_capacity l.waiting) }
+        ensures places { IfOk result (λ l. vtables ≤ vec_capacity l.places) }
+        ensures fresh { IfOk result IsFresh }
+    {
+        let Ok(block) = vec![in alloc; 0u8; end] else {
+            return Err(AllocError);
+        };
+        let Ok(waiting) = Vec::with_capacity(alloc, parts) else {
+            return Err(AllocError);
+        };
+        let Ok(places) = Vec::with_capacity(alloc, vtables) else {
+            return Err(AllocError);
+        };
+        Ok(Laying {
+            tail: Tail::new(block),
+            waiting,
+            places,
+        })
+    }
 }
 
 /// A part waits in the place of those that were laid last, to which it refers.

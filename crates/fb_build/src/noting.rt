@@ -42,8 +42,9 @@ impl<'l> Noting<'l> {
         ensures opened { IfOk result (λ noting. noting.opened ≡ []) }
     {
         let mut noting = Noting::new(alloc, layout);
-        noting.tape.reserve()?;
-        noting.opened.reserve()?;
+        if noting.tape.reserve().is_err() || noting.opened.reserve().is_err() {
+            return Err(AllocError);
+        }
         Ok(noting)
     }
 }

@@ -13,7 +13,6 @@ ghost use Rattle.fb_build.specs.TapeLaid.{SomeRoot};
 
 use crate::laying::Laying;
 use crate::roots::close_tail;
-use crate::tail::Tail;
 use crate::taped_lengths::buffer_end;
 use crate::taped_ops::lay_tape;
 use fb_layout::Layout;
@@ -30,9 +29,7 @@ pub struct TapePlan<'l> {
     layout: &'l Layout,
     tape: Tape<'l>,
     prefixed: bool,
-    block: Vec<u8>,
-    waiting: Vec<u32>,
-    places: Vec<u32>,
+    laying: Laying,
 }
 
 impl<'l> Model for TapePlan<'l> {
@@ -62,16 +59,13 @@ impl<'l> TapePlan<'l> {
         ensures tape { IfOk result (λ p. p.tape ≡ tape.entry) }
         ensures prefixed { IfOk result (λ p. p.prefixed ≡ prefixed) }
     {
-        let block = vec![in alloc; 0u8; buffer_end(layout, &tape, front_of(prefixed))]?;
-        let waiting = Vec::with_capacity(alloc, tape.ops().len())?;
-        let places = Vec::with_capacity(alloc, tape.vtable_count())?;
+        let end = buffer_end(layout, &tape, front_of(prefixed));
+        let laying = Laying::with_room(alloc, end, tape.ops().len(), tape.vtable_count())?;
         Ok(TapePlan {
             layout,
             tape,
             prefixed,
-            block,
-            waiting,
-            places,
+            laying,
         })
     }
 
@@ -92,15 +86,8 @@ impl<'l> TapePlan<'l> {
             layout,
             tape,
             prefixed,
-            block,
-            waiting,
-            places,
+            mut laying,
         } = self;
-        let mut laying = Laying {
-            tail: Tail::new(block),
-            waiting,
-            places,
-        };
         lay_tape(&mut laying, layout, &tape);
         let place = laying.waiting[0];
         close_tail(layout, laying.tail, place, prefixed).into_bytes()
