@@ -230,20 +230,26 @@ impl<'a> Notes<'a> {
                 if bytes.len() >= 0x8000_0000 {
                     return None;
                 }
-                let entered = EnteredTable::enter(self.layout, bytes, table, at).ok()?;
+                let Ok(entered) = EnteredTable::enter(self.layout, bytes, table, at) else {
+                    return None;
+                };
                 self.note_vtable(node, entered);
                 return Some(entered);
             }
             Part::Text => {
                 self.note(node, at, 4, What::Length);
-                let text = open_text(bytes, at).ok()?;
+                let Ok(text) = open_text(bytes, at) else {
+                    return None;
+                };
                 let len = text.len().saturating_add(1);
                 self.note(node, at.saturating_add(4), len, What::Content);
             }
             Part::Vector(kind) => {
                 self.note(node, at, 4, What::Length);
-                let count = enter_vector(self.layout, bytes, kind, at).ok()? as usize;
-                let len = count.saturating_mul(self.layout.size_of(kind) as usize);
+                let Ok(count) = enter_vector(self.layout, bytes, kind, at) else {
+                    return None;
+                };
+                let len = (count as usize).saturating_mul(self.layout.size_of(kind) as usize);
                 self.note(node, at.saturating_add(4), len, What::Content);
             }
         }
