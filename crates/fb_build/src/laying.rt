@@ -37,19 +37,11 @@ impl Laying {
         ensures places { IfOk result (λ l. vtables ≤ vec_capacity l.places) }
         ensures fresh { IfOk result IsFresh }
     {
-        let Ok(block) = vec![in alloc; 0u8; end] else {
-            return Err(AllocError);
-        };
-        let Ok(waiting) = Vec::with_capacity(alloc, parts) else {
-            return Err(AllocError);
-        };
-        let Ok(places) = Vec::with_capacity(alloc, vtables) else {
-            return Err(AllocError);
-        };
+        let block = vec![in alloc; 0u8; end]?;
         Ok(Laying {
             tail: Tail::new(block),
-            waiting,
-            places,
+            waiting: Vec::with_capacity(alloc, parts)?,
+            places: Vec::with_capacity(alloc, vtables)?,
         })
     }
 }

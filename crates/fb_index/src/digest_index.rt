@@ -11,7 +11,7 @@ use indexmap::IndexMap;
 use std::alloc::{AllocError, Global};
 use std::marker::Model;
 
-// An `IndexSet` would have each crate that makes a schema public read half as much of `indexmap` again when it is proved.
+// An `IndexSet` has half as many modules again, and each crate with a public schema reads them when it is proved.
 type Keys = IndexMap<u32, (), HashKey>;
 
 /// An index of byte strings by digests under a key.
