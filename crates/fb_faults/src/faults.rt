@@ -1,9 +1,9 @@
 //! Why the tool refuses.
 use fb_build::BuildFault;
 use fb_conform::{Breach, MovedName};
+use fb_declare::SchemaTextFault;
 use fb_json::{JsonFault, Place};
 use fb_schema::TypeId;
-use fb_declare::SchemaTextFault;
 use fb_text::{TextFault, WriteFault};
 use fb_value::ReadFault;
 use thiserror::Error;
