@@ -1,6 +1,7 @@
 //! The files of a directory that a batch is written to.
 use crate::streams::metadata_of;
-use flatc_request::{Batch, Task, is_standard_input, targets_in};
+use crate::target_paths::targets_in;
+use flatc_request::{Batch, Task, is_standard_input};
 use std::alloc::{AllocError, AllocFailed, Global};
 use std::collections::BTreeSet;
 use std::fs::{self, Metadata};

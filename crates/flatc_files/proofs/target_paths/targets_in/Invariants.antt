@@ -1,7 +1,7 @@
 use Rattle.std.proofs.Common.{◌≡◌, map, take, string_bytes}
 use Rattle.std.specs.Path.{path_buf_bytes}
-use Rattle.flatc_request.specs.Runs.{target_in}
-use Rattle.flatc_request.proofs.targets.targets_in.Given as goal
+use Rattle.flatc_files.specs.Targets.{target_in}
+use Rattle.flatc_files.proofs.target_paths.targets_in.Given as goal
 
 abbrev pub invariant-loop-file : goal.invariant-loop-file
 invariant-loop-file l = map path_buf_bytes l.targets.items ≡ map

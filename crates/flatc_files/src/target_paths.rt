@@ -1,7 +1,7 @@
 //! Where the files of a batch go.
 ghost use Rattle.std.specs.Prelude.{◌≡◌, IfOk, map, string_bytes};
 ghost use Rattle.std.specs.Path.{path_buf_bytes};
-ghost use Rattle.flatc_request.specs.Runs.{target_in};
+ghost use Rattle.flatc_files.specs.Targets.{target_in};
 
 use std::alloc::{AllocError, Global};
 use std::path::{Path, PathBuf};
