@@ -2,7 +2,8 @@
 use Rattle.std.proofs.Common.{Bor, ◌⊎◌, inl, inr, ◌≡◌, ◌≢◌, ◌+◌, ◌<◌, ◌==◌, ◌&&◌, ◌||◌, ℕ, zero, suc, Bool, true, false}
 use Rattle.std.proofs.Common.{true≢false, List, [], ◌∷◌, ◌++◌, length, get_or, slice_get, position, Some, refl, sym, ap}
 use Rattle.std.proofs.Common.{subst, ◌∙◌, arith, ⊎_elim, length-append, if◌then◌else◌}
-use Rattle.std.specs.List.{list_any}
+use Rattle.std.specs.List.{list_any, position_or_len}
+use Rattle.std.specs.Map.{keys_of}
 use Rattle.std.specs.Option.{option_map}
 use Rattle.std.specs.Str.{bytes_eq}
 use Rattle.std.proofs.lemmas.Bool.Decides.{Decides-and, Decides-eqb}
@@ -10,6 +11,7 @@ use Rattle.std.proofs.lemmas.List.{length-map, map-append}
 use Rattle.std.proofs.lemmas.List.Quantifiers.{position-Some}
 use Rattle.std.proofs.lemmas.Option.{slice_get-map, get_or_from_slice_get, slice_get-get_or, slice_get_within}
 use Rattle.std.proofs.lemmas.Slice.Eq.{bytes_eq-Decides}
+use Rattle.indexmap.specs.IndexMap.{insert_entry}
 use Rattle.fb_scopes.specs.Words.{Name, Path}
 use Rattle.fb_scopes.proofs.PathsNamed.{append_inj}
 use Rattle.fb_scopes.specs.PathTree.{child_of, paths_from, paths_of, named_by, links_in, AreLinks}
@@ -192,7 +194,7 @@ link_read keys are k path d e inside =
     (omega (arith, e, at.0), ap (slice_get (paths_of (links_in keys))) e ∙ at.1)
 
 -- whether a key is of a path and a word
-abbrev is_key : ℕ → Name → ℕ × Bor Name → Bool
+abbrev pub is_key : ℕ → Name → ℕ × Bor Name → Bool
 is_key path word k = path == k.0 && bytes_eq word k.1.now
 
 link_at : (keys : List (ℕ × Bor Name)) (i path : ℕ) (word : Name) (k : ℕ × Bor Name) → slice_get keys i ≡ Some k
@@ -228,10 +230,55 @@ pub child_missing : (keys : List (ℕ × Bor Name)) → AreLinks (links_in keys)
 child_missing keys are path word inside none n at = let is =
     link_of_child (links_in keys) are n (path, word) inside at in link_absent keys path word none is.0 is.1
 
+-- the keys after one is inserted: they stay where it is one of them, and else it comes last
+abbrev with_key : List (ℕ × Bor Name) → ℕ → Bor Name → List (ℕ × Bor Name)
+with_key keys path word = if list_any (is_key path word.now) keys then keys else keys ++ (path, word) ∷ []
+
+-- the first key stays where it is, if it isn't the one that is inserted
+with_key-behind : (k : ℕ × Bor Name) (keys : List (ℕ × Bor Name)) (path : ℕ) (word : Bor Name)
+    → (if list_any (is_key path word.now) keys then k ∷ keys else (k ∷ keys) ++ (path, word) ∷ [])
+    ≡ k ∷ with_key keys path word
+with_key-behind k keys path word = elim (list_any (is_key path word.now) keys) as
+    (λ b. (if b then k ∷ keys else (k ∷ keys) ++ (path, word) ∷ [])
+    ≡ k ∷ (if b then keys else keys ++ (path, word) ∷ []))
+    [ true ↦ refl | false ↦ refl ]
+
+-- the keys of a map after one is inserted
+pub keys-inserted : (es : List ((ℕ × Bor Name) × Unit {0})) (path : ℕ) (word : Bor Name)
+    → keys_of (insert_entry (λ k. is_key k.0 k.1.now) es (path, word) tt) ≡ with_key (keys_of es) path word
+keys-inserted [] path word = refl
+keys-inserted (e ∷ es) path word = by (is_key path word.now e.0) refl (keys-inserted es path word)
+  where
+    inserted : List ((ℕ × Bor Name) × Unit {0}) → List (ℕ × Bor Name)
+    inserted es = keys_of (insert_entry (λ k. is_key k.0 k.1.now) es (path, word) tt)
+
+    by : (b : Bool) → is_key path word.now e.0 ≡ b → inserted es ≡ with_key (keys_of es) path word
+        → inserted (e ∷ es) ≡ with_key (keys_of (e ∷ es)) path word
+    by true same rest = rw same refl
+    by false other rest = rw other (ap (λ ks. e.0 ∷ ks) rest ∙ sym (with_key-behind e.0 (keys_of es) path word))
+
+-- after a key is inserted its link stands where `insert_full` says
+link-inserted : (keys : List (ℕ × Bor Name)) (path : ℕ) (word : Bor Name)
+    → slice_get (links_in (with_key keys path word)) (position_or_len (is_key path word.now) keys)
+    ≡ Some (path, word.now)
+link-inserted [] path word = refl
+link-inserted (k ∷ keys) path word = by (is_key path word.now k) refl (link-inserted keys path word)
+  where
+    IsLinkOf : List (ℕ × Bor Name) → Type 0
+    IsLinkOf keys = slice_get (links_in (with_key keys path word)) (position_or_len (is_key path word.now) keys)
+        ≡ Some (path, word.now)
+
+    by : (b : Bool) → is_key path word.now k ≡ b → IsLinkOf keys → IsLinkOf (k ∷ keys)
+    by true same rest = rw same (link_at (k ∷ keys) 0 path word.now k refl same)
+    by false other rest =
+        let i = position_or_len (is_key path word.now) keys in
+        let next : 1 + i ≡ suc i = omega arith in
+        rw other (ap (λ ks. slice_get (links_in ks) (1 + i)) (with_key-behind k keys path word)
+        ∙ ap (slice_get (links_in (k ∷ with_key keys path word))) next ∙ rest)
+
 -- a key that is inserted
 pub links-inserted : (keys new : List (ℕ × Bor Name)) → AreLinks (links_in keys) → (path : ℕ) (word : Bor Name)
-    → path < length (paths_of (links_in keys))
-    → new ≡ (if list_any (is_key path word.now) keys then keys else keys ++ (path, word) ∷ []) → AreLinks (links_in new)
+    → path < length (paths_of (links_in keys)) → new ≡ with_key keys path word → AreLinks (links_in new)
 links-inserted keys new are path word inside e = by (list_any (is_key path word.now) keys) refl
   where
     by : (b : Bool) → list_any (is_key path word.now) keys ≡ b → AreLinks (links_in new)
@@ -241,9 +288,9 @@ links-inserted keys new are path word inside e = by (list_any (is_key path word.
         ∙ map-append named_by keys ((path, word) ∷ [])))
         (links-grown (links_in keys) (path, word.now) are inside (link_absent keys path word.now any))
 
-pub kept-inserted : (keys new : List (ℕ × Bor Name)) (path : ℕ) (word : Bor Name)
-    → new ≡ (if list_any (is_key path word.now) keys then keys else keys ++ (path, word) ∷ []) → (n : ℕ) (p : Path)
-    → slice_get (paths_of (links_in keys)) n ≡ Some p → slice_get (paths_of (links_in new)) n ≡ Some p
+pub kept-inserted : (keys new : List (ℕ × Bor Name)) (path : ℕ) (word : Bor Name) → new ≡ with_key keys path word
+    → (n : ℕ) (p : Path) → slice_get (paths_of (links_in keys)) n ≡ Some p
+    → slice_get (paths_of (links_in new)) n ≡ Some p
 kept-inserted keys new path word e n p at = by (list_any (is_key path word.now) keys) refl
   where
     by : (b : Bool) → list_any (is_key path word.now) keys ≡ b → slice_get (paths_of (links_in new)) n ≡ Some p
@@ -255,14 +302,13 @@ kept-inserted keys new path word e n p at = by (list_any (is_key path word.now) 
         ∙ map-append named_by keys ((path, word) ∷ []))
         ∙ kept (links_in keys) (path, word.now) n p at
 
-pub child-inserted : (keys new : List (ℕ × Bor Name)) → AreLinks (links_in new)
-    → (i path : ℕ) (word : Name) (k : ℕ × Bor Name) → path < length (paths_of (links_in keys))
-    → ((n : ℕ) (p : Path) → slice_get (paths_of (links_in keys)) n ≡ Some p
-    → slice_get (paths_of (links_in new)) n ≡ Some p)
-    → slice_get new i ≡ Some k → is_key path word k ≡ true
-    → slice_get (paths_of (links_in new)) (i + 1) ≡ Some (child_of (paths_of (links_in keys)) path word)
-child-inserted keys new are i path word k inside keeps at same =
+pub child-inserted : (keys new : List (ℕ × Bor Name)) → AreLinks (links_in keys) → (i path : ℕ) (word : Bor Name)
+    → path < length (paths_of (links_in keys)) → new ≡ with_key keys path word
+    → i ≡ position_or_len (is_key path word.now) keys
+    → slice_get (paths_of (links_in new)) (i + 1) ≡ Some (child_of (paths_of (links_in keys)) path word.now)
+child-inserted keys new are i path word inside e place =
     let old = get_or (paths_of (links_in keys)) path [] in
-    (are.link i path word (link_at new i path word k at same)).1
-    ∙ ap (λ q. Some (q ++ word ∷ [])) (get_or_from_slice_get (paths_of (links_in new)) path old []
-    (keeps path old (slice_get-get_or (paths_of (links_in keys)) path [] inside)))
+    let link : slice_get (links_in new) i ≡ Some (path, word.now) = rw (e, place) (link-inserted keys path word) in
+    ((links-inserted keys new are path word inside e).link i path word.now link).1
+    ∙ ap (λ q. Some (q ++ word.now ∷ [])) (get_or_from_slice_get (paths_of (links_in new)) path old []
+    (kept-inserted keys new path word e path old (slice_get-get_or (paths_of (links_in keys)) path [] inside)))

@@ -1,6 +1,7 @@
 -- Paths of words, each with a number.
 use Rattle.std.specs.Prelude.{ℕ, ◌≡◌, ◌<◌, ◌+◌, ◌++◌, List, [], ◌∷◌, length, map, Some, get_or, slice_get}
 use Rattle.std.specs.Borrow.{Bor}
+use Rattle.indexmap.specs.IndexMap.{keys}
 use Rattle.fb_scopes.specs.Words.{Name, Path}
 use Rattle.fb_scopes.specs.declared.path_tree.PathTree.{PathTree}
 
@@ -34,7 +35,7 @@ abbrev pub links_in : List (ℕ × Bor Name) → List (ℕ × Name)
 links_in keys = map named_by keys
 
 abbrev pub links_of : PathTree → List (ℕ × Name)
-links_of tree = links_in tree.links.keys
+links_of tree = links_in (keys tree.links)
 
 abbrev pub paths : PathTree → List Path
 paths tree = paths_of (links_of tree)

@@ -5,7 +5,7 @@ ghost use Rattle.fb_scopes.specs.Words.{words};
 ghost use Rattle.fb_scopes.specs.PathTree.{paths, child_of, IsTree, KeepsPaths};
 
 use fb_index::HashKey;
-use indexmap::IndexSet;
+use indexmap::IndexMap;
 use std::alloc::{AllocError, Global};
 
 /// Paths of words, each with a number; the empty path's is 0, and that of a path without its last
@@ -13,7 +13,8 @@ use std::alloc::{AllocError, Global};
 #[derive(Drop)]
 pub struct PathTree<'t> {
     /// Of each path but the empty one the number of the path without its last word, and that word.
-    links: IndexSet<(usize, &'t str), HashKey>,
+    // An `IndexSet` would have each crate that makes paths public read half as much of `indexmap` again.
+    links: IndexMap<(usize, &'t str), (), HashKey>,
 }
 
 impl<'t> PathTree<'t> {
@@ -22,7 +23,7 @@ impl<'t> PathTree<'t> {
         ensures tree { IsTree result }
         ensures empty { paths result ≡ [] ∷ [] }
     {
-        let links = IndexSet::with_hasher(alloc, key);
+        let links = IndexMap::with_hasher(alloc, key);
         PathTree { links }
     }
 
@@ -57,7 +58,7 @@ impl<'t> PathTree<'t> {
             (λ l. slice_get (paths self.now) path ≡ Some (child_of (paths self.now) l.0 l.1.now)) }
         ensures empty { IfNone result (path ≡ 0) }
     {
-        Some(self.links.as_slice()[path.checked_sub(1)?])
+        Some(self.links.keys().as_slice()[path.checked_sub(1)?])
     }
 
     /// The number of a path with a word behind it, which gets the next one if it has none. The only
@@ -70,7 +71,7 @@ impl<'t> PathTree<'t> {
         ensures child { IfOk result
             (λ n. slice_get (paths self.new) n ≡ Some (child_of (paths self.old) path word.now)) }
     {
-        let (index, _) = self.links.insert_full((path, word))?;
+        let (index, _) = self.links.insert_full((path, word), ())?;
         prove!(index < self.links.len());
         Ok(index + 1)
     }
