@@ -9,7 +9,7 @@ use thiserror::Error;
 /// The rule on declarations that fails, and the offset in bytes from the text's start.
 ///
 /// `Memory` is a refused allocation and no rule.
-#[derive(Clone, Copy, Debug, PartialEq, Eq, Drop, Error)]
+#[derive(Clone, Copy, PartialEq, Eq, Drop, Error)]
 pub enum SchemaFault {
     DuplicateName(u64),
     UnknownType(u64),
@@ -65,6 +65,17 @@ impl fmt::Display for SchemaFault {
             Some(at) => write!(f, "{front}{at}{behind}"),
             None => f.write_str(front),
         }
+    }
+}
+
+// As a derived one would show it, which takes the prover a step for each variant.
+impl fmt::Debug for SchemaFault {
+    fn fmt<W: fmt::Write>(&self, f: &mut fmt::Formatter<W>) -> fmt::Result {
+        let mut shown = f.debug_tuple(self.name());
+        if let Some(at) = self.offset() {
+            shown.field(&at);
+        }
+        shown.finish()
     }
 }
 

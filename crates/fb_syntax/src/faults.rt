@@ -1,11 +1,12 @@
 //! Why a schema text is refused.
 use std::alloc::{AllocError, AllocFailed};
+use std::fmt;
 use thiserror::Error;
 
 /// What is wrong with a schema text, and the offset in bytes from its start.
 ///
 /// `Memory` is a refused allocation.
-#[derive(Clone, Copy, Debug, PartialEq, Eq, Drop, Error)]
+#[derive(Clone, Copy, PartialEq, Eq, Drop, Error)]
 pub enum SyntaxFault {
     #[error("the text isn't UTF-8 from {0} on")]
     NotUtf8(u64),
@@ -70,6 +71,17 @@ impl SyntaxFault {
             | SyntaxFault::NestedVector(at) => Some(at),
             SyntaxFault::Memory => None,
         }
+    }
+}
+
+// As a derived one would show it, which takes the prover a step for each variant.
+impl fmt::Debug for SyntaxFault {
+    fn fmt<W: fmt::Write>(&self, f: &mut fmt::Formatter<W>) -> fmt::Result {
+        let mut shown = f.debug_tuple(self.name());
+        if let Some(at) = self.offset() {
+            shown.field(&at);
+        }
+        shown.finish()
     }
 }
 
