@@ -10,19 +10,13 @@ pub(crate) fn rest_of(text: &str, offset: usize) -> &str {
     text.get(offset..).unwrap_or("")
 }
 
-/// The offset of a member's value in an object; of a name that is repeated the last counts.
-pub(crate) fn member_offset(
-    alloc: Global,
-    object: &str,
-    name: &str,
-) -> Result<Option<usize>, AllocError> {
-    let mut scratch = Scratch::new(alloc);
-    let mut reader = Reader::new(object, &mut scratch)?;
+/// The offset of the value of an object's last member of a name, from the object's begin on.
+fn last_named(reader: &mut Reader<'_>, most: usize, name: &str) -> Option<usize> {
     let mut found = None;
     if !matches!(reader.next(), Some(Token::BeginObject)) {
-        return Ok(None);
+        return None;
     }
-    for _ in 0..object.len() {
+    for _ in 0..most {
         let Ok(Some(key)) = reader.next_key() else {
             break;
         };
@@ -35,7 +29,31 @@ pub(crate) fn member_offset(
             break;
         }
     }
-    Ok(found)
+    found
+}
+
+/// The offset of a member's value in an object; of a name that is repeated the last counts.
+pub(crate) fn member_offset(
+    alloc: Global,
+    object: &str,
+    name: &str,
+) -> Result<Option<usize>, AllocError> {
+    let mut scratch = Scratch::new(alloc);
+    let mut reader = Reader::new(object, &mut scratch)?;
+    Ok(last_named(&mut reader, object.len(), name))
+}
+
+/// The offset of the element of a number, from the array's begin on.
+fn numbered(reader: &mut Reader<'_>, index: usize) -> Option<usize> {
+    if !matches!(reader.next(), Some(Token::BeginArray)) {
+        return None;
+    }
+    for _ in 0..index {
+        if reader.skip_value(DEPTH).is_err() {
+            return None;
+        }
+    }
+    Some(reader.offset())
 }
 
 /// The offset of an element in an array.
@@ -46,15 +64,7 @@ pub(crate) fn element_offset(
 ) -> Result<Option<usize>, AllocError> {
     let mut scratch = Scratch::new(alloc);
     let mut reader = Reader::new(array, &mut scratch)?;
-    if !matches!(reader.next(), Some(Token::BeginArray)) {
-        return Ok(None);
-    }
-    for _ in 0..index {
-        if reader.skip_value(DEPTH).is_err() {
-            return Ok(None);
-        }
-    }
-    Ok(Some(reader.offset()))
+    Ok(numbered(&mut reader, index))
 }
 
 /// A member's name, and the offset of its quote.
@@ -64,15 +74,17 @@ pub(crate) struct Name {
     pub(crate) at: usize,
 }
 
-/// The names of an object's members, in its order.
-pub(crate) fn member_names(alloc: Global, object: &str) -> Result<Vec<Name>, AllocError> {
-    let mut scratch = Scratch::new(alloc);
-    let mut reader = Reader::new(object, &mut scratch)?;
-    let mut names = Vec::new(alloc);
+/// Adds the names of an object's members from its begin on.
+fn push_members(
+    alloc: Global,
+    reader: &mut Reader<'_>,
+    most: usize,
+    names: &mut Vec<Name>,
+) -> Result<(), AllocError> {
     if !matches!(reader.next(), Some(Token::BeginObject)) {
-        return Ok(names);
+        return Ok(());
     }
-    for _ in 0..object.len() {
+    for _ in 0..most {
         let at = reader.offset();
         let Ok(Some(key)) = reader.next_key() else {
             break;
@@ -83,5 +95,14 @@ pub(crate) fn member_names(alloc: Global, object: &str) -> Result<Vec<Name>, All
             break;
         }
     }
+    Ok(())
+}
+
+/// The names of an object's members, in its order.
+pub(crate) fn member_names(alloc: Global, object: &str) -> Result<Vec<Name>, AllocError> {
+    let mut scratch = Scratch::new(alloc);
+    let mut reader = Reader::new(object, &mut scratch)?;
+    let mut names = Vec::new(alloc);
+    push_members(alloc, &mut reader, object.len(), &mut names)?;
     Ok(names)
 }
