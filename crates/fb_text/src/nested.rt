@@ -15,7 +15,7 @@ use fb_layout::Layout;
 use fb_schema::{Kind, Shape, TypeId};
 
 /// A struct in another, or that one itself, and which of its fields is printed next.
-#[derive(Clone, Copy)]
+#[derive(Drop)]
 pub(crate) struct StructCursor<S> {
     pub structure: TypeId,
     pub shown: S,
