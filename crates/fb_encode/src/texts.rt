@@ -9,7 +9,7 @@ ghost use Rattle.fb_encode.specs.TextsEncoded.{IsTextEncoded, IsTextNoted, IsUnr
 use crate::excerpts::{TextWalk, note_excerpt};
 use crate::faults::{EncodeFault, TextFault};
 use crate::reader::{Excerpt, MOST_BRACKETS, Reader, Unread};
-use crate::trees::{drop_tape, lay_noted, note_root};
+use crate::trees::{lay_noted, note_root};
 use fb_build::Noting;
 use fb_json::{JsonFault, Place, Source, first_fault_refuses, only_what_is_meant};
 use fb_layout::Layout;
@@ -89,18 +89,10 @@ fn note_in_pieces<'l>(
         noting: Noting::new(source.alloc, source.layout),
         reader,
     };
-    let noted = note_pieces(source, &mut walk, json, limits);
-    let tape = walk.into_tape();
-    match noted {
-        Some(Ok(())) => Some(Ok(tape)),
-        Some(Err(fault)) => {
-            drop_tape(tape);
-            Some(Err(fault))
-        }
-        None => {
-            drop_tape(tape);
-            None
-        }
+    match note_pieces(source, &mut walk, json, limits) {
+        Some(Ok(())) => Some(Ok(walk.into_tape())),
+        Some(Err(fault)) => Some(Err(fault)),
+        None => None,
     }
 }
 

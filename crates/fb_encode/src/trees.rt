@@ -47,19 +47,10 @@ pub(crate) fn note_root<'l>(
     let levels = limits.most_depth();
     let cells = limits.most_cells();
     let mut noting = noting;
-    let noted = note_object(source, &mut noting, tree, root, place, levels, cells);
+    let _left = note_object(source, &mut noting, tree, root, place, levels, cells)?;
     let Noting { tape, .. } = noting;
-    match noted {
-        Ok(_left) => Ok(tape),
-        Err(fault) => {
-            drop_tape(tape);
-            Err(fault)
-        }
-    }
+    Ok(tape)
 }
-
-/// Drops a tape. It has many parts, and a function that has other values too is dear to prove where it drops each.
-pub(crate) fn drop_tape(_tape: Tape<'_>) {}
 
 /// The bytes of the value that is noted on a tape, as the root's; the count of those of a `prefixed` buffer is
 /// in front.

@@ -17,7 +17,6 @@ const FEWEST_COLUMNS: usize = 48;
 /// Lines that are wrapped at spaces; of what they are made, each byte that isn't UTF-8 is escaped.
 ///
 /// Once memory ran out nothing is added any more.
-#[derive(Drop)]
 pub struct Page {
     alloc: Global,
     /// Where lines are wrapped.
@@ -27,6 +26,19 @@ pub struct Page {
     line: String,
     /// The first growth that was refused.
     failed: Option<AllocError>,
+}
+
+// Written out, so that a proof has one step where a value falls out of scope, and not one for each of its parts.
+impl Drop for Page {
+    fn drop(self) {
+        let Self {
+            alloc: _,
+            columns: _,
+            lines: _,
+            line: _,
+            failed: _,
+        } = self;
+    }
 }
 
 /// How many columns a character takes as it is shown, or so many bytes that are none.
@@ -116,9 +128,16 @@ impl Page {
     pub fn into_text(self) -> Result<String, AllocError>
         ensures plain { IfOk result (λ text. IsPage (chars (string_bytes text))) }
     {
-        match self.failed {
+        let Self {
+            alloc: _,
+            columns: _,
+            lines,
+            line: _,
+            failed,
+        } = self;
+        match failed {
             Some(error) => Err(error),
-            None => self.lines.into_text(),
+            None => lines.into_text(),
         }
     }
 

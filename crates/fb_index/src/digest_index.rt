@@ -18,11 +18,17 @@ type Keys = IndexMap<u32, (), HashKey>;
 ///
 /// Places are counted from 0 in the order in which the byte strings came. It keeps no bytes: whoever looks one up
 /// compares it at the places at which it can be. Equal digests cost a comparison more each, and change no result.
-#[derive(Drop)]
 pub struct DigestIndex {
     // of the byte string at each place its digest, or the first number behind it that was free
     keys: Keys,
     seen: ByteStrings,
+}
+
+// Written out, so that a proof has one step where a value falls out of scope, and not one for each of its parts.
+impl Drop for DigestIndex {
+    fn drop(self) {
+        let Self { keys: _, seen: _ } = self;
+    }
 }
 
 impl Model for DigestIndex {

@@ -28,7 +28,6 @@ const AT_A_TIME: u32 = 64;
 /// What the bytes of a buffer are, in their order.
 ///
 /// Each part is listed once for each type that it is reached as, however many references lead to it.
-#[derive(Drop)]
 pub struct Listing<'a> {
     alloc: Global,
     layout: &'a Layout,
@@ -47,6 +46,26 @@ pub struct Listing<'a> {
     vtable: Option<u32>,
     // each byte is in a piece
     ghost whole: { ∥ CoversBelow pieces.items (min (length bytes.now) 4294967295) ∥₁ },
+}
+
+// Written out, so that a proof has one step where a value falls out of scope, and not one for each of its parts.
+impl Drop for Listing<'_> {
+    fn drop(self) {
+        let Self {
+            alloc: _,
+            layout: _,
+            bytes: _,
+            nodes: _,
+            pieces: _,
+            fault: _,
+            way_back: _,
+            has_path: _,
+            next: _,
+            detail: _,
+            covered: _,
+            vtable: _,
+        } = self;
+    }
 }
 
 /// Notes the pieces of a buffer's front: a count, the reference to the root, and the identifier.

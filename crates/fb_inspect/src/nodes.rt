@@ -2,7 +2,7 @@
 use fb_index::HashKey;
 use fb_read::{Part, Step};
 use fb_schema::{Kind, TypeId};
-use indexmap::IndexSet;
+use indexmap::IndexMap;
 use std::alloc::{AllocError, Global};
 
 /// What a part is reached as.
@@ -58,10 +58,16 @@ pub(crate) struct Node {
 }
 
 /// The parts that were reached so far, by number.
-#[derive(Drop)]
 pub(crate) struct Nodes {
-    keys: IndexSet<(u32, (u8, u64)), HashKey>,
+    keys: IndexMap<(u32, (u8, u64)), (), HashKey>,
     nodes: Vec<Node>,
+}
+
+// Written out, so that a proof has one step where a value falls out of scope, and not one for each of its parts.
+impl Drop for Nodes {
+    fn drop(self) {
+        let Self { keys: _, nodes: _ } = self;
+    }
 }
 
 // Each step but a reference's takes two characters of a path at least.
@@ -71,7 +77,7 @@ impl Nodes {
     /// None yet; the key is that of a hash of positions.
     pub(crate) fn new(alloc: Global, key: HashKey) -> Nodes {
         Nodes {
-            keys: IndexSet::with_hasher(alloc, key),
+            keys: IndexMap::with_hasher(alloc, key),
             nodes: Vec::new(alloc),
         }
     }
@@ -88,9 +94,10 @@ impl Nodes {
         counts: bool,
     ) -> Result<(u32, bool), AllocError> {
         let (parent, number) = from;
-        let Ok((index, is_new)) = self.keys.insert_full((at, lead.key())) else {
+        let Ok((index, known)) = self.keys.insert_full((at, lead.key()), ()) else {
             return Err(AllocError);
         };
+        let is_new = known.is_none();
         if is_new {
             let node = Node {
                 lead,

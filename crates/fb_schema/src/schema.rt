@@ -24,7 +24,6 @@ use std::marker::Model;
 ///
 /// A look-up by a name takes a few steps, however many names there are. One by a number takes as many as
 /// the number of values has digits in base 2, at most. Neither takes memory. Each name is held once.
-#[derive(Drop)]
 pub struct Schema {
     types: Vec<TypeInfo>,
     root: TypeId,
@@ -33,6 +32,21 @@ pub struct Schema {
     full_names: NameIndex,
     inner_names: Vec<NameIndex>,
     inner_numbers: Vec<NumberIndex>,
+}
+
+// Written out, so that a proof has one step where a value falls out of scope, and not one for each of its parts.
+impl Drop for Schema {
+    fn drop(self) {
+        let Self {
+            types: _,
+            root: _,
+            identifier: _,
+            key: _,
+            full_names: _,
+            inner_names: _,
+            inner_numbers: _,
+        } = self;
+    }
 }
 
 impl Model for Schema {

@@ -10,11 +10,17 @@ use std::alloc::{AllocError, Global};
 
 /// Paths of words, each with a number; the empty path's is 0, and that of a path without its last
 /// word is the smaller one.
-#[derive(Drop)]
 pub struct PathTree<'t> {
     /// Of each path but the empty one the number of the path without its last word, and that word.
     // An `IndexSet` would have each crate that makes paths public read half as much of `indexmap` again.
     links: IndexMap<(usize, &'t str), (), HashKey>,
+}
+
+// Written out, so that a proof has one step where a value falls out of scope, and not one for each of its parts.
+impl Drop for PathTree<'_> {
+    fn drop(self) {
+        let Self { links: _ } = self;
+    }
 }
 
 impl<'t> PathTree<'t> {

@@ -24,10 +24,16 @@ impl<'t> Model for Text<'t> {
 }
 
 /// A name of words with dots between them, and the offset of its first word.
-#[derive(Drop)]
 pub struct DottedName<'t> {
     pub(crate) text: CowStr<'t>,
     pub(crate) at: u64,
+}
+
+// Written out, so that a proof has one step where a value falls out of scope, and not one for each of its parts.
+impl Drop for DottedName<'_> {
+    fn drop(self) {
+        let Self { text: _, at: _ } = self;
+    }
 }
 
 impl<'t> Model for DottedName<'t> {
@@ -260,11 +266,21 @@ pub enum Declaration<'t> {
 }
 
 /// What a schema text declares, in its order.
-#[derive(Drop)]
 pub struct Decls<'t> {
     pub(crate) declarations: Vec<Declaration<'t>>,
     pub(crate) text_len: u64,
     pub(crate) key: HashKey,
+}
+
+// Written out, so that a proof has one step where a value falls out of scope, and not one for each of its parts.
+impl Drop for Decls<'_> {
+    fn drop(self) {
+        let Self {
+            declarations: _,
+            text_len: _,
+            key: _,
+        } = self;
+    }
 }
 
 impl<'t> Model for Decls<'t> {

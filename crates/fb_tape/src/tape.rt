@@ -52,7 +52,6 @@ const FIRST_BYTES: usize = 512;
 /// What is to be laid of a value, operation by operation, in the order of laying: a part comes behind all that it
 /// refers to. Once the parts are too big for a buffer together nothing more is noted, and only their rooms are summed
 /// up.
-#[derive(Drop)]
 pub struct Tape<'l> {
     layout: &'l Layout,
     ops: Vec<Op>,
@@ -64,6 +63,22 @@ pub struct Tape<'l> {
     // for one table at a time
     offsets: Offsets,
     room: usize,
+}
+
+// Written out, so that a proof has one step where a value falls out of scope, and not one for each of its parts.
+impl Drop for Tape<'_> {
+    fn drop(self) {
+        let Self {
+            layout: _,
+            ops: _,
+            fields: _,
+            bytes: _,
+            finished: _,
+            vtables: _,
+            offsets: _,
+            room: _,
+        } = self;
+    }
 }
 
 impl<'l> Model for Tape<'l> {

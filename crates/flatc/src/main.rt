@@ -292,30 +292,37 @@ fn do_batch_or_refuse(
     }
 }
 
+/// Does what a line asks for, and returns the status.
+fn do_request(rt: &HostRuntime, request: &Request, words: &[String]) -> u8 {
+    match request {
+        Request::Do(job, explaining) => {
+            do_and_report(rt, job, USUAL, is_explained(rt, *explaining))
+        }
+        Request::DoFormed(job, form, explaining) => {
+            do_and_report(rt, job, *form, is_explained(rt, *explaining))
+        }
+        Request::DoEach(batch, explaining) => {
+            let explained = is_explained(rt, *explaining);
+            do_batch_or_refuse(rt, batch, USUAL, explained, words)
+        }
+        Request::DoEachFormed(batch, form, explaining) => {
+            do_batch_or_refuse(rt, batch, *form, is_explained(rt, *explaining), words)
+        }
+        Request::DoStream(stream, explaining) => {
+            do_stream(rt, stream, is_explained(rt, *explaining))
+        }
+        Request::Inspect(inspection, explaining) => {
+            inspect(rt, inspection, is_explained(rt, *explaining))
+        }
+        Request::Explain(Some(number)) => explain_number(rt, number.as_str()),
+        Request::Explain(None) => list_numbers(rt),
+    }
+}
+
 /// Does what the words ask for, and returns the status.
 fn run(rt: &HostRuntime, words: &[String]) -> u8 {
     match request_of(rt.alloc(), words) {
-        Ok(Request::Do(job, explaining)) => {
-            do_and_report(rt, &job, USUAL, is_explained(rt, explaining))
-        }
-        Ok(Request::DoFormed(job, form, explaining)) => {
-            do_and_report(rt, &job, form, is_explained(rt, explaining))
-        }
-        Ok(Request::DoEach(batch, explaining)) => {
-            let explained = is_explained(rt, explaining);
-            do_batch_or_refuse(rt, &batch, USUAL, explained, words)
-        }
-        Ok(Request::DoEachFormed(batch, form, explaining)) => {
-            do_batch_or_refuse(rt, &batch, form, is_explained(rt, explaining), words)
-        }
-        Ok(Request::DoStream(stream, explaining)) => {
-            do_stream(rt, &stream, is_explained(rt, explaining))
-        }
-        Ok(Request::Inspect(inspection, explaining)) => {
-            inspect(rt, &inspection, is_explained(rt, explaining))
-        }
-        Ok(Request::Explain(Some(number))) => explain_number(rt, number.as_str()),
-        Ok(Request::Explain(None)) => list_numbers(rt),
+        Ok(request) => do_request(rt, &request, words),
         Err(error) => refuse(rt, &error, words),
     }
 }

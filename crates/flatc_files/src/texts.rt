@@ -5,7 +5,6 @@ use std::alloc::AllocError;
 use std::io;
 
 /// What a job has read so far, and why a file couldn't be read or written.
-#[derive(Drop)]
 pub struct Texts<'j> {
     /// The schema text; of `conform` the old one.
     pub schema: Input<'j>,
@@ -15,6 +14,18 @@ pub struct Texts<'j> {
     pub failure: Option<Failure<'j>>,
     /// Whether a refusal is explained, for which an input may be read again.
     is_explained: bool,
+}
+
+// Written out, so that a proof has one step where a value falls out of scope, and not one for each of its parts.
+impl Drop for Texts<'_> {
+    fn drop(self) {
+        let Self {
+            schema: _,
+            input: _,
+            failure: _,
+            is_explained: _,
+        } = self;
+    }
 }
 
 /// A file that couldn't be read or written.

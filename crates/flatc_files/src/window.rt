@@ -14,7 +14,6 @@ const LONGEST: usize = 2_147_483_647;
 const ROOM: usize = 65_536;
 
 /// The bytes of an input that were read and not yet taken, in order.
-#[derive(Drop)]
 pub struct Window {
     stream: Stream,
     /// What was read, up to `end`. Bytes before `start` were taken.
@@ -27,6 +26,20 @@ pub struct Window {
     ghost taken: { start ≤ end },
     ghost read: { end ≤ length bytes.items },
     ghost sought: { searched ≤ end },
+}
+
+// Written out, so that a proof has one step where a value falls out of scope, and not one for each of its parts.
+impl Drop for Window {
+    fn drop(self) {
+        let Self {
+            stream: _,
+            bytes: _,
+            start: _,
+            end: _,
+            searched: _,
+            is_ended: _,
+        } = self;
+    }
 }
 
 impl Window {
