@@ -2,3 +2,4 @@ pub mod Behind
 pub mod PlacesTaken
 pub mod InOrder
 pub mod PathsKept
+pub mod ValuesOfTypes

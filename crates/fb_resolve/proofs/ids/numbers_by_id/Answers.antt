@@ -12,3 +12,9 @@ loop-field-preserved c = record { named = grind (arith, common_steps); numbers =
 
 pub returns-clause-numbers : goal.returns-clause-numbers
 returns-clause-numbers c = grind (arith, common_steps)
+
+pub overflow_add-first : goal.overflow_add-first
+overflow_add-first c = grind (arith, c.in-Some.ensures.room)
+
+pub returns-clause-named : goal.returns-clause-named
+returns-clause-named c = grind (arith, common_steps)

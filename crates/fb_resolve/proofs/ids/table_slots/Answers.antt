@@ -15,3 +15,12 @@ returns-in_ok-sort_by_key-in-ById c =
     (λ a r q k. search rules) in
     placed_by_id fields slots c.sort_by_key.new.self.items
     (grind rules) c.requires read c.sort_by_key.ensures.permutation up
+
+pub push_slots-requires : goal.push_slots-requires
+push_slots-requires c = grind (arith, c.slot_by_id.ensures.room)
+
+pub loop-field-preserved : goal.loop-field-preserved
+loop-field-preserved c = grind (arith, common_steps)
+
+pub loop-field-init : goal.loop-field-init
+loop-field-init c = search rules

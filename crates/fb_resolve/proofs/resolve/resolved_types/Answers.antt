@@ -1,4 +1,4 @@
-use Rattle.std.proofs.Common.{rules, length, ◌≡◌, ◌+◌, ◌∷◌, drop, ap, sym, ◌∙◌, arith}
+use Rattle.std.proofs.Common.{rules, length, ◌≡◌, ◌+◌, ◌∷◌, drop, ap, sym, subst, ◌∙◌, arith}
 use Rattle.std.proofs.lemmas.Grind.{common_steps}
 use Rattle.std.proofs.lemmas.List.{drop_more, length-map}
 use Rattle.fb_resolve.specs.EnumValues.{enum_values_of}
@@ -6,6 +6,7 @@ use Rattle.std.proofs.lemmas.Slice.Zip.{AllZip-long}
 use Rattle.fb_scopes.specs.Scopes.{tree_of, names_of}
 use Rattle.fb_resolve.specs.Paths.{AreNotesOf}
 use Rattle.fb_resolve.proofs.PathsKept.{zip_at}
+use Rattle.fb_resolve.proofs.ValuesOfTypes.{values_at}
 use Rattle.fb_resolve.proofs.resolve.resolved_types.Goals as goal
 
 pub index-notes-requires : goal.index-notes-requires
@@ -46,3 +47,11 @@ loop-number-preserved c =
 
 pub returns : goal.returns
 returns c = grind (arith, common_steps, c.loop-number.invariant.so_far)
+
+pub resolved_declaration-requires-clause-values : goal.resolved_declaration-requires-clause-values
+resolved_declaration-requires-clause-values c =
+    let types = c.args.types.now in
+    let values = c.index-values.result.now in
+    subst (λ r. values ≡ enum_values_of types r) (sym c.read.view_is)
+    (values_at types c.args.names.now.values.items c.loop-number.number c.index-types-number.result values
+    c.requires.values c.loop-number-test.true c.index-types-number.is c.index-values.ensures)

@@ -2,12 +2,18 @@ use Rattle.std.proofs.Common.{refl, rules}
 use Rattle.std.proofs.lemmas.List.{map_push}
 use Rattle.fb_resolve.specs.EnumValues.{enum_values_of}
 use Rattle.std.specs.Option.{option_copied}
+use Rattle.std.proofs.lemmas.Option.{slice_get_within}
 use Rattle.std.proofs.lemmas.Slice.Zip.{all_zipped_more}
+use Rattle.fb_scopes.specs.PathTree.{paths}
 use Rattle.fb_scopes.specs.Words.{words}
 use Rattle.fb_resolve.specs.Outline.{TypeRead, word_of, name_of_type}
 use Rattle.fb_resolve.specs.Paths.{IsPath, AreNotesOf}
 use Rattle.fb_resolve.proofs.PathsKept.{path_inside, placed_grown}
 use Rattle.fb_resolve.proofs.walk.Walk.add_type.Goals as goal
+
+pub insert_words-requires-clause-inside : goal.insert_words-requires-clause-inside
+insert_words-requires-clause-inside c =
+    let w = c.args.self.now in slice_get_within (paths w.tree) w.path _ c.requires.placed.scope
 
 pub returns-clause-placed : goal.returns-clause-placed
 returns-clause-placed c =
@@ -47,3 +53,6 @@ returns-clause-placed c =
 
 pub of-requires : goal.of-requires
 of-requires c = (c.uses_of.new.used, rw c.as_slice.ensures.value c.in_ok-uses.ensures.uses)
+
+pub returns-clause-added : goal.returns-clause-added
+returns-clause-added c = rw c.in_ok-push-4.ensures.items refl
