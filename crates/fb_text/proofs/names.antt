@@ -1,2 +1,3 @@
 -- What the proofs of src/names.rt use.
 pub mod NameAtItsPlace
+pub mod TypeAtItsNumber

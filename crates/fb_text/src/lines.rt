@@ -38,7 +38,6 @@ fn put_blanks<W: Write>(out: &mut Noted<W>, indent: &Indent)
 }
 
 /// Adds a comma, if something is in front, and a new line with its indent, if there are lines.
-#[tactic(auto, using(crate::proofs::noted::PiecesAddUp::added_then))]
 fn put_far_line<W: Write>(out: &mut Noted<W>, indent: &Indent, some: bool)
     ensures { Prints W.contents out.old out.new (line (blanks indent.now) some) }
 {

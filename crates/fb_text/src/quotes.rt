@@ -62,7 +62,6 @@ fn digit(number: u8) -> u8
 }
 
 /// Adds the escape of a byte that isn't written as it is.
-#[tactic(auto, using(crate::proofs::noted::PiecesAddUp::added_then), unfolding(json::specs::Print::escape_byte))]
 fn put_escape<W: Write>(out: &mut Noted<W>, byte: u8)
     requires { is_plain byte ≡ false }
     ensures { Prints W.contents out.old out.new (escape_byte byte) }

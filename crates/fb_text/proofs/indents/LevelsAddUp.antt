@@ -5,7 +5,9 @@ use Rattle.std.specs.Prelude.{codes}
 use Rattle.std.specs.Option.{unwrap_or}
 use Rattle.std.proofs.Math.Seq.{take-append_seam}
 use Rattle.fb_text.specs.Indents.{blanks, deeper, levels_blanks}
-use Rattle.fb_text.specs.declared.indents.Indent.{Indent, Levels, Deeper, Compact, the_lemmas}
+use Rattle.fb_text.specs.declared.indents.Indent.{Indent, Levels, Deeper, Compact, Indent-F, out-Indent, roll-Indent}
+use Rattle.fb_text.specs.declared.indents.Indent.{roll-out-Indent, the_lemmas}
+use Rattle.fb_text.specs.declared.indents.Indent.TheVariants.{rolls-Levels, rolls-Deeper, rolls-Compact}
 use Rattle.fb_text.specs.Texts.{inside}
 
 -- one level more behind others or in front of them
@@ -60,3 +62,12 @@ blanks_deeper outer n = search (rules, the_lemmas)
 
 pub blanks_compact : blanks Compact ≡ None
 blanks_compact = search (rules, the_lemmas)
+
+-- All but the compact one have lines.
+pub lines_of : (indent : Indent) → (indent ≡ Compact → ⊥) → blanks indent ≡ Some (unwrap_or (blanks indent) [])
+lines_of indent far = by (out-Indent indent) (roll-out-Indent indent)
+  where
+    by : (o : Indent-F Indent) → roll-Indent o ≡ indent → blanks indent ≡ Some (unwrap_or (blanks indent) [])
+    by (Indent-F.Levels n) is = rw (← is, rolls-Levels n, blanks_levels n) refl
+    by (Indent-F.Deeper outer n) is = rw (← is, rolls-Deeper outer n, blanks_deeper outer n) refl
+    by Indent-F.Compact is = absurd (far (sym is ∙ rolls-Compact))

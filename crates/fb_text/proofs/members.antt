@@ -1,0 +1,2 @@
+-- What the proofs of src/members.rt use.
+pub mod UnionHasACode
