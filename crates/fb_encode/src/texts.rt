@@ -89,8 +89,10 @@ fn note_in_pieces<'l>(
         noting: Noting::new(source.alloc, source.layout),
         reader,
     };
-    match note_pieces(source, &mut walk, json, limits) {
-        Some(Ok(())) => Some(Ok(walk.into_tape())),
+    let noted = note_pieces(source, &mut walk, json, limits);
+    let tape = walk.into_tape();
+    match noted {
+        Some(Ok(())) => Some(Ok(tape)),
         Some(Err(fault)) => Some(Err(fault)),
         None => None,
     }

@@ -47,9 +47,12 @@ pub(crate) fn note_root<'l>(
     let levels = limits.most_depth();
     let cells = limits.most_cells();
     let mut noting = noting;
-    let _left = note_object(source, &mut noting, tree, root, place, levels, cells)?;
+    let noted = note_object(source, &mut noting, tree, root, place, levels, cells);
     let Noting { tape, .. } = noting;
-    Ok(tape)
+    match noted {
+        Ok(_left) => Ok(tape),
+        Err(fault) => Err(fault),
+    }
 }
 
 /// The bytes of the value that is noted on a tape, as the root's; the count of those of a `prefixed` buffer is
