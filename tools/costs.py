@@ -3,9 +3,10 @@
 
 usage: tools/costs.py CRATE [--test] [--lines N]
 
-The crates below are proved first, as tools/build.py does. Then one job checks the crate from nothing. The prover writes a file for each module that it has checked, so the time between two files is what
-the second one took, by the clock. Prints the seconds by kind of module, by function, and of single modules, N lines of
-each. With --test the crate's tests are checked too.
+The crates below are proved first, as tools/build.py does. Then one job checks the crate from nothing. The prover writes
+a file for each module that it has checked, so the time between two files is what the second one took, by the clock.
+Prints the seconds by kind of module, by function, and of single modules, N lines of each. With --test the crate's tests
+are checked too.
 
 The kinds that matter: Lts is the model of a function's body, and grows with its statements, and with how many values
 live across them. Proof has the goals that no answer is written for, which tactics look for. Answers has those that

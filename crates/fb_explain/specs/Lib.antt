@@ -1,2 +1,3 @@
+pub mod FoundInText
 pub use Rattle.fb_explain_pages.specs.Lines
 pub use Rattle.fb_explain_pages.specs.Positions

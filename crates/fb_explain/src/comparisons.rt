@@ -1,9 +1,9 @@
 //! Two schema texts that were compared.
+use crate::declared::declarations_of;
 use crate::memory::layout_of;
 use crate::places::Places;
 use crate::sides::{Side, Sides};
 use fb_explain_pages::{Page, Source};
-use fb_explain_schema::declared::declarations_of;
 use fb_layout::Layout;
 use fb_schema::Schema;
 

@@ -5,13 +5,13 @@ ghost use Rattle.fb_explain_pages.specs.Lines.{IsPage};
 
 use crate::comparisons::{Asked, push_comparison};
 use crate::memory::{layout_of, memory_use};
+use crate::schema_faults::push_schema_fault;
 use fb_build::BuildFault;
 use fb_explain_inputs::{
     FileFailure, Lost, Sources, push_bad_json, push_buffer_fault, push_json_fault,
     push_unnamed_member,
 };
 use fb_explain_pages::{Page, Source};
-use fb_explain_schema::push_schema_fault;
 use fb_faults::ToolFault;
 use fb_text::{TextFault, WriteFault};
 use std::alloc::{AllocError, Global};

@@ -1,13 +1,16 @@
 //! What is wrong and where, in sentences for people.
 #![tactic(auto)]
 
+mod bad_defaults;
 mod breach_fields;
 mod breach_lines;
 mod comparisons;
+mod declared;
 mod explanations;
 mod memory;
 mod moved_names;
 mod places;
+mod schema_faults;
 mod shifts;
 mod sides;
 

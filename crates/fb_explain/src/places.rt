@@ -1,6 +1,6 @@
 //! Where a schema text declares its types and fields, by number and slot.
+use crate::declared::{fields_of, name_of, type_in};
 use fb_explain_pages::LineStarts;
-use fb_explain_schema::declared::{fields_of, name_of, type_in};
 use fb_explain_words::shapes;
 use fb_schema::{FieldInfo, Kind, Schema, Shape, TypeId};
 use fb_syntax::{Decls, TypeDecl};

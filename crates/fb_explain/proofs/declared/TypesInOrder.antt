@@ -8,7 +8,7 @@ use Rattle.fb_syntax.specs.declared.declarations.Declaration.{Declaration}
 use Rattle.fb_syntax.specs.declared.declarations.Declaration.TheVariants as declarations
 use Rattle.fb_schema.specs.Schema.{Name}
 use Rattle.fb_resolve.specs.Outline.{types_in, scope_named}
-use Rattle.fb_explain_schema.specs.FoundInText.{types_of, type_of}
+use Rattle.fb_explain.specs.FoundInText.{types_of, type_of}
 
 -- which types there are doesn't depend on the namespace in force
 any_scope : (scope : Option Name) (ds : List Declaration) → map (λ r. r.declaration) (types_in scope ds) ≡ types_of ds

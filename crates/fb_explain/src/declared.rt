@@ -4,8 +4,8 @@ ghost use Rattle.std.specs.Option.{option_copied, option_map};
 ghost use Rattle.std.specs.List.{find, list_any, flat_map};
 ghost use Rattle.fb_resolve.specs.Outline.{word_of};
 ghost use Rattle.fb_declare.specs.FaultRows.{default_at};
-ghost use Rattle.fb_explain_schema.specs.FoundInText.{types_of, type_of, fields_of, has_default_at};
-ghost use Rattle.fb_explain_schema.specs.FoundInText.{is_struct_with, is_member_at, is_union_with};
+ghost use Rattle.fb_explain.specs.FoundInText.{types_of, type_of, fields_of, has_default_at};
+ghost use Rattle.fb_explain.specs.FoundInText.{is_struct_with, is_member_at, is_union_with};
 
 use fb_explain_pages::Page;
 use fb_explain_words::words::last_word;
@@ -16,7 +16,7 @@ use fb_syntax::{
 use std::alloc::{AllocError, Global};
 
 /// The declarations of a text; `None` where it has none, or memory runs out, which the page notes.
-pub fn declarations_of<'t>(page: &mut Page, text: &'t [u8]) -> Option<Decls<'t>> {
+pub(crate) fn declarations_of<'t>(page: &mut Page, text: &'t [u8]) -> Option<Decls<'t>> {
     match parse(page.alloc(), text) {
         Ok(decls) => Some(decls),
         Err(SyntaxFault::Memory) => {
@@ -28,7 +28,7 @@ pub fn declarations_of<'t>(page: &mut Page, text: &'t [u8]) -> Option<Decls<'t>>
 }
 
 /// The type that is declared.
-pub fn type_in<'d, 't>(declaration: &'d Declaration<'t>) -> Option<&'d TypeDecl<'t>>
+pub(crate) fn type_in<'d, 't>(declaration: &'d Declaration<'t>) -> Option<&'d TypeDecl<'t>>
     ensures { option_copied result ≡ type_of declaration.now }
 {
     match declaration {
@@ -54,7 +54,7 @@ pub(crate) fn type_at<'d, 't>(decls: &'d Decls<'t>, number: u64) -> Option<&'d T
 }
 
 /// A type's name as it is declared, and the name's offset.
-pub fn name_of<'d>(declared: &'d TypeDecl<'_>) -> (&'d str, u64)
+pub(crate) fn name_of<'d>(declared: &'d TypeDecl<'_>) -> (&'d str, u64)
     ensures { record { bytes = result.0.now; at = result.1 } ≡ word_of declared.now }
 {
     let name = word_of(declared);
@@ -62,7 +62,7 @@ pub fn name_of<'d>(declared: &'d TypeDecl<'_>) -> (&'d str, u64)
 }
 
 /// The fields of a table or struct, in the order of the text.
-pub fn fields_of<'d, 't>(declared: &'d TypeDecl<'t>) -> &'d [Field<'t>]
+pub(crate) fn fields_of<'d, 't>(declared: &'d TypeDecl<'t>) -> &'d [Field<'t>]
     ensures { result.now ≡ fields_of declared.now }
 {
     match declared {

@@ -5,7 +5,7 @@ use Rattle.std.specs.List.{find, flat_map}
 use Rattle.std.proofs.lemmas.List.Folds.{find-append}
 use Rattle.fb_syntax.specs.FieldRead.{FieldRead}
 use Rattle.fb_syntax.specs.declared.declarations.TypeDecl.{TypeDecl}
-use Rattle.fb_explain_schema.specs.FoundInText.{fields_of}
+use Rattle.fb_explain.specs.FoundInText.{fields_of}
 
 pub field_here : (test : FieldRead → Bool) (types rest : List TypeDecl) (t : TypeDecl) (found : Option FieldRead)
     → types ≡ t ∷ rest

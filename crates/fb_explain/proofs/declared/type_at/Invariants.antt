@@ -1,6 +1,6 @@
 use Rattle.std.proofs.Common.{◌≡◌, drop, slice_get}
-use Rattle.fb_explain_schema.specs.FoundInText.{types_of}
-use Rattle.fb_explain_schema.proofs.declared.type_at.Given as goal
+use Rattle.fb_explain.specs.FoundInText.{types_of}
+use Rattle.fb_explain.proofs.declared.type_at.Given as goal
 
 abbrev pub invariant-loop-declaration : goal.invariant-loop-declaration
 invariant-loop-declaration l =

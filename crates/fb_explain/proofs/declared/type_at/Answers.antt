@@ -1,9 +1,9 @@
 use Rattle.std.proofs.Common.{◌+◌, drop, slice_get, ap, sym, ◌∙◌}
 use Rattle.std.specs.Option.{option_copied}
-use Rattle.fb_explain_schema.specs.FoundInText.{types_of}
-use Rattle.fb_explain_schema.proofs.declared.TypesInOrder.{type_here, no_type_here, later_type}
-use Rattle.fb_explain_schema.proofs.declared.type_at.Goals as goal
-use Rattle.fb_explain_schema.proofs.declared.type_at.Goals.{in-Some+else-left-eq0, in_default}
+use Rattle.fb_explain.specs.FoundInText.{types_of}
+use Rattle.fb_explain.proofs.declared.TypesInOrder.{type_here, no_type_here, later_type}
+use Rattle.fb_explain.proofs.declared.type_at.Goals as goal
+use Rattle.fb_explain.proofs.declared.type_at.Goals.{in-Some+else-left-eq0, in_default}
 
 pub loop-declaration-preserved : goal.loop-declaration-preserved
 loop-declaration-preserved c =

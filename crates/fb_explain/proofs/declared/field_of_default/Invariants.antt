@@ -1,7 +1,7 @@
 use Rattle.std.proofs.Common.{◌≡◌, drop}
 use Rattle.std.specs.List.{find, flat_map}
-use Rattle.fb_explain_schema.specs.FoundInText.{types_of, fields_of, has_default_at}
-use Rattle.fb_explain_schema.proofs.declared.field_of_default.Given as goal
+use Rattle.fb_explain.specs.FoundInText.{types_of, fields_of, has_default_at}
+use Rattle.fb_explain.proofs.declared.field_of_default.Given as goal
 
 abbrev pub invariant-loop-declaration : goal.invariant-loop-declaration
 invariant-loop-declaration l =

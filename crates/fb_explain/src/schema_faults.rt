@@ -221,7 +221,7 @@ fn push_layout_fault(page: &mut Page, source: &Source<'_>, fault: LayoutFault) {
 }
 
 /// Adds what is wrong with a schema text.
-pub fn push_schema_fault(page: &mut Page, source: &Source<'_>, fault: SchemaTextFault) {
+pub(crate) fn push_schema_fault(page: &mut Page, source: &Source<'_>, fault: SchemaTextFault) {
     match (fault, fault.offset()) {
         (SchemaTextFault::Syntax(fault), Some(offset)) => {
             push_unparsed(page, source, offset, fault)

@@ -1,11 +1,11 @@
 use Rattle.std.proofs.Common.{◌+◌, drop, ap, sym, ◌∙◌}
 use Rattle.std.specs.Option.{option_copied, option_or}
 use Rattle.std.specs.List.{find, flat_map}
-use Rattle.fb_explain_schema.specs.FoundInText.{types_of, fields_of, has_default_at}
-use Rattle.fb_explain_schema.proofs.declared.TypesInOrder.{type_here, no_type_here}
-use Rattle.fb_explain_schema.proofs.declared.FieldsInOrder.{field_here}
-use Rattle.fb_explain_schema.proofs.declared.field_of_default.Goals as goal
-use Rattle.fb_explain_schema.proofs.declared.field_of_default.Goals.{in-Some+in_default-field_with_default, in_default}
+use Rattle.fb_explain.specs.FoundInText.{types_of, fields_of, has_default_at}
+use Rattle.fb_explain.proofs.declared.TypesInOrder.{type_here, no_type_here}
+use Rattle.fb_explain.proofs.declared.FieldsInOrder.{field_here}
+use Rattle.fb_explain.proofs.declared.field_of_default.Goals as goal
+use Rattle.fb_explain.proofs.declared.field_of_default.Goals.{in-Some+in_default-field_with_default, in_default}
 
 pub returns-in-Some-field_with_default : goal.returns-in-Some-field_with_default
 returns-in-Some-field_with_default c =
