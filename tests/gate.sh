@@ -18,6 +18,8 @@ status=0
 # runs the last and largest crates one after another.
 RT_JOBS=${RT_JOBS:-$(cd tools && python3 -c 'import build; print(build.jobs_here())')}
 export RT_JOBS
+# As in tools/build.py.
+export MIMALLOC_PURGE_DELAY=${MIMALLOC_PURGE_DELAY:--1}
 
 # What rt check left there would be put back behind rt ci, and what follows would be built over it.
 rm -rf crates/*/out/rlib

@@ -25,8 +25,8 @@ MEMORY_OF_A_JOB = 4_000_000_000
 # More jobs in one crate read the same libraries again and again.
 MOST_JOBS_OF_A_CRATE = 3
 PARTS = ("src", "specs", "proofs", "c")
-# The prover's allocator keeps what is freed. To give it back and get it again is a third of all page faults.
-ENVIRONMENT = os.environ | {"MIMALLOC_PURGE_DELAY": "-1"}
+# The prover's allocator keeps what is freed: to give it back and get it again was half of all page faults.
+os.environ.setdefault("MIMALLOC_PURGE_DELAY", "-1")
 
 
 def read_crates():
@@ -154,7 +154,7 @@ class Proof:
         self.go_on()
 
     def go_on(self):
-        how = {"stdin": subprocess.DEVNULL, "stdout": self.log, "stderr": subprocess.STDOUT, "env": ENVIRONMENT}
+        how = {"stdin": subprocess.DEVNULL, "stdout": self.log, "stderr": subprocess.STDOUT}
         where = f"{ROOT}/crates/{self.name}"
         self.child = subprocess.Popen(self.commands.pop(0), cwd=where, start_new_session=True, **how)
 

@@ -181,10 +181,11 @@ pub(crate) fn value_names<'d>(
     decls: &'d Decls<'_>,
     name: &str,
 ) -> Result<Vec<&'d str>, AllocError> {
+    let wanted = last_word(name);
     let mut names = Vec::new(alloc);
     for declaration in decls.declarations() {
         if let Declaration::Type(TypeDecl::Enum(declared)) = declaration
-            && declared.name.text == last_word(name)
+            && declared.name.text == wanted
         {
             for value in declared.values.iter() {
                 names.push(value.name.text)?;

@@ -60,7 +60,6 @@ impl Places {
         decls: &Decls<'_>,
         schema: &Schema,
     ) -> Result<Places, AllocError> {
-        let starts = LineStarts::of(alloc, text)?;
         let mut types = Vec::new(alloc);
         for declaration in decls.declarations() {
             if let Some(declared) = type_in(declaration) {
@@ -68,7 +67,10 @@ impl Places {
                 types.push(places_of(alloc, declared, schema, number)?)?;
             }
         }
-        Ok(Places { starts, types })
+        Ok(Places {
+            starts: LineStarts::of(alloc, text)?,
+            types,
+        })
     }
 
     /// The line in which a type is named.
