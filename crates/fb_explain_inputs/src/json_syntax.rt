@@ -69,6 +69,42 @@ fn begins_a_value(byte: u8) -> bool {
     matches!(byte, b'"' | b'{' | b'[' | b'-' | b'_') || byte.is_ascii_alphanumeric()
 }
 
+const COMMA_BEFORE_BRACKET: &str = "a comma may not be before a closing bracket";
+
+const NO_NAME: &str = "a name in double quotes is missing before this";
+
+/// What is wrong where a value must be.
+fn value_sentence(text: &str, at: usize, byte: u8, behind_comma: bool) -> &'static str {
+    match byte {
+        b']' | b'}' if behind_comma => COMMA_BEFORE_BRACKET,
+        b']' | b'}' | b',' | b':' => "a value is missing before this",
+        _ => sentence_of(text, at),
+    }
+}
+
+/// Where the text, number or word ends that is at an offset.
+fn value_end(text: &str, at: usize, byte: u8, behind_comma: bool) -> Result<usize, Flaw> {
+    match byte {
+        b'"' => string_end(text, at),
+        b'-' | b'0'..=b'9' => number_end(text, at),
+        b'a'..=b'z' | b'A'..=b'Z' | b'_' => word_end(text, at),
+        _ => Err(Flaw::at(at, value_sentence(text, at, byte, behind_comma))),
+    }
+}
+
+/// What is wrong where a member's name must be.
+fn name_sentence(text: &str, at: usize, byte: u8, behind_comma: bool) -> &'static str {
+    match byte {
+        b']' | b'}' if behind_comma => COMMA_BEFORE_BRACKET,
+        b']' | b',' | b':' => NO_NAME,
+        _ if byte == b'_' || byte.is_ascii_alphabetic() => {
+            "a name is written in double quotes, and so is a text"
+        }
+        _ if begins_a_value(byte) => NO_NAME,
+        _ => sentence_of(text, at),
+    }
+}
+
 impl Scan {
     fn refused(self, sentence: &'static str) -> Result<Scan, Flaw> {
         Err(Flaw::at(self.at, sentence))
@@ -104,18 +140,9 @@ impl Scan {
     /// Passes a value, or the bracket that opens one.
     fn value(self, text: &str, byte: u8, behind_comma: bool) -> Result<Scan, Flaw> {
         match byte {
-            b'"' => self.behind(string_end(text, self.at)?, Next::Rest),
             b'{' => self.opened(true, Next::FirstName),
             b'[' => self.opened(false, Next::FirstElement),
-            b'-' | b'0'..=b'9' => self.behind(number_end(text, self.at)?, Next::Rest),
-            b'a'..=b'z' | b'A'..=b'Z' | b'_' => {
-                self.behind(word_end(text, self.at)?, Next::Rest)
-            }
-            b']' | b'}' if behind_comma => {
-                self.refused("a comma may not be before a closing bracket")
-            }
-            b']' | b'}' | b',' | b':' => self.refused("a value is missing before this"),
-            _ => self.refused(sentence_of(text, self.at)),
+            _ => self.behind(value_end(text, self.at, byte, behind_comma)?, Next::Rest),
         }
     }
 
@@ -123,16 +150,7 @@ impl Scan {
     fn name(self, text: &str, byte: u8, behind_comma: bool) -> Result<Scan, Flaw> {
         match byte {
             b'"' => self.behind(string_end(text, self.at)?, Next::Colon),
-            b']' | b'}' if behind_comma => {
-                self.refused("a comma may not be before a closing bracket")
-            }
-            b'a'..=b'z' | b'A'..=b'Z' | b'_' => {
-                self.refused("a name is written in double quotes, and so is a text")
-            }
-            b'0'..=b'9' | b'-' | b'{' | b'[' | b']' | b',' | b':' => {
-                self.refused("a name in double quotes is missing before this")
-            }
-            _ => self.refused(sentence_of(text, self.at)),
+            _ => self.refused(name_sentence(text, self.at, byte, behind_comma)),
         }
     }
 

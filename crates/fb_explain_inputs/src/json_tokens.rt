@@ -177,16 +177,26 @@ pub(crate) fn number_end(text: &str, at: usize) -> Result<usize, Flaw> {
     }
 }
 
+const WORDS: &[&str] = &["true", "false", "null"];
+
+const WITH_CAPITALS: &[&str] = &["True", "False", "Null", "TRUE", "FALSE", "NULL"];
+
+const ABSENT: &[&str] = &["None", "nil", "undefined"];
+
+const NOT_FINITE: &[&str] = &["NaN", "nan", "Infinity", "inf"];
+
 /// What is wrong with a word.
 fn word_sentence(word: &str) -> Option<&'static str> {
-    match word {
-        "true" | "false" | "null" => None,
-        "True" | "False" | "Null" | "TRUE" | "FALSE" | "NULL" => {
-            Some("true, false and null are written in small letters")
-        }
-        "None" | "nil" | "undefined" => Some("what is absent is written null"),
-        "NaN" | "nan" | "Infinity" | "inf" => Some("JSON has no NaN and no Infinity"),
-        _ => Some("a word may only be true, false or null; a text is written in double quotes"),
+    if WORDS.contains(&word) {
+        None
+    } else if WITH_CAPITALS.contains(&word) {
+        Some("true, false and null are written in small letters")
+    } else if ABSENT.contains(&word) {
+        Some("what is absent is written null")
+    } else if NOT_FINITE.contains(&word) {
+        Some("JSON has no NaN and no Infinity")
+    } else {
+        Some("a word may only be true, false or null; a text is written in double quotes")
     }
 }
 
