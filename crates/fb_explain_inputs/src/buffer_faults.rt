@@ -10,10 +10,7 @@ use fb_value::{Limits, ReadFault, front_of};
 
 /// The bytes of a number at an offset.
 fn word_at(bytes: &[u8], offset: usize) -> Option<[u8; 4]> {
-    match bytes.get(offset..)? {
-        [a, b, c, d, ..] => Some([*a, *b, *c, *d]),
-        _ => None,
-    }
+    bytes.get(offset..)?.first_chunk::<4>().copied()
 }
 
 /// Adds texts, each with a number behind it, and ends the line behind the last text.
