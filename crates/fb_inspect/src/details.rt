@@ -2,7 +2,7 @@
 use crate::nodes::Lead;
 use crate::notes::{u16_within, u32_within};
 use crate::page_lines::begin_line;
-use crate::parts_shown::slots_held;
+use crate::parts_shown::{push_target, slots_held};
 use crate::paths::{Scene, path_of, push_cut_path};
 use crate::pieces::{Piece, What};
 use crate::values_shown::push_number_at;
@@ -10,7 +10,7 @@ use fb_explain_pages::Page;
 use fb_explain_words::shapes::{field_at, kind_name};
 use fb_layout::kind_in;
 use fb_read::Step;
-use fb_schema::{Kind, Shape, TypeId};
+use fb_schema::{FieldInfo, Kind, Shape, TypeId};
 use std::alloc::AllocError;
 
 /// How many details a piece has.
@@ -33,8 +33,13 @@ pub(crate) fn details_of(scene: Scene<'_>, piece: &Piece) -> u32 {
 
 /// The struct that a slot has.
 fn struct_in(scene: Scene<'_>, table: TypeId, slot: u16) -> Option<TypeId> {
-    match field_at(scene.layout.schema(), table, slot)?.shape {
-        Shape::One(Kind::Struct(structure)) => Some(structure),
+    match field_at(scene.layout.schema(), table, slot) {
+        Some(
+            FieldInfo {
+                shape: Shape::One(Kind::Struct(structure)),
+                ..
+            },
+        ) => Some(*structure),
         _ => None,
     }
 }
@@ -94,73 +99,66 @@ struct OpenStruct {
     path: usize,
 }
 
+/// Leaves a struct open, whose next field is shown.
+fn leave_open(page: &mut Page, open: &mut Vec<OpenStruct>, inner: OpenStruct) {
+    if open.push(inner).is_err() {
+        page.run_out();
+    }
+}
+
 /// Adds a line for each number in a struct, those of the structs in it too.
-fn push_struct(
-    page: &mut Page,
-    scene: Scene<'_>,
-    structure: TypeId,
-    at: usize,
-    path: &mut String,
-) -> Result<(), AllocError> {
+fn push_struct(page: &mut Page, scene: Scene<'_>, structure: TypeId, at: usize, path: &mut String) {
     let mut open = Vec::new(scene.alloc);
-    open.push(OpenStruct {
+    let outer = OpenStruct {
         structure,
         at,
         next: 0,
         path: path.len(),
-    })?;
+    };
+    leave_open(page, &mut open, outer);
     for _ in 0..u64::MAX {
         let Some(inner) = open.pop() else {
-            return Ok(());
+            break;
         };
-        if let Some(further) = push_struct_field(page, scene, &inner, path)? {
-            open.push(OpenStruct {
-                next: inner.next.saturating_add(1),
-                ..inner
-            })?;
-            if let Some(further) = further {
-                open.push(further)?;
-            }
-        }
+        push_struct_field(page, scene, inner, path, &mut open);
     }
-    Ok(())
 }
 
-/// Adds the line of a struct's next field, or returns it where it is a struct; None behind the last one.
+/// Adds the line of a struct's next field, or opens it where it is a struct. Behind the last one nothing is left open.
 fn push_struct_field(
     page: &mut Page,
     scene: Scene<'_>,
-    inner: &OpenStruct,
+    inner: OpenStruct,
     path: &mut String,
-) -> Result<Option<Option<OpenStruct>>, AllocError> {
+    open: &mut Vec<OpenStruct>,
+) {
     let Some(field) = scene
         .layout
         .parts_of(inner.structure)
         .get(usize::from(inner.next))
     else {
-        return Ok(None);
+        return;
     };
-    let kind = kind_in(field.shape);
     let offset = scene.layout.offset_of(inner.structure, inner.next) as usize;
     let at = inner.at.saturating_add(offset);
     cut(path, inner.path);
-    path.push('.')?;
-    path.push_str(field.name.as_str())?;
-    if let Kind::Struct(structure) = kind {
-        return Ok(Some(Some(OpenStruct {
-            structure,
-            at,
-            next: 0,
-            path: path.len(),
-        })));
+    if path.push('.').is_err() || path.push_str(field.name.as_str()).is_err() {
+        page.run_out();
     }
-    begin_detail(page, scene, at, scene.layout.size_of(kind) as usize);
-    push_cut_path(page, path.as_str());
-    page.push_str(": ");
-    page.push_str(kind_name(scene.layout.schema(), kind));
-    push_number_at(page, scene.layout, scene.bytes, kind, at);
-    page.end_line();
-    Ok(Some(None))
+    let next = inner.next.saturating_add(1);
+    leave_open(page, open, OpenStruct { next, ..inner });
+    match kind_in(field.shape) {
+        Kind::Struct(structure) => {
+            let further = OpenStruct {
+                structure,
+                at,
+                next: 0,
+                path: path.len(),
+            };
+            leave_open(page, open, further);
+        }
+        kind => push_value(page, scene, kind, at, path.as_str()),
+    }
 }
 
 /// Cuts a path to a length that it had.
@@ -173,50 +171,45 @@ fn cut(path: &mut String, len: usize) {
     }
 }
 
-/// Adds the line of an element that is a reference.
-fn push_element(page: &mut Page, scene: Scene<'_>, kind: Kind, at: usize, path: &str) {
-    begin_detail(page, scene, at, 4);
+/// Adds the line of a number in a struct, or of an element that is a reference.
+fn push_value(page: &mut Page, scene: Scene<'_>, kind: Kind, at: usize, path: &str) {
+    begin_detail(page, scene, at, scene.layout.size_of(kind) as usize);
     push_cut_path(page, path);
     page.push_str(": ");
     page.push_str(kind_name(scene.layout.schema(), kind));
-    page.push_str(" at ");
-    page.push_number((at as u64).saturating_add(u64::from(u32_within(scene.bytes, at))));
+    match kind {
+        Kind::Text | Kind::Table(_) => push_target(page, scene.bytes, at),
+        _ => push_number_at(page, scene.layout, scene.bytes, kind, at),
+    }
     page.end_line();
 }
 
 /// Adds a detail of a piece.
-pub(crate) fn push_detail(
-    page: &mut Page,
-    scene: Scene<'_>,
-    piece: &Piece,
-    i: u32,
-) -> Result<(), AllocError> {
+pub(crate) fn push_detail(page: &mut Page, scene: Scene<'_>, piece: &Piece, i: u32) {
     let Some(node) = scene.nodes.get(piece.node) else {
-        return Ok(());
+        return;
     };
     let at = piece.start as usize;
-    match (piece.what, node.lead) {
+    let (step, kind, at) = match (piece.what, node.lead) {
         (What::Vtable, Lead::Vtable(table)) => {
-            push_vtable_number(page, scene, piece, table, i);
-            Ok(())
+            return push_vtable_number(page, scene, piece, table, i);
         }
-        (What::Field(slot), Lead::Table(table)) => {
-            let Some(structure) = struct_in(scene, table, slot) else {
-                return Ok(());
-            };
-            let mut path = path_of(scene, piece.node, Step::Slot(table, slot))?;
-            push_struct(page, scene, structure, at, &mut path)
-        }
+        (What::Field(slot), Lead::Table(table)) => match struct_in(scene, table, slot) {
+            Some(structure) => (Step::Slot(table, slot), Kind::Struct(structure), at),
+            None => return,
+        },
         (What::Content, Lead::Vector(kind)) => {
-            let mut path = path_of(scene, piece.node, Step::Element(i))?;
             let size = scene.layout.size_of(kind) as usize;
             let at = at.saturating_add(size.saturating_mul(i as usize));
-            if let Kind::Struct(structure) = kind {
-                return push_struct(page, scene, structure, at, &mut path);
-            }
-            push_element(page, scene, kind, at, path.as_str());
-            Ok(())
+            (Step::Element(i), kind, at)
         }
-        _ => Ok(()),
+        _ => return,
+    };
+    let path = path_of(scene, piece.node, step);
+    if let Some(mut path) = page.keep(path) {
+        match kind {
+            Kind::Struct(structure) => push_struct(page, scene, structure, at, &mut path),
+            _ => push_value(page, scene, kind, at, path.as_str()),
+        }
     }
 }

@@ -265,8 +265,7 @@ impl<'a> Listing<'a> {
                 break;
             }
             let detail = self.detail;
-            let pushed = push_detail(page, self.scene(), piece, detail);
-            page.keep(pushed);
+            push_detail(page, self.scene(), piece, detail);
             self.detail = self.detail.saturating_add(1);
         }
         if self.detail >= count {

@@ -126,6 +126,14 @@ impl Nodes {
         }
     }
 
+    /// The number of what is known of a part's visit.
+    pub(crate) fn visit_of(&self, number: u32) -> Option<usize> {
+        match self.nodes.get(number as usize) {
+            Some(node) => node.visit,
+            None => None,
+        }
+    }
+
     /// A part by its number.
     pub(crate) fn get(&self, number: u32) -> Option<Node> {
         self.nodes.get(number as usize).copied()

@@ -5,8 +5,10 @@ use crate::nodes::{Lead, Nodes};
 use crate::pieces::{Piece, What};
 use fb_index::HashKey;
 use fb_layout::Layout;
-use fb_read::{EnteredTable, Part, Step, Stored, check_stored, enter_vector, open_text};
-use fb_schema::Shape;
+use fb_read::{
+    EnteredTable, Part, Step, Stored, check_stored, enter_vector, number_within, open_text,
+};
+use fb_schema::{Base, Shape};
 use std::alloc::Global;
 
 /// A part that the walk is at.
@@ -111,7 +113,7 @@ impl<'a> Notes<'a> {
         if self.open.push(open).is_err() {
             self.is_cut = true;
         }
-        self.nodes.get(node)?.visit
+        self.nodes.visit_of(node)
     }
 
     /// Notes that the walk passes over the part that it came to.
@@ -123,8 +125,10 @@ impl<'a> Notes<'a> {
 
     /// The number of what is known of an earlier visit of the part that the walk is at.
     pub(crate) fn visit(&self) -> Option<usize> {
-        let open = self.open.last()?;
-        self.nodes.get(open.node)?.visit
+        match self.open.last() {
+            Some(open) => self.nodes.visit_of(open.node),
+            None => None,
+        }
     }
 
     /// Notes that the walk leaves a part, and the number of what is known of its visit.
@@ -312,16 +316,16 @@ impl<'a> Notes<'a> {
 
 /// The number in the two bytes at a position, 0 where they end past the bytes.
 pub(crate) fn u16_within(bytes: &[u8], at: usize) -> u16 {
-    match bytes.get(at..) {
-        Some([low, high, ..]) => u16::from_le_bytes([*low, *high]),
-        _ => 0,
+    match number_within(bytes, at, Base::U16) {
+        Some(number) => u16::try_from(number).unwrap_or(0),
+        None => 0,
     }
 }
 
 /// The number in the four bytes at a position, 0 where they end past the bytes.
 pub(crate) fn u32_within(bytes: &[u8], at: usize) -> u32 {
-    match bytes.get(at..) {
-        Some([a, b, c, d, ..]) => u32::from_le_bytes([*a, *b, *c, *d]),
-        _ => 0,
+    match number_within(bytes, at, Base::U32) {
+        Some(number) => u32::try_from(number).unwrap_or(0),
+        None => 0,
     }
 }

@@ -6,7 +6,7 @@ use crate::paths::{Scene, push_path};
 use crate::pieces::{Piece, What};
 use crate::values_shown::{push_code, push_number_at, push_numbers, push_text};
 use fb_explain_pages::Page;
-use fb_explain_words::shapes::{field_at, kind_name, push_shape, type_name};
+use fb_explain_words::shapes::{field_at, push_shape, type_name};
 use fb_read::Step;
 use fb_schema::{Kind, Shape, TypeId};
 
@@ -20,7 +20,7 @@ fn push_shared(page: &mut Page, node: &Node, what: &str) {
 }
 
 /// Adds where the reference at a position leads.
-fn push_target(page: &mut Page, bytes: &[u8], at: usize) {
+pub(crate) fn push_target(page: &mut Page, bytes: &[u8], at: usize) {
     page.push_str(" at ");
     page.push_number((at as u64).saturating_add(u64::from(u32_within(bytes, at))));
 }
@@ -62,20 +62,19 @@ fn push_field(page: &mut Page, scene: Scene<'_>, table: TypeId, slot: u16, at: u
 /// Adds how long a string or a vector is.
 fn push_length(page: &mut Page, scene: Scene<'_>, node: &Node) {
     let len = u64::from(u32_within(scene.bytes, node.at as usize));
-    match node.lead {
+    let unit = match node.lead {
         Lead::Vector(kind) => {
-            page.push_str("[");
-            page.push_str(kind_name(scene.layout.schema(), kind));
-            page.push_str("], ");
-            page.push_number(len);
-            page.push_str(if len == 1 { " element" } else { " elements" });
+            push_shape(page, scene.layout.schema(), Shape::Many(kind));
+            if len == 1 { " element" } else { " elements" }
         }
         _ => {
-            page.push_str("string, ");
-            page.push_number(len);
-            page.push_str(if len == 1 { " byte" } else { " bytes" });
+            page.push_str("string");
+            if len == 1 { " byte" } else { " bytes" }
         }
-    }
+    };
+    page.push_str(", ");
+    page.push_number(len);
+    page.push_str(unit);
     push_shared(page, node, " references");
 }
 
@@ -84,9 +83,7 @@ fn push_content(page: &mut Page, scene: Scene<'_>, node: &Node, piece: &Piece) {
     let at = piece.start as usize;
     match node.lead {
         Lead::Vector(kind) => {
-            page.push_str("[");
-            page.push_str(kind_name(scene.layout.schema(), kind));
-            page.push_str("]");
+            push_shape(page, scene.layout.schema(), Shape::Many(kind));
             let count = u32_within(scene.bytes, node.at as usize) as usize;
             push_numbers(page, scene.layout, scene.bytes, kind, at, count);
         }
