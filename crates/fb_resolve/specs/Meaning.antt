@@ -8,8 +8,8 @@ use Rattle.fb_syntax.specs.declared.declarations.TypeDecl.{TypeDecl}
 use Rattle.fb_syntax.specs.declared.declarations.TypeDecl.TheVariants as decls
 use Rattle.fb_schema.specs.Schema.{Name}
 use Rattle.fb_resolve.specs.Outline.{TypeRead, name_of_type}
-use Rattle.fb_scopes.specs.Words.{Path, words}
-use Rattle.fb_scopes.specs.Innermost.{meant_inside}
+use Rattle.fb_index.specs.Words.{Path, words}
+use Rattle.fb_index.specs.Innermost.{meant_inside}
 use Rattle.fb_resolve.specs.BasicTypes.{basic_type}
 use Rattle.fb_resolve.specs.declared.basic_types.BasicType.{BasicType}
 use Rattle.fb_resolve.specs.declared.basic_types.BasicType.TheVariants as basic

@@ -6,9 +6,8 @@ ghost use Rattle.fb_resolve.specs.EnumValues.{enum_values_of, underlying_at};
 use crate::basic_types::BasicType;
 use crate::enum_values::EnumValues;
 use crate::walk::Walk;
-use fb_index::HashKey;
+use fb_index::{HashKey, Scopes};
 use fb_schema::Base;
-use fb_scopes::Scopes;
 use fb_syntax::{Decls, DottedName, Text, TypeDecl};
 use std::alloc::{AllocError, Global};
 use std::marker::Model;
@@ -112,7 +111,7 @@ impl<'d, 's> Model for Outline<'d, 's> {
     ghost Value = { Outlined };
 
     ghost use Rattle.fb_resolve.specs.Paths.{AreNames, IsRootPlaced};
-    ghost use Rattle.fb_scopes.specs.Scopes.{tree_of, names_of};
+    ghost use Rattle.fb_index.specs.Scopes.{tree_of, names_of};
 
     ghost view = { λ o. record {
       types = o.types.items;

@@ -7,9 +7,9 @@ use clap::Error;
 use clap::error::ErrorKind;
 use flatc_cli::usage_error;
 use flatc_files::{
-    Content, Misuse, Progress, Reasoned, Target, Texts, directory_of, targets_of, write_file,
+    Batch, Content, Form, Misuse, Progress, Reasoned, RunStatus, Target, Task, Texts, directory_of,
+    targets_of, write_file,
 };
-use flatc_request::{Batch, Form, RunStatus, Task};
 use flatc_tool::{DecodeOptions, Layout, Noted, ToolFault, decode_to, encode_owned};
 use std::alloc::AllocError;
 use std::fs;

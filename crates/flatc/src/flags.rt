@@ -1,6 +1,6 @@
 //! The flags of a line, as options of the calls.
 use crate::limits;
-use flatc_request::{Form, Inspection, Job, StreamTask, Task};
+use flatc_files::{Form, Inspection, Job, StreamTask, Task};
 use flatc_tool::{DecodeOptions, EncodeOptions};
 
 /// What a line says of how buffers and JSON texts are read and written.

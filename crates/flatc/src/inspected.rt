@@ -4,8 +4,7 @@ use crate::faults::read_fault;
 use crate::flags::Flags;
 use crate::{layout_of, limits, read_both, tell};
 use fb_inspect::{Listing, header_lines};
-use flatc_files::{Reasoned, Texts};
-use flatc_request::Inspection;
+use flatc_files::{Inspection, Reasoned, Texts};
 use flatc_tool::{Layout, ReadFault, ToolFault, WriteFault};
 use std::io::Write;
 

@@ -24,8 +24,7 @@ use crate::terminal::is_explained;
 use clap::Error;
 use clap::error::ErrorKind;
 use flatc_cli::request_of;
-use flatc_files::{Reasoned, Texts, write_out};
-use flatc_request::{Batch, Form, Job, Request};
+use flatc_files::{Batch, Form, Job, Reasoned, Request, Texts, write_out};
 use flatc_tool::command::report_noted;
 use flatc_tool::{
     EncodeOptions, Entries, Layout, Limits, Noted, ToolFault, conform_names, conform_texts,

@@ -1,6 +1,6 @@
 //! What the terminal and the environment say of explanations.
 use fb_explain::COLUMNS;
-use flatc_request::Explaining;
+use flatc_files::Explaining;
 use std::env;
 use std::io::IsTerminal;
 

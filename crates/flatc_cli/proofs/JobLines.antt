@@ -6,20 +6,20 @@ use Rattle.std.proofs.lemmas.Bool.{le-ltb}
 use Rattle.clap.specs.Words.{Row, Text}
 use Rattle.flatc_cli.specs.Lines.{is_set, explaining_in, has_dir, paths_in, is_single, is_plain, is_line_of, is_line}
 use Rattle.flatc_cli.specs.Lines.{is_job_of, is_job_line, is_streamed, form_in, IsTask, IsInspection, IsRequestOf}
-use Rattle.flatc_request.specs.Forms.{usual_form}
-use Rattle.flatc_request.specs.declared.request.Form.{Form}
-use Rattle.flatc_request.specs.declared.request.Stream.{Stream}
-use Rattle.flatc_request.specs.declared.request.Inspection.{Inspection}
-use Rattle.flatc_request.specs.declared.request.Inspection.TheVariants.{Bytes, Header}
+use Rattle.flatc_files.specs.Forms.{usual_form}
+use Rattle.flatc_files.specs.declared.request.Form.{Form}
+use Rattle.flatc_files.specs.declared.request.Stream.{Stream}
+use Rattle.flatc_files.specs.declared.request.Inspection.{Inspection}
+use Rattle.flatc_files.specs.declared.request.Inspection.TheVariants.{Bytes, Header}
 use Rattle.std.specs.declared.alloc.Global.{Global}
-use Rattle.flatc_request.specs.declared.request.Batch.{Batch}
-use Rattle.flatc_request.specs.declared.request.Task.{Task}
-use Rattle.flatc_request.specs.declared.request.Task.TheVariants as task
-use Rattle.flatc_request.specs.declared.request.Explaining.{Explaining}
-use Rattle.flatc_request.specs.declared.request.Explaining.TheVariants.{AtTerminal, Always, Never}
-use Rattle.flatc_request.specs.declared.request.Job.{Job}
-use Rattle.flatc_request.specs.declared.request.Request.TheVariants.{Do, DoEach, DoFormed, DoEachFormed, DoStream}
-use Rattle.flatc_request.specs.declared.request.Request.TheVariants.{Inspect, Explain}
+use Rattle.flatc_files.specs.declared.request.Batch.{Batch}
+use Rattle.flatc_files.specs.declared.request.Task.{Task}
+use Rattle.flatc_files.specs.declared.request.Task.TheVariants as task
+use Rattle.flatc_files.specs.declared.request.Explaining.{Explaining}
+use Rattle.flatc_files.specs.declared.request.Explaining.TheVariants.{AtTerminal, Always, Never}
+use Rattle.flatc_files.specs.declared.request.Job.{Job}
+use Rattle.flatc_files.specs.declared.request.Request.TheVariants.{Do, DoEach, DoFormed, DoEachFormed, DoStream}
+use Rattle.flatc_files.specs.declared.request.Request.TheVariants.{Inspect, Explain}
 
 pub and_no : (a b : Bool) → b ≡ false → (a && b) ≡ false
 and_no true b fails = fails

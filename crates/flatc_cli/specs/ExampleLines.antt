@@ -6,10 +6,10 @@ use Rattle.clap.specs.Walk.{walked}
 use Rattle.clap.specs.Takes.{walk_passes}
 use Rattle.flatc_cli.specs.Commands.{flatc_app}
 use Rattle.flatc_cli.specs.Lines.{IsRequestOf, is_line, is_job_line}
-use Rattle.flatc_request.specs.declared.request.Job.TheVariants.{Binary, Check, Conform}
-use Rattle.flatc_request.specs.declared.request.Explaining.TheVariants.{AtTerminal, Always, Never}
-use Rattle.flatc_request.specs.declared.request.Inspection.TheVariants.{Header}
-use Rattle.flatc_request.specs.declared.request.Request.TheVariants.{Do, Inspect, Explain}
+use Rattle.flatc_files.specs.declared.request.Job.TheVariants.{Binary, Check, Conform}
+use Rattle.flatc_files.specs.declared.request.Explaining.TheVariants.{AtTerminal, Always, Never}
+use Rattle.flatc_files.specs.declared.request.Inspection.TheVariants.{Header}
+use Rattle.flatc_files.specs.declared.request.Request.TheVariants.{Do, Inspect, Explain}
 
 -- flatc check s
 abbrev pub check_line : List Text

@@ -8,24 +8,24 @@ use Rattle.std.specs.Option.{option_map_or}
 use Rattle.std.specs.Str.{bytes_eq}
 use Rattle.std.specs.declared.alloc.Global.{Global}
 use Rattle.clap.specs.Words.{Row, Text, all_of, first_of}
-use Rattle.flatc_request.specs.Forms.{usual_form}
-use Rattle.flatc_request.specs.Inputs.{is_read_once}
-use Rattle.flatc_request.specs.declared.request.Job.{Job}
-use Rattle.flatc_request.specs.declared.request.Job.TheVariants.{Binary, Json, Check, Conform}
-use Rattle.flatc_request.specs.declared.request.Batch.{Batch}
-use Rattle.flatc_request.specs.declared.request.Task.{Task}
-use Rattle.flatc_request.specs.declared.request.Task.TheVariants as task
-use Rattle.flatc_request.specs.declared.request.Explaining.{Explaining}
-use Rattle.flatc_request.specs.declared.request.Explaining.TheVariants.{AtTerminal, Always, Never}
-use Rattle.flatc_request.specs.declared.request.Request.{Request}
-use Rattle.flatc_request.specs.declared.request.Form.{Form}
-use Rattle.flatc_request.specs.declared.request.Stream.{Stream}
-use Rattle.flatc_request.specs.declared.request.StreamTask.{StreamTask}
-use Rattle.flatc_request.specs.declared.request.StreamTask.TheVariants as streamed
-use Rattle.flatc_request.specs.declared.request.Inspection.{Inspection}
-use Rattle.flatc_request.specs.declared.request.Inspection.TheVariants.{Bytes, Header}
-use Rattle.flatc_request.specs.declared.request.Request.TheVariants.{Do, DoEach, DoFormed, DoEachFormed, DoStream}
-use Rattle.flatc_request.specs.declared.request.Request.TheVariants.{Inspect, Explain}
+use Rattle.flatc_files.specs.Forms.{usual_form}
+use Rattle.flatc_files.specs.StandardPaths.{is_read_once}
+use Rattle.flatc_files.specs.declared.request.Job.{Job}
+use Rattle.flatc_files.specs.declared.request.Job.TheVariants.{Binary, Json, Check, Conform}
+use Rattle.flatc_files.specs.declared.request.Batch.{Batch}
+use Rattle.flatc_files.specs.declared.request.Task.{Task}
+use Rattle.flatc_files.specs.declared.request.Task.TheVariants as task
+use Rattle.flatc_files.specs.declared.request.Explaining.{Explaining}
+use Rattle.flatc_files.specs.declared.request.Explaining.TheVariants.{AtTerminal, Always, Never}
+use Rattle.flatc_files.specs.declared.request.Request.{Request}
+use Rattle.flatc_files.specs.declared.request.Form.{Form}
+use Rattle.flatc_files.specs.declared.request.Stream.{Stream}
+use Rattle.flatc_files.specs.declared.request.StreamTask.{StreamTask}
+use Rattle.flatc_files.specs.declared.request.StreamTask.TheVariants as streamed
+use Rattle.flatc_files.specs.declared.request.Inspection.{Inspection}
+use Rattle.flatc_files.specs.declared.request.Inspection.TheVariants.{Bytes, Header}
+use Rattle.flatc_files.specs.declared.request.Request.TheVariants.{Do, DoEach, DoFormed, DoEachFormed, DoStream}
+use Rattle.flatc_files.specs.declared.request.Request.TheVariants.{Inspect, Explain}
 
 -- ---- what the rows have
 

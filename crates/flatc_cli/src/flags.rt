@@ -7,7 +7,7 @@ ghost use Rattle.flatc_cli.specs.Lines.{is_stream_allowed, is_header_allowed, ar
 use crate::matched::{flag_of, text_of};
 use crate::misuse::Misuse;
 use clap::ArgMatches;
-use flatc_request::{Explaining, Form};
+use flatc_files::{Explaining, Form};
 
 /// When a refusal is explained.
 pub(crate) fn explaining_of(found: &ArgMatches<'_>) -> Explaining

@@ -7,7 +7,7 @@ use crate::flags::explaining_of;
 use crate::matched::{check_read_once, flag_of, only_bin, two_paths};
 use crate::misuse::Misuse;
 use clap::ArgMatches;
-use flatc_request::{Inspection, Request};
+use flatc_files::{Inspection, Request};
 use std::alloc::Global;
 
 /// The inspection of a buffer under a schema.

@@ -11,7 +11,7 @@ use crate::matched::request_at;
 use crate::misuse::{Misuse, misuse_error, other_line};
 use clap::error::ErrorKind;
 use clap::{ArgMatches, Error};
-use flatc_request::{Explaining, Job, Request};
+use flatc_files::{Explaining, Job, Request};
 use std::alloc::Global;
 
 /// What the matches of a command line ask for.

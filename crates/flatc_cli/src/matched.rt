@@ -3,7 +3,7 @@ ghost use Rattle.std.specs.Prelude.{◌≡◌, ◌≢◌, ◌∷◌, [], Bool, I
 ghost use Rattle.std.specs.Prelude.{map, option_map, string_bytes, codes, length};
 ghost use Rattle.clap.specs.Words.{all_of, first_of, found_of, rows_of};
 ghost use Rattle.flatc_cli.specs.Lines.{IsJob, IsTask, IsRequest, IsPath, is_set, is_streamed, has_inputs};
-ghost use Rattle.flatc_request.specs.Inputs.{is_read_once};
+ghost use Rattle.flatc_files.specs.StandardPaths.{is_read_once};
 ghost use Rattle.flatc_cli.specs.Lines.{paths_in, first_text, listed, is_line_of};
 
 use crate::flags::{check_flags, explaining_of, form_of, is_streamed};
@@ -11,7 +11,7 @@ use crate::inspections::inspect_request;
 use crate::misuse::Misuse;
 use crate::streams::stream_request;
 use clap::ArgMatches;
-use flatc_request::{Batch, Job, Request, Task, are_read_once};
+use flatc_files::{Batch, Job, Request, Task, are_read_once};
 use std::alloc::{AllocError, Global};
 
 /// The first value of an id.

@@ -9,7 +9,7 @@ use crate::matched::{
 };
 use crate::misuse::Misuse;
 use clap::ArgMatches;
-use flatc_request::{Job, Request, Stream, StreamTask};
+use flatc_files::{Job, Request, Stream, StreamTask};
 use std::alloc::Global;
 
 /// The job of a line `check` with one buffer.

@@ -1,1 +1,4 @@
+pub mod Forms
+pub mod Runs
+pub mod StandardPaths
 pub mod Targets

@@ -1,7 +1,7 @@
 -- Where the files of a batch go.
 use Rattle.std.specs.Prelude.{◌++◌, ◌∷◌, unwrap_or}
 use Rattle.std.specs.Path.{path_file_stem, path_join}
-use Rattle.flatc_request.specs.Inputs.{Text}
+use Rattle.flatc_files.specs.StandardPaths.{Text}
 
 -- an input's name with another extension (46 is the dot)
 abbrev pub target_name : Text → Text → Text

@@ -1,9 +1,9 @@
 //! An input of a job: what was read from it, and how that is got again once it was given away.
 ghost use Rattle.std.specs.Prelude.{◌≤◌, length, IfOk};
 
-use crate::streams::{Stream, metadata_of};
+use crate::opened::{Opened, metadata_of};
+use crate::standard_paths::is_standard_input;
 use fb_heard::{Heard, TakeFault, take_all};
-use flatc_request::is_standard_input;
 use std::alloc::AllocError;
 use std::fs::Metadata;
 use std::os::unix::fs::MetadataExt;
@@ -89,7 +89,7 @@ impl<'j> Input<'j> {
     ) -> Result<Input<'j>, TakeFault>
         ensures short { IfOk result (λ input. length input.bytes.items ≤ 2147483647) }
     {
-        let mut input = Input::read_all(rt, path, Stream::open(rt, path), is_read_again)?;
+        let mut input = Input::read_all(rt, path, Opened::open(rt, path), is_read_again)?;
         // A file that standard input is may have been read from its middle.
         if is_standard_input(path) && !input.is_whole() {
             input.state = None;
@@ -108,7 +108,7 @@ impl<'j> Input<'j> {
     fn read_all(
         rt: &HostRuntime,
         path: &'j str,
-        opened: io::Result<Stream>,
+        opened: io::Result<Opened>,
         is_read_again: bool,
     ) -> Result<Input<'j>, TakeFault>
         ensures short { IfOk result (λ input. length input.bytes.items ≤ 2147483647) }
@@ -151,7 +151,7 @@ impl<'j> Input<'j> {
         if state_of(metadata_of(rt, self.path)) != self.state {
             return Ok(Some(Gone::Changed));
         }
-        match Input::read_all(rt, self.path, Stream::open_again(rt, self.path), true) {
+        match Input::read_all(rt, self.path, Opened::open_again(rt, self.path), true) {
             Ok(again) => Ok(self.take(rt, again)),
             Err(TakeFault::Memory) => Err(AllocError),
             Err(_) => Ok(Some(Gone::Changed)),

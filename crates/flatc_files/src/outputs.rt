@@ -2,10 +2,10 @@
 ghost use Rattle.std.specs.Prelude.{◌≢◌, IfErr};
 ghost use Rattle.std.specs.IoError.{error_kind};
 
-use crate::streams::metadata_of;
+use crate::opened::metadata_of;
+use crate::standard_paths::is_standard_output;
 use crate::targets::Target;
 use crate::unchanged::{holds, touch};
-use flatc_request::is_standard_output;
 use std::alloc::Global;
 use std::fs::{self, File, Metadata, OpenOptions, Permissions};
 use std::io::{self, ErrorKind, Write};

@@ -1,7 +1,8 @@
 //! The files of a directory that a batch is written to.
-use crate::streams::metadata_of;
+use crate::opened::metadata_of;
+use crate::request::{Batch, Task};
+use crate::standard_paths::is_standard_input;
 use crate::target_paths::targets_in;
-use flatc_request::{Batch, Task, is_standard_input};
 use std::alloc::{AllocError, AllocFailed, Global};
 use std::collections::BTreeSet;
 use std::fs::{self, Metadata};

@@ -1,7 +1,7 @@
 //! The bytes of an input that were read and not yet taken, for messages that are read one by one.
 ghost use Rattle.std.specs.Prelude.{◌≡◌, ◌≤◌, ◌<◌, ◌+◌, length, OnOk};
 
-use crate::streams::Stream;
+use crate::opened::Opened;
 use fb_heard::TakeFault;
 use std::alloc::{AllocError, Global};
 use std::io::{self, Read};
@@ -15,7 +15,7 @@ const ROOM: usize = 65_536;
 
 /// The bytes of an input that were read and not yet taken, in order.
 pub struct Window {
-    stream: Stream,
+    stream: Opened,
     /// What was read, up to `end`. Bytes before `start` were taken.
     bytes: Vec<u8>,
     start: usize,
@@ -46,7 +46,7 @@ impl Window {
     /// Opens a file, or standard input; nothing of it is read yet.
     pub fn open(rt: &HostRuntime, path: &str) -> io::Result<Window> {
         Ok(Window {
-            stream: Stream::open(rt, path)?,
+            stream: Opened::open(rt, path)?,
             bytes: Vec::new(rt.alloc()),
             start: 0,
             end: 0,

@@ -3,7 +3,7 @@ use crate::arming::{Matching, Outcome, arm, disarm, of_bytes};
 use crate::examples::Example;
 use clap::error::ErrorKind;
 use flatc_cli::request_of;
-use flatc_request::{Explaining, Job, Request};
+use flatc_files::{Explaining, Job, Request};
 use flatc_tool::command::{Heard, fault_line, report, report_noted, take_all};
 use flatc_tool::{JsonFault, Noted, Place, ToolFault, TypeId};
 use std::alloc::{AllocError, Global};

@@ -2,11 +2,11 @@ use Rattle.std.proofs.Common.{◌≡◌, ℕ, List, [], get_or, Option, ap, ◌�
 use Rattle.std.specs.Option.{option_copied}
 use Rattle.std.proofs.lemmas.Option.{get_or_from_slice_get, slice_get_within}
 use Rattle.fb_schema.specs.Schema.{Name}
-use Rattle.fb_scopes.specs.Words.{Path, words}
-use Rattle.fb_scopes.specs.PathTree.{paths}
-use Rattle.fb_scopes.specs.Scopes.{tree_of, names_of, AreScopes, IsUse}
-use Rattle.fb_scopes.specs.Innermost.{meant_inside}
-use Rattle.fb_scopes.specs.declared.scopes.Scopes.{Scopes}
+use Rattle.fb_index.specs.Words.{Path, words}
+use Rattle.fb_index.specs.PathTree.{paths}
+use Rattle.fb_index.specs.Scopes.{tree_of, names_of, AreScopes, IsUse}
+use Rattle.fb_index.specs.Innermost.{meant_inside}
+use Rattle.fb_index.specs.declared.scopes.Scopes.{Scopes}
 use Rattle.fb_resolve.specs.Outline.{TypeRead}
 use Rattle.fb_resolve.specs.Meaning.{meaning_of, use_of_type, words_of_scope, paths_of_types}
 use Rattle.fb_resolve.specs.Paths.{IsPath, IsNoted}

@@ -1,0 +1,32 @@
+use Rattle.std.proofs.Common.{rules, ◌∙◌, [], get_or, arith}
+use Rattle.fb_index.specs.PathTree.{paths}
+use Rattle.fb_index.specs.NamedTypes.{noted_at}
+use Rattle.fb_index.proofs.innermost.TypeIsNotedForEachUse.{noting_first, noting_more, outward_of}
+use Rattle.fb_index.proofs.innermost.note_type.Goals as goal
+
+pub loop-next-init : goal.loop-next-init
+loop-next-init c = record {
+  room = c.requires.room;
+  noting = noting_first (paths c.args.tree.now) (paths c.args.used.now) c.args.full_name c.args.number
+      (noted_at c.args.noted.now) c.requires.full_name c.requires.used.first;
+}
+
+pub loop-next-preserved : goal.loop-next-preserved
+loop-next-preserved c =
+    let ps = paths c.args.tree.now in
+    let ks = paths c.args.used.now in
+    let path = c.in-Some.path in
+    let name = c.in-Some.name in
+    let before = c.loop-next.noted in
+    let room = c.loop-next.invariant.room in
+    let noting = rw c.in-Some.is at c.loop-next.invariant.noting in
+    let out = outward_of ps ks path name c.outward-next.result c.outward-next.ensures.name c.outward-next.ensures.path
+    noting.ahead.0 c.outward-next.ensures.same c.outward-next.ensures.shorter c.outward-next.ensures.last in
+    let kept = c.in_ok-note_use.ensures in
+    record {
+      room = record { maps = search rules; path = kept.paths ∙ room.path; name = omega (arith, kept.names, room.name) };
+      noting = noting_more c.args.tree.now c.args.used.now c.requires.tree c.requires.used
+          (get_or ps c.args.full_name []) c.args.number (noted_at c.args.noted.now) (noted_at before)
+          (noted_at c.note_use.new.noted) path name c.outward-next.result
+          noting (λ p n at_p some at_n. kept.noted p n some) out;
+    }

@@ -1,6 +1,0 @@
-pub mod Words
-pub mod Innermost
-pub mod PathTree
-pub mod Maps
-pub mod NamedTypes
-pub mod Scopes

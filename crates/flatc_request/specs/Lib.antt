@@ -1,3 +1,0 @@
-pub mod Forms
-pub mod Inputs
-pub mod Runs
