@@ -13,8 +13,8 @@ ghost use Rattle.fb_build.specs.declared.faults.BuildFault.TheVariants.{TooBig, 
 use crate::faults::BuildFault;
 use crate::plans::TapePlan;
 use fb_layout::Layout;
-use fb_tape::Tape;
-use fb_value::{buffer_room, front_of};
+use fb_tape::{Tape, buffer_room};
+use fb_value::front_of;
 use std::alloc::Global;
 
 /// The bytes that encode a value of the root table, which is noted on a tape. All memory that laying them takes is

@@ -10,7 +10,8 @@ ghost use Rattle.fb_value.specs.UpTo.{SomeUpTo, at_most_usize};
 
 use fb_layout::Layout;
 use fb_schema::{FieldInfo, Kind, Shape};
-use fb_value::{Value, buffer_room, table_room, text_room, vector_room};
+use fb_tape::{buffer_room, table_room, text_room, vector_room};
+use fb_value::Value;
 
 /// An upper bound on the length of a root value's buffer in bytes; None exactly where it is over
 /// 2,147,483,647.

@@ -25,11 +25,12 @@ use crate::inline_bytes::{push_few, push_inline, push_struct};
 use crate::known_vtables::KnownVtables;
 use crate::open_fields::OpenFields;
 use crate::ops::{Alignment, NotedField, Op};
+use crate::rooms::{table_room, text_room, vector_room};
 use crate::stored_tables::{Offsets, note_table};
 use byteorder::{ByteOrder, LittleEndian};
 use fb_layout::Layout;
 use fb_schema::{Kind, TypeId};
-use fb_value::{Value, table_room, text_room, vector_room};
+use fb_value::Value;
 use std::alloc::{AllocError, Global};
 use std::marker::Model;
 

@@ -5,7 +5,6 @@ mod faults;
 mod framing;
 mod laws;
 mod limits;
-mod rooms;
 mod values;
 
 pub use faults::ReadFault;
@@ -18,5 +17,4 @@ pub use laws::{
     part_lies, value_of_place, value_or_fault, value_where_all_keep, value_where_lies,
 };
 pub use limits::Limits;
-pub use rooms::{buffer_room, table_room, text_room, vector_room};
 pub use values::Value;
