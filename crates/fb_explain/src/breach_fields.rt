@@ -1,8 +1,9 @@
 //! Breaches in a field of a table.
 use crate::sides::Sides;
 use fb_explain_pages::Page;
-use fb_explain_words::shapes::{field_at, push_default, push_shape, type_name};
-use fb_schema::{FieldInfo, Schema, TypeId};
+use fb_explain_words::shapes::push_shape;
+use fb_layout::kind_in;
+use fb_schema::{FieldInfo, Kind, Schema, Shape, TypeId, field_at, kind_name, type_name};
 
 /// What of a field is compared.
 #[derive(Clone, Copy)]
@@ -21,9 +22,27 @@ fn front_of(compared: Compared) -> &'static str {
     }
 }
 
+/// Adds a field's default.
+fn push_default(page: &mut Page, schema: &Schema, field: &FieldInfo) {
+    if field.optional {
+        page.push_str("null");
+        return;
+    }
+    if let Shape::One(Kind::Enum(number)) = field.shape
+        && let Some(name) = schema.name_of_number(number, field.default)
+    {
+        page.push_str(name);
+        return;
+    }
+    page.push_integer(field.default);
+}
+
 fn push_compared(page: &mut Page, schema: &Schema, field: &FieldInfo, compared: Compared) {
     match compared {
-        Compared::Type => push_shape(page, schema, field.shape),
+        Compared::Type => {
+            let name = kind_name(schema, kind_in(field.shape));
+            push_shape(page, field.shape, name)
+        }
         Compared::Default => push_default(page, schema, field),
         Compared::Required if field.required && !field.deprecated => page.push_str("required"),
         Compared::Required => page.push_str("not required"),

@@ -4,8 +4,7 @@ use crate::shifts::Shifts;
 use crate::sides::{Sides, Twin};
 use fb_conform::{Breach, all_breaches};
 use fb_explain_pages::Page;
-use fb_explain_words::shapes::{members_of, type_name, values_of};
-use fb_schema::{Schema, TypeId};
+use fb_schema::{Schema, TypeId, members_of, type_name, values_of};
 
 fn kind_of_type(schema: &Schema, number: TypeId) -> &'static str {
     match schema.types().get(number.0 as usize) {

@@ -3,8 +3,7 @@
 use crate::sides::{Sides, Twin};
 use fb_conform::{MovedName, moved_names};
 use fb_explain_pages::Page;
-use fb_explain_words::shapes::{field_at, members_of, type_name};
-use fb_schema::FieldInfo;
+use fb_schema::{FieldInfo, field_at, members_of, type_name};
 
 impl<'s> Sides<'s> {
     /// Adds a name behind its type's.

@@ -2,8 +2,7 @@
 use crate::sides::{Sides, Twin};
 use fb_conform::Breach;
 use fb_explain_pages::Page;
-use fb_explain_words::shapes::{fields_of, type_name};
-use fb_schema::{FieldInfo, Kind, Shape, TypeId};
+use fb_schema::{FieldInfo, Kind, Shape, TypeId, fields_of, type_name};
 
 // How many slots that are removed or inserted side by side are looked for.
 const MOST: usize = 16;

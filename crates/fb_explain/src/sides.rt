@@ -1,9 +1,8 @@
 //! Two schemas side by side, with the texts that declare them.
 use crate::places::Places;
 use fb_explain_pages::Page;
-use fb_explain_words::shapes::type_name;
 use fb_layout::Layout;
-use fb_schema::{Schema, TypeId};
+use fb_schema::{Schema, TypeId, type_name};
 
 /// One of two schemas: its layout, its text's path, and where the text declares what.
 #[derive(Clone, Copy)]

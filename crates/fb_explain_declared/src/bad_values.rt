@@ -1,8 +1,8 @@
 //! A value of an enum whose number isn't one that it can have.
 use fb_explain_pages::Page;
-use fb_explain_words::shapes::{base_name, range_of_base};
+use fb_explain_words::shapes::range_of_base;
 use fb_resolve::{EnumValues, ResolvedDecl, ResolvedType, ResolvedValue, may_be_written};
-use fb_schema::Base;
+use fb_schema::{Base, base_name};
 
 /// A value's name and its offset, and whether its number is written.
 #[derive(Clone, Copy)]

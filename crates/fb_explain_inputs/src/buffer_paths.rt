@@ -1,8 +1,8 @@
 //! The path to a place in a buffer, by the names of the schema.
 use fb_explain_pages::Page;
-use fb_explain_words::shapes::field_at;
 use fb_layout::Layout;
 use fb_read::Step;
+use fb_schema::field_at;
 
 /// Adds a step: a field's name behind a dot, or a number in brackets.
 fn push_step(page: &mut Page, layout: &Layout, step: Step, is_first: bool) {

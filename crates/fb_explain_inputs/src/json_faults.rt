@@ -4,10 +4,9 @@ use crate::json_places::{Name, element_offset, member_names, member_offset, rest
 use crate::json_rules::{Found, push_rule};
 use crate::sources::Sources;
 use fb_explain_pages::{Page, push_excerpt, push_place};
-use fb_explain_words::shapes::field_at;
 use fb_json::{JsonFault, Step, fault_path};
 use fb_layout::Layout;
-use fb_schema::TypeId;
+use fb_schema::{TypeId, field_at};
 use serde_json::Value;
 use std::alloc::{AllocError, Global};
 use std::str;

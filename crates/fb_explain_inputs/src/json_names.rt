@@ -1,10 +1,11 @@
 //! Names in a JSON text that a schema doesn't have: of values, of unions' members and of fields.
-use crate::json_rules::kind_in;
 use fb_explain_pages::{Page, push_few, push_nearest};
-use fb_explain_words::shapes::{field_at, fields_of, members_of, type_name, values_of};
 use fb_explain_words::words::last_word;
 use fb_json::{Place, has_flags};
-use fb_schema::{FieldInfo, Kind, Schema, Shape, TypeId};
+use fb_layout::kind_in;
+use fb_schema::{
+    FieldInfo, Kind, Schema, Shape, TypeId, field_at, fields_of, members_of, type_name, values_of,
+};
 use std::alloc::{AllocError, Global};
 
 /// The names of an enum's values or of a union's members.

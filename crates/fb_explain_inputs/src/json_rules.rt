@@ -2,10 +2,10 @@
 use crate::json_names::{push_half, push_unknown_member, push_unknown_name};
 use crate::json_numbers::push_not_whole;
 use fb_explain_pages::Page;
-use fb_explain_words::shapes::{field_at, kind_name, push_shape, range_of_base, type_name};
+use fb_explain_words::shapes::{push_shape, range_of_base};
 use fb_json::{JsonFault, Place};
-use fb_layout::Layout;
-use fb_schema::{Base, FieldInfo, Kind, Shape};
+use fb_layout::{Layout, kind_in};
+use fb_schema::{Base, FieldInfo, Kind, Shape, field_at, kind_name, type_name};
 use fb_value::Limits;
 
 /// An offset in a JSON text, and whether the value at a path's end is there, or the object that lacks it.
@@ -74,14 +74,9 @@ fn push_wrong_shape(
         Shape::Many(kind) | Shape::One(kind) => page.push_str(written_as(kind)),
     }
     page.push_str(" must be: the field's type is ");
-    push_shape(page, layout.schema(), field.shape);
+    let name = kind_name(layout.schema(), kind_in(field.shape));
+    push_shape(page, field.shape, name);
     page.end_line();
-}
-
-pub(crate) fn kind_in(shape: Shape) -> Kind {
-    match shape {
-        Shape::One(kind) | Shape::Many(kind) => kind,
-    }
 }
 
 /// The basic type of a field's numbers.

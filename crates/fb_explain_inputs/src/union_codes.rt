@@ -4,11 +4,10 @@ use crate::json_names::names_in;
 use crate::sources::Sources;
 use crate::union_paths::{Unnamed, first_unnamed};
 use fb_explain_pages::{Page, push_names};
-use fb_explain_words::shapes::{field_at, members_of, type_name};
 use fb_json::Place;
 use fb_layout::Layout;
 use fb_read::{Entries, verify_framed};
-use fb_schema::{Kind, Shape};
+use fb_schema::{Kind, Shape, field_at, members_of, type_name};
 use std::alloc::{AllocError, Global};
 
 /// The first such union of the buffer.

@@ -1,123 +1,17 @@
-//! Names and types of a schema, as its text writes them.
-ghost use Rattle.std.specs.Prelude.{◌≡◌, List, [], ◌∷◌, map, string_bytes, unwrap_or, slice_get};
-ghost use Rattle.std.specs.Prelude.{option_map, option_copied, MatchOption};
-ghost use Rattle.fb_schema.specs.Schema.{body_at, table_body, values_in, members_in};
-ghost use Rattle.fb_schema.specs.Seen.{field_seen, body_seen};
-ghost use Rattle.fb_schema.specs.Found.{name_at, fields_in};
-
+//! Basic types and shapes, as a schema's text writes them.
 use crate::words::value_of;
 use fb_explain_pages::Page;
-use fb_schema::{Base, Body, FieldInfo, Kind, Schema, Shape, TypeId};
+use fb_schema::{Base, Shape};
 
-/// The full name of a type.
-pub fn type_name(schema: &Schema, number: TypeId) -> &str
-    ensures { result.now ≡ unwrap_or (name_at schema.now number.0) (63 ∷ []) }
-{
-    schema.name_at(number).unwrap_or("?")
-}
-
-pub fn base_name(base: Base) -> &'static str {
-    match base {
-        Base::Bool => "bool",
-        Base::I8 => "byte",
-        Base::U8 => "ubyte",
-        Base::I16 => "short",
-        Base::U16 => "ushort",
-        Base::I32 => "int",
-        Base::U32 => "uint",
-        Base::I64 => "long",
-        Base::U64 => "ulong",
-    }
-}
-
-/// The name of one value's type.
-pub fn kind_name(schema: &Schema, kind: Kind) -> &str {
-    match kind {
-        Kind::Scalar(base) => base_name(base),
-        Kind::Enum(number)
-        | Kind::Struct(number)
-        | Kind::Table(number)
-        | Kind::Union(number)
-        | Kind::Code(number) => type_name(schema, number),
-        Kind::Text => "string",
-    }
-}
-
-/// Adds a field's type.
-pub fn push_shape(page: &mut Page, schema: &Schema, shape: Shape) {
+/// Adds a field's type, of which one value's type has this name.
+pub fn push_shape(page: &mut Page, shape: Shape, name: &str) {
     match shape {
-        Shape::One(kind) => page.push_str(kind_name(schema, kind)),
-        Shape::Many(kind) => {
+        Shape::One(_) => page.push_str(name),
+        Shape::Many(_) => {
             page.push_str("[");
-            page.push_str(kind_name(schema, kind));
+            page.push_str(name);
             page.push_str("]")
         }
-    }
-}
-
-/// What the type of a number is declared as.
-fn body_of(schema: &Schema, number: TypeId) -> Option<&Body>
-    ensures { MatchOption result
-        (body_at schema.now number.0 ≡ table_body [])
-        (λ body. body_seen body.now ≡ body_at schema.now number.0) }
-{
-    match schema.types().get(number.0 as usize) {
-        Some(declared) => Some(&declared.body),
-        None => None,
-    }
-}
-
-/// The fields of a table by slot, or of a struct by number.
-pub fn fields_of(schema: &Schema, number: TypeId) -> &[FieldInfo]
-    ensures { map field_seen result.now ≡ fields_in (body_at schema.now number.0) }
-{
-    match body_of(schema, number) {
-        Some(Body::Table(slots)) => slots.as_slice(),
-        Some(Body::Struct(fields, _)) => fields.as_slice(),
-        _ => &[],
-    }
-}
-
-/// The field of a slot.
-pub fn field_at(schema: &Schema, number: TypeId, slot: u16) -> Option<&FieldInfo>
-    ensures { option_map field_seen (option_copied result)
-        ≡ slice_get (fields_in (body_at schema.now number.0)) slot }
-{
-    fields_of(schema, number).get(usize::from(slot))
-}
-
-/// Adds a field's default.
-pub fn push_default(page: &mut Page, schema: &Schema, field: &FieldInfo) {
-    if field.optional {
-        page.push_str("null");
-        return;
-    }
-    if let Shape::One(Kind::Enum(number)) = field.shape
-        && let Some(name) = schema.name_of_number(number, field.default)
-    {
-        page.push_str(name);
-        return;
-    }
-    page.push_integer(field.default);
-}
-
-/// The values of an enum.
-pub fn values_of(schema: &Schema, number: TypeId) -> &[(String, i128)]
-    ensures { map (λ v. (string_bytes v.0, v.1)) result.now ≡ values_in (body_at schema.now number.0) }
-{
-    match body_of(schema, number) {
-        Some(Body::Enum(_, _, values)) => values.as_slice(),
-        _ => &[],
-    }
-}
-
-/// The members of a union, by code from 1 on.
-pub fn members_of(schema: &Schema, number: TypeId) -> &[(String, TypeId)]
-    ensures { map (λ m. (string_bytes m.0, m.1.0)) result.now ≡ members_in (body_at schema.now number.0) }
-{
-    match body_of(schema, number) {
-        Some(Body::Union(members)) => members.as_slice(),
-        _ => &[],
     }
 }
 

@@ -7,10 +7,9 @@ use crate::paths::{Scene, path_of, push_cut_path};
 use crate::pieces::{Piece, What};
 use crate::values_shown::push_number_at;
 use fb_explain_pages::Page;
-use fb_explain_words::shapes::{field_at, kind_name};
 use fb_layout::kind_in;
 use fb_read::Step;
-use fb_schema::{FieldInfo, Kind, Shape, TypeId};
+use fb_schema::{FieldInfo, Kind, Shape, TypeId, field_at, kind_name};
 use std::alloc::AllocError;
 
 /// How many details a piece has.

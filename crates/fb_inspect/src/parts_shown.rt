@@ -6,9 +6,10 @@ use crate::paths::{Scene, push_path};
 use crate::pieces::{Piece, What};
 use crate::values_shown::{push_code, push_number_at, push_numbers, push_text};
 use fb_explain_pages::Page;
-use fb_explain_words::shapes::{field_at, push_shape, type_name};
+use fb_explain_words::shapes::push_shape;
+use fb_layout::kind_in;
 use fb_read::Step;
-use fb_schema::{Kind, Shape, TypeId};
+use fb_schema::{Kind, Shape, TypeId, field_at, kind_name, type_name};
 
 /// Adds that several references lead to a part.
 fn push_shared(page: &mut Page, node: &Node, what: &str) {
@@ -42,7 +43,7 @@ fn push_field(page: &mut Page, scene: Scene<'_>, table: TypeId, slot: u16, at: u
         );
         return;
     }
-    push_shape(page, schema, field.shape);
+    push_shape(page, field.shape, kind_name(schema, kind_in(field.shape)));
     match field.shape {
         Shape::One(Kind::Scalar(_) | Kind::Enum(_)) => {
             if let Shape::One(kind) = field.shape {
@@ -64,7 +65,8 @@ fn push_length(page: &mut Page, scene: Scene<'_>, node: &Node) {
     let len = u64::from(u32_within(scene.bytes, node.at as usize));
     let unit = match node.lead {
         Lead::Vector(kind) => {
-            push_shape(page, scene.layout.schema(), Shape::Many(kind));
+            let name = kind_name(scene.layout.schema(), kind);
+            push_shape(page, Shape::Many(kind), name);
             if len == 1 { " element" } else { " elements" }
         }
         _ => {
@@ -83,7 +85,8 @@ fn push_content(page: &mut Page, scene: Scene<'_>, node: &Node, piece: &Piece) {
     let at = piece.start as usize;
     match node.lead {
         Lead::Vector(kind) => {
-            push_shape(page, scene.layout.schema(), Shape::Many(kind));
+            let name = kind_name(scene.layout.schema(), kind);
+            push_shape(page, Shape::Many(kind), name);
             let count = u32_within(scene.bytes, node.at as usize) as usize;
             push_numbers(page, scene.layout, scene.bytes, kind, at, count);
         }

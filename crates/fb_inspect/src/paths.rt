@@ -1,9 +1,9 @@
 //! The path from the root to what is shown, by the names of the schema.
 use crate::nodes::Nodes;
 use fb_explain_pages::Page;
-use fb_explain_words::shapes::field_at;
 use fb_layout::Layout;
 use fb_read::Step;
+use fb_schema::field_at;
 use itoa::Buffer;
 use std::alloc::{AllocError, Global};
 

@@ -3,10 +3,9 @@ ghost use Rattle.std.specs.Prelude.{◌<◌};
 
 use crate::page_lines::DIGITS;
 use fb_explain_pages::Page;
-use fb_explain_words::shapes::members_of;
 use fb_layout::Layout;
 use fb_read::number_within;
-use fb_schema::{Base, Kind, Schema, TypeId};
+use fb_schema::{Base, Kind, Schema, TypeId, members_of};
 
 // How many characters of a text are shown, and how many numbers of a vector.
 const LONGEST_TEXT: usize = 32;

@@ -3,6 +3,7 @@
 
 mod finding;
 mod indexing;
+mod insides;
 mod keys;
 mod kinds;
 mod name_index;
@@ -11,7 +12,10 @@ mod number_index;
 mod paths;
 mod schema;
 mod types;
+mod written_names;
 
+pub use insides::{field_at, fields_of, members_of, values_of};
 pub use kinds::{Base, Kind, Shape, TypeId};
 pub use schema::Schema;
 pub use types::{Body, FieldInfo, TypeInfo};
+pub use written_names::{base_name, kind_name, type_name};
