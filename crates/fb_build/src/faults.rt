@@ -3,7 +3,7 @@ use std::alloc::{AllocError, AllocFailed};
 use thiserror::Error;
 
 /// Why no buffer is built.
-#[derive(Clone, Copy, Debug, PartialEq, Eq, Drop, Error)]
+#[derive(Clone, Copy, Debug, Drop, Error)]
 pub enum BuildFault {
     /// The value's room is over 2,147,483,647 bytes.
     #[error("the buffer may take more than 2147483647 bytes")]

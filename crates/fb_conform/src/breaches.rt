@@ -9,7 +9,7 @@ use thiserror::Error;
 ///
 /// Types are matched by full name. Names of fields, of structs' fields and of union members may
 /// change, and so may the order in which types are declared.
-#[derive(Clone, Copy, Debug, PartialEq, Eq, Drop, Error)]
+#[derive(Clone, Copy, Drop, Error)]
 pub enum Breach {
     /// The roots' full names differ.
     RootChanged,
@@ -145,5 +145,19 @@ impl fmt::Display for Breach {
             write!(f, "type {number}")?;
         }
         f.write_str(behind)
+    }
+}
+
+// As a derived one would show it, which takes the prover a step for each variant.
+impl fmt::Debug for Breach {
+    fn fmt<W: fmt::Write>(&self, f: &mut fmt::Formatter<W>) -> fmt::Result {
+        let mut shown = f.debug_tuple(self.name());
+        if let Some(type_id) = self.type_id() {
+            shown.field(&type_id);
+        }
+        if let Some(slot) = self.slot() {
+            shown.field(&slot);
+        }
+        shown.finish()
     }
 }

@@ -9,7 +9,7 @@ use thiserror::Error;
 /// The rule on declarations that fails, and the offset in bytes from the text's start.
 ///
 /// `Memory` is a refused allocation and no rule.
-#[derive(Clone, Copy, PartialEq, Eq, Drop, Error)]
+#[derive(Clone, Copy, Drop, Error)]
 pub enum SchemaFault {
     DuplicateName(u64),
     UnknownType(u64),

@@ -17,7 +17,7 @@ use thiserror::Error;
 
 /// The refusal of the first layer that refuses a schema text: its tokens and grammar, its
 /// declarations, or the sizes of its types.
-#[derive(Clone, Copy, Debug, PartialEq, Eq, Drop, Error)]
+#[derive(Clone, Copy, Debug, Drop, Error)]
 pub enum SchemaTextFault {
     #[error(transparent)]
     Syntax(SyntaxFault),

@@ -4,7 +4,7 @@ use fb_json::JsonFault;
 use thiserror::Error;
 
 /// Why a tree of JSON gives no buffer: it breaks a rule, or its value is too big, or memory ran out.
-#[derive(Clone, Copy, Debug, PartialEq, Eq, Drop, Error)]
+#[derive(Clone, Copy, Debug, Drop, Error)]
 pub enum EncodeFault {
     #[error(transparent)]
     Json(JsonFault),
@@ -13,7 +13,7 @@ pub enum EncodeFault {
 }
 
 /// Why a JSON text gives no buffer.
-#[derive(Clone, Copy, Debug, PartialEq, Eq, Drop)]
+#[derive(Clone, Copy, Drop)]
 pub enum TextFault {
     /// It isn't JSON.
     BadJson,

@@ -13,7 +13,7 @@ use thiserror::Error;
 /// `FileRead`, `FileWrite` and `FileTooLong` are of files, `BadJson` are bytes that are no JSON text,
 /// and `Memory` is an allocation that was refused while a file or a JSON text was read, or names of two
 /// schemas were compared.
-#[derive(Clone, Copy, Debug, PartialEq, Eq, Drop, Error)]
+#[derive(Clone, Copy, Debug, Drop, Error)]
 pub enum ToolFault {
     #[error(transparent)]
     Schema(SchemaTextFault),

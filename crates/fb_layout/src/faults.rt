@@ -7,7 +7,7 @@ use thiserror::Error;
 ///
 /// A struct takes 65,535 bytes at most; a table is 65,535 bytes wide at most, all its fields stored
 /// that aren't deprecated, and has 32,765 slots at most. `Memory` is a refused allocation and no rule.
-#[derive(Clone, Copy, Debug, PartialEq, Eq, Drop, Error)]
+#[derive(Clone, Copy, Debug, Drop, Error)]
 pub enum LayoutFault {
     #[error("the struct, type {}, takes more than 65535 bytes", .0.0)]
     StructTooBig(TypeId),

@@ -76,7 +76,7 @@ impl<'t> DottedName<'t> {
 }
 
 /// An integer constant: its value, and the offset of its token.
-#[derive(Clone, Copy, PartialEq, Eq)]
+#[derive(Clone, Copy)]
 pub struct Number {
     pub(crate) value: i128,
     pub(crate) at: u64,

@@ -6,7 +6,7 @@ use thiserror::Error;
 /// What is wrong with a schema text, and the offset in bytes from its start.
 ///
 /// `Memory` is a refused allocation.
-#[derive(Clone, Copy, PartialEq, Eq, Drop, Error)]
+#[derive(Clone, Copy, Drop, Error)]
 pub enum SyntaxFault {
     #[error("the text isn't UTF-8 from {0} on")]
     NotUtf8(u64),

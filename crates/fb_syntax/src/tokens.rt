@@ -11,7 +11,7 @@ pub enum TokenKind {
 }
 
 /// A token: its kind, its offset and its length in bytes.
-#[derive(Clone, Copy, PartialEq, Eq, Drop)]
+#[derive(Clone, Copy, Drop)]
 pub struct Token {
     pub kind: TokenKind,
     pub at: u64,

@@ -6,7 +6,7 @@ use thiserror::Error;
 ///
 /// `NoMemberName` comes before the first byte. `WriteFailed` says how many bytes of the text were
 /// written; the count stops at its greatest value.
-#[derive(Clone, Copy, Debug, PartialEq, Eq, Drop, Error)]
+#[derive(Clone, Copy, Debug, Drop, Error)]
 pub enum WriteFault {
     #[error("a union's member has no name in the schema, in {0}")]
     NoMemberName(Place),
@@ -65,7 +65,7 @@ impl WriteFault {
 }
 
 /// Why a value has no JSON text. `Memory` is a refused allocation.
-#[derive(Clone, Copy, Debug, PartialEq, Eq, Drop, Error)]
+#[derive(Clone, Copy, Debug, Drop, Error)]
 pub enum TextFault {
     #[error("a union's member has no name in the schema, in {0}")]
     NoMemberName(Place),

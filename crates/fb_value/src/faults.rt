@@ -6,7 +6,7 @@ use thiserror::Error;
 /// The rule that fails, and the offset in bytes from the buffer's start.
 ///
 /// `MissingRequired` also names the slot. `Memory` is a refused allocation and no rule.
-#[derive(Clone, Copy, PartialEq, Eq, Drop, Error)]
+#[derive(Clone, Copy, Drop, Error)]
 pub enum ReadFault {
     Short(u64),
     TooLong(u64),

@@ -100,7 +100,9 @@ fn judge_value(alloc: Global, layout: &Layout, view: View, value: &Value) -> Ver
             is_same && means(alloc, layout, text.as_bytes(), value)
         }
         Err(TextFault::NoMemberName(place)) => {
-            if written == Err(WriteFault::NoMemberName(place)) && out.is_empty() {
+            if matches!(written, Err(WriteFault::NoMemberName(at)) if at == place)
+                && out.is_empty()
+            {
                 return Verdict::Unnamed;
             }
             false

@@ -186,6 +186,18 @@ const SHOWN: &[(ToolFault, &str)] = &[
         "Read(MissingRequired(8, 2))",
     ),
     (ToolFault::Read(ReadFault::Memory), "Read(Memory)"),
+    (
+        ToolFault::Breach(Breach::RootChanged),
+        "Breach(RootChanged)",
+    ),
+    (
+        ToolFault::Breach(Breach::TypeGone(TypeId(3))),
+        "Breach(TypeGone(TypeId(3)))",
+    ),
+    (
+        ToolFault::Breach(Breach::SlotGone(TypeId(3), 2)),
+        "Breach(SlotGone(TypeId(3), 2))",
+    ),
 ];
 
 const SCHEMA: &[u8] = b"table T { a:int; } root_type T;";

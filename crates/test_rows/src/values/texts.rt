@@ -33,8 +33,8 @@ fn is_printed(case: &Case, bytes: &[u8], raw: bool, defaults: bool, text: &str) 
 /// Whether bytes are refused with a fault of their text that isn't memory's.
 fn is_unprinted(case: &Case, bytes: &[u8], raw: bool, defaults: bool, fault: TextFault) -> bool {
     match printed_of(case, bytes, raw, defaults) {
-        Ok(_) => false,
-        Err(told) => fault != TextFault::Memory && told == ToolFault::Text(fault),
+        Err(ToolFault::Text(told)) => fault.place().is_some() && told.place() == fault.place(),
+        _ => false,
     }
 }
 
