@@ -1,7 +1,7 @@
 //! Where a schema text declares its types and fields, by number and slot.
 use crate::declared::{fields_of, name_of, type_in};
 use fb_explain_pages::LineStarts;
-use fb_schema::{FieldInfo, Kind, Schema, Shape, TypeId, fields_of};
+use fb_schema::{FieldInfo, Kind, Schema, Shape, TypeId};
 use fb_syntax::{Decls, TypeDecl};
 use std::alloc::{AllocError, Global};
 
@@ -42,7 +42,7 @@ fn places_of(
     number: TypeId,
 ) -> Result<TypePlaces, AllocError> {
     let name = name_of(declared).1;
-    let mut fields = vec![in alloc; name; fields_of(schema, number).len()]?;
+    let mut fields = vec![in alloc; name; fb_schema::fields_of(schema, number).len()]?;
     for field in fields_of(declared) {
         if let Some(found) = schema.field_by_name(number, field.name.text) {
             set_place(fields.as_mut_slice(), found, field.name.at);

@@ -14,6 +14,7 @@ mod jobs;
 mod layouts;
 mod meanings;
 mod memoryless;
+mod outcomes;
 mod pieces;
 mod schemas;
 mod soak;

@@ -2,12 +2,13 @@
 //! holds a value prints as a text that means it.
 use crate::dice::Dice;
 use crate::meanings::meaning;
+use crate::outcomes::is_same_fault;
 use fb_layout::Layout;
 use fb_owned::{build, read, text_of, whole};
 use fb_read::{Entries, View, verify};
 use fb_text::{Noted, TextFault, WriteFault, write_text};
-use fb_value::{Limits, Value};
-use flatc_tool::{schema_of, to_binary, to_json};
+use fb_value::{Limits, ReadFault, Value};
+use flatc_tool::{ToolFault, schema_of, to_binary, to_json};
 use std::alloc::{AllocError, Global};
 use std::io;
 
@@ -116,17 +117,23 @@ fn judge_value(alloc: Global, layout: &Layout, view: View, value: &Value) -> Ver
     }
 }
 
+/// Judges what `read` makes of bytes that `verify` refuses.
+fn judge_refusal(found: &Result<Value, ReadFault>, fault: ReadFault) -> Verdict {
+    match found {
+        Err(told) if is_same_fault(ToolFault::Read(*told), ToolFault::Read(fault)) => {
+            Verdict::Refused
+        }
+        _ => Verdict::Wrong,
+    }
+}
+
 fn judge<'a>(alloc: Global, layout: &'a Layout, bytes: &'a [u8]) -> Verdict {
     let mut entries = Entries::new();
     let found = read(alloc, layout, bytes, limits(), false, &mut entries);
     let mut entries = Entries::new();
     let view = match verify(layout, bytes, limits(), false, &mut entries) {
         Ok(view) => view,
-        Err(fault) => return if found.err() == Some(fault) {
-            Verdict::Refused
-        } else {
-            Verdict::Wrong
-        },
+        Err(fault) => return judge_refusal(&found, fault),
     };
     match found {
         Ok(value) => judge_value(alloc, layout, view, &value),

@@ -5,6 +5,7 @@ ghost use Rattle.fb_value.specs.Counts.{nesting};
 ghost use Rattle.fb_value.specs.Fits.{FitsRoot};
 
 use crate::values::Case;
+use crate::values::readings::is_same;
 use crate::values::texts::try_alike;
 use fb_json::{JsonFault, value_of};
 use fb_value::Value;
@@ -57,7 +58,7 @@ pub(crate) fn buffer_of(case: &Case, json: &str, unknown: bool) -> Result<Vec<u8
 fn is_same_refusal(fault: ToolFault, unmeant: Unmeant) -> bool {
     match (fault, unmeant) {
         (ToolFault::BadJson, Unmeant::NoJson) => true,
-        (ToolFault::Json(told), Unmeant::Fault(fault)) => told == fault,
+        (told, Unmeant::Fault(fault)) => is_same(told, ToolFault::Json(fault)),
         _ => false,
     }
 }

@@ -5,6 +5,7 @@ use crate::values::texts::try_alike;
 use fb_owned::read_framed;
 use fb_read::{Entries, verify_framed};
 use fb_value::{ReadFault, Value};
+use flatc_tool::ToolFault;
 use std::alloc::AllocError;
 
 /// Why there is no value: both readers refuse the bytes with one fault, or they differ.
@@ -14,18 +15,29 @@ pub(crate) enum Unread {
     Apart,
 }
 
-/// The fault of `verify`, where it refuses the bytes.
-fn fault_of(case: &Case, bytes: &[u8], raw: bool) -> Option<ReadFault> {
+/// Whether two faults are the same, at the same place.
+pub(crate) fn is_same(one: ToolFault, other: ToolFault) -> bool {
+    one.number() == other.number()
+        && one.offset() == other.offset()
+        && one.owner() == other.owner()
+        && one.slot() == other.slot()
+        && one.written() == other.written()
+}
+
+/// Whether `verify` refuses the bytes with this fault.
+fn is_refused(case: &Case, bytes: &[u8], raw: bool, fault: ReadFault) -> bool {
     let mut entries = Entries::new();
-    verify_framed(
+    match verify_framed(
         case.layout,
         bytes,
         case.limits,
         raw,
         case.prefixed,
         &mut entries,
-    )
-    .err()
+    ) {
+        Ok(_) => false,
+        Err(told) => is_same(ToolFault::Read(told), ToolFault::Read(fault)),
+    }
 }
 
 /// Whether `verify` accepts the bytes, and its view shows the value.
@@ -57,7 +69,7 @@ pub(crate) fn value_in(case: &Case, bytes: &[u8], raw: bool) -> Result<Value, Un
         &mut entries,
     ) {
         Ok(value) if is_shown(case, bytes, raw, &value) => Ok(value),
-        Err(fault) if fault_of(case, bytes, raw) == Some(fault) => Err(Unread::Fault(fault)),
+        Err(fault) if is_refused(case, bytes, raw, fault) => Err(Unread::Fault(fault)),
         _ => Err(Unread::Apart),
     }
 }

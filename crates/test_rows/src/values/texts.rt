@@ -1,5 +1,6 @@
 //! Texts of values beside those of their bytes.
 use crate::values::Case;
+use crate::values::readings::is_same;
 use fb_owned::spaced_text_of;
 use fb_text::{Spacing, TextFault};
 use fb_value::Value;
@@ -33,8 +34,8 @@ fn is_printed(case: &Case, bytes: &[u8], raw: bool, defaults: bool, text: &str) 
 /// Whether bytes are refused with a fault of their text that isn't memory's.
 fn is_unprinted(case: &Case, bytes: &[u8], raw: bool, defaults: bool, fault: TextFault) -> bool {
     match printed_of(case, bytes, raw, defaults) {
-        Err(ToolFault::Text(told)) => fault.place().is_some() && told.place() == fault.place(),
-        _ => false,
+        Ok(_) => false,
+        Err(told) => fault.place().is_some() && is_same(told, ToolFault::Text(fault)),
     }
 }
 
