@@ -56,10 +56,9 @@ pub(crate) fn buffer_of(case: &Case, json: &str, unknown: bool) -> Result<Vec<u8
 
 /// Whether the tool refuses a JSON text as its meaning is refused.
 fn is_same_refusal(fault: ToolFault, unmeant: Unmeant) -> bool {
-    match (fault, unmeant) {
-        (ToolFault::BadJson, Unmeant::NoJson) => true,
-        (told, Unmeant::Fault(fault)) => is_same(told, ToolFault::Json(fault)),
-        _ => false,
+    match unmeant {
+        Unmeant::NoJson => matches!(fault, ToolFault::BadJson),
+        Unmeant::Fault(meant) => is_same(fault, ToolFault::Json(meant)),
     }
 }
 
