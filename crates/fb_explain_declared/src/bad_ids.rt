@@ -80,14 +80,22 @@ impl<'s> Owners<'s> {
     }
 
     fn first_free(&self) -> Option<u64> {
-        Some(self.names.iter().position(|name| name.is_none())? as u64)
+        for (slot, name) in self.names.iter().enumerate() {
+            if name.is_none() {
+                return Some(slot as u64);
+            }
+        }
+        None
     }
 }
 
 /// How many slots a table's fields take.
 fn slot_count(fields: &[ResolvedField<'_, '_>]) -> usize {
-    let unions = fields.iter().filter(|field| union_in(field).is_some());
-    fields.len().saturating_add(unions.count())
+    let mut count = 0usize;
+    for field in fields {
+        count = count.saturating_add(if union_in(field).is_some() { 2 } else { 1 });
+    }
+    count
 }
 
 /// The field that has one of the slots of another already, with the slot; if none has, they are that one's.
@@ -121,7 +129,7 @@ fn least_behind<'f, 'd, 's>(
             least = Some((first, field));
         }
     }
-    least.map(|(_, field)| field)
+    Some(least?.1)
 }
 
 /// The first field whose id is wrong alone.

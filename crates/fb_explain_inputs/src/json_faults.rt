@@ -130,9 +130,11 @@ fn push_at_path(
         return;
     };
     let unknown = unknown_member(layout, place.owner, names.as_slice());
-    let offset = found
-        .offset
-        .saturating_add(unknown.map_or(0, |name| name.at));
+    let (name, at) = match unknown {
+        Some(name) => (Some(name.text.as_str()), name.at),
+        None => (None, 0),
+    };
+    let offset = found.offset.saturating_add(at);
     push_place(page, &sources.input, offset);
     if !steps.is_empty() {
         push_path(page, layout, steps);
@@ -145,7 +147,7 @@ fn push_at_path(
         sources.limits,
         (rest_of(text, found.offset), found.is_there),
         fault,
-        unknown.map(|name| name.text.as_str()),
+        name,
         is_element,
     );
     push_excerpt(page, sources.input.bytes, offset);

@@ -1,4 +1,5 @@
 //! Names in a JSON text that a schema doesn't have: of values, of unions' members and of fields.
+use bstr::ByteSlice;
 use fb_explain_pages::{Page, push_few, push_nearest};
 use fb_explain_words::words::last_word;
 use fb_json::{Place, has_flags};
@@ -63,10 +64,7 @@ fn wrong_flag<'t>(schema: &Schema, number: TypeId, flags: &'t str) -> &'t str {
 
 /// Whether flags are separated by something else than one space.
 fn is_parted_wrongly(flag: &str) -> bool {
-    flag.is_empty()
-        || flag
-            .bytes()
-            .any(|byte| matches!(byte, b'|' | b',' | b';' | b'+' | b'\t'))
+    flag.is_empty() || flag.as_bytes().find_byteset(b"|,;+\t").is_some()
 }
 
 /// Adds that an enum has no value of a name, or which of several flags it doesn't have.
@@ -98,9 +96,13 @@ pub(crate) fn push_unknown_name(
     field: Option<&FieldInfo>,
 ) {
     let text = unquoted(token);
-    match field.map(|field| kind_in(field.shape)) {
-        Some(Kind::Enum(number)) => push_unknown_value(page, schema, number, text),
-        Some(Kind::Code(number) | Kind::Union(number)) => {
+    let Some(field) = field else {
+        page.push_line("no such name");
+        return;
+    };
+    match kind_in(field.shape) {
+        Kind::Enum(number) => push_unknown_value(page, schema, number, text),
+        Kind::Code(number) | Kind::Union(number) => {
             let names = names_in(page.alloc(), members_of(schema, number));
             let owner = type_name(schema, number);
             push_no_name(page, "no member of union ", owner, text, names);
@@ -128,11 +130,8 @@ pub(crate) fn push_unknown_member(
         page.push_line("a member has a name that no field has");
         return;
     };
-    let fields = fields_of(schema, owner);
-    if fields
-        .iter()
-        .any(|field| field.deprecated && field.name.as_str() == name)
-    {
+    // the name is no field's that is in use
+    if schema.field_by_name(owner, name).is_some() {
         page.push_str("the field ");
         page.push_name(name.as_bytes());
         page.push_str(" of ");
@@ -143,7 +142,7 @@ pub(crate) fn push_unknown_member(
     page.push_cut(type_name(schema, owner).as_bytes());
     page.push_str(" has no field called ");
     page.push_name(name.as_bytes());
-    let names = field_names(page.alloc(), fields);
+    let names = field_names(page.alloc(), fields_of(schema, owner));
     if let Some(names) = page.keep(names) {
         push_nearest(page, "it has", names.as_slice(), name);
     }
@@ -157,12 +156,20 @@ fn push_quoted(page: &mut Page, name: &str) {
     page.push_str("\"");
 }
 
+/// The field of a place.
+pub(crate) fn field_of(schema: &Schema, place: Place) -> Option<&FieldInfo> {
+    field_at(schema, place.owner, place.slot?)
+}
+
+/// The half of a union that is missing: its code is in the slot before its value.
+fn missing_half(schema: &Schema, place: Place, has_value: bool) -> Option<&FieldInfo> {
+    let slot = place.slot?.checked_sub(u16::from(has_value))?;
+    field_at(schema, place.owner, slot)
+}
+
 /// Adds which half of a union is missing, and the member that has it.
 pub(crate) fn push_half(page: &mut Page, schema: &Schema, place: Place, has_value: bool) {
-    let missing = place
-        .slot
-        .and_then(|slot| slot.checked_sub(u16::from(has_value)));
-    let Some(field) = missing.and_then(|slot| field_at(schema, place.owner, slot)) else {
+    let Some(field) = missing_half(schema, place, has_value) else {
         page.push_line("a union needs both its type and its value");
         return;
     };

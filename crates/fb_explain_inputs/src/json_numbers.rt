@@ -15,7 +15,7 @@ fn push_advice(page: &mut Page, front: &str, advice: &str) {
 
 /// Adds that a number has a fraction: of zeros alone, or another one.
 fn push_fraction(page: &mut Page, whole: &str, fraction: &str) {
-    if fraction.bytes().any(|byte| byte != b'0') {
+    if !fraction.trim_start_matches('0').is_empty() {
         page.push_line(" has a fraction, and numbers are whole here");
         return;
     }
@@ -26,7 +26,7 @@ fn push_fraction(page: &mut Page, whole: &str, fraction: &str) {
 /// Adds why a number isn't written as a whole one.
 pub(crate) fn push_not_whole(page: &mut Page, token: &str) {
     page.push_cut(token.as_bytes());
-    if token.bytes().any(|byte| matches!(byte, b'e' | b'E')) {
+    if token.contains('e') || token.contains('E') {
         page.push_line(
             " is written with an exponent: write all its digits (jq writes large numbers so, and rounds them)",
         );

@@ -1,11 +1,12 @@
 //! The rule that a JSON value breaks, with what is there and what would be right.
-use crate::json_names::{push_half, push_unknown_member, push_unknown_name};
+use crate::json_names::{field_of, push_half, push_unknown_member, push_unknown_name};
 use crate::json_numbers::push_not_whole;
+use crate::json_tokens::number_of;
 use fb_explain_pages::Page;
 use fb_explain_words::shapes::{push_shape, range_of_base};
 use fb_json::{JsonFault, Place};
 use fb_layout::{Layout, kind_in};
-use fb_schema::{Base, FieldInfo, Kind, Shape, field_at, kind_name, type_name};
+use fb_schema::{Base, FieldInfo, Kind, Shape, kind_name, type_name};
 use fb_value::Limits;
 
 /// An offset in a JSON text, and whether the value at a path's end is there, or the object that lacks it.
@@ -15,12 +16,6 @@ pub(crate) struct Found {
     pub(crate) is_there: bool,
 }
 
-fn number_len(text: &str) -> usize {
-    text.bytes()
-        .position(|byte| !byte.is_ascii_alphanumeric() && !matches!(byte, b'+' | b'-' | b'.'))
-        .unwrap_or(text.len())
-}
-
 /// The number, word or text at the front.
 fn token_of(text: &str) -> &str {
     match text.strip_prefix('"') {
@@ -28,7 +23,7 @@ fn token_of(text: &str) -> &str {
             Some(end) => text.get(..end.saturating_add(2)).unwrap_or(text),
             None => text,
         },
-        None => text.get(..number_len(text)).unwrap_or(text),
+        None => number_of(text),
     }
 }
 
@@ -121,7 +116,10 @@ fn push_missing(
 ) {
     page.push_cut(type_name(layout.schema(), place.owner).as_bytes());
     page.push_str(" needs the field ");
-    page.push_name(field.map_or("?", |field| field.name.as_str()).as_bytes());
+    page.push_name(match field {
+        Some(field) => field.name.as_bytes(),
+        None => b"?",
+    });
     page.push_line(rest);
 }
 
@@ -144,9 +142,7 @@ pub(crate) fn push_rule(
     let Some(place) = fault.place() else {
         return;
     };
-    let field = place
-        .slot
-        .and_then(|slot| field_at(layout.schema(), place.owner, slot));
+    let field = field_of(layout.schema(), place);
     match fault {
         JsonFault::WrongShape(_) => push_wrong_shape(page, layout, text, field, is_element),
         JsonFault::NotWhole(_) => push_not_whole(page, token_of(text)),

@@ -1,5 +1,6 @@
 //! Where a text stops being JSON, and why.
 use crate::json_tokens::{Flaw, number_end, sentence_of, string_end, word_end};
+use fb_explain_words::words::front_len;
 
 // No text is JSON whose brackets are nested deeper.
 const DEEPEST: usize = 127;
@@ -58,11 +59,7 @@ struct Scan {
 
 fn blanks_end(text: &str, at: usize) -> usize {
     let rest = text.as_bytes().get(at..).unwrap_or(&[]);
-    let len = rest
-        .iter()
-        .position(|byte| !matches!(byte, b' ' | b'\t' | b'\n' | b'\r'))
-        .unwrap_or(rest.len());
-    at.saturating_add(len)
+    at.saturating_add(front_len(rest, b" \t\n\r"))
 }
 
 fn begins_a_value(byte: u8) -> bool {

@@ -1,5 +1,18 @@
 //! The texts, numbers and words of JSON, and what is wrong with one.
 use crate::json_places::rest_of;
+use bstr::ByteSlice;
+use fb_explain_words::words::{WORD_BYTES, front_len};
+
+const DIGITS: &[u8] = b"0123456789";
+
+const HEX_DIGITS: &[u8] = b"0123456789ABCDEFabcdef";
+
+/// The bytes of numbers, also of wrong ones.
+const NUMBER_BYTES: &[u8] = b"+-.0123456789ABCDEFGHIJKLMNOPQRSTUVWXYZ_abcdefghijklmnopqrstuvwxyz";
+
+/// What a text has no more of as it is: its quote, a backslash, control characters.
+const NOT_PLAIN: &[u8] = b"\"\\\x00\x01\x02\x03\x04\x05\x06\x07\x08\t\n\x0b\x0c\r\x0e\x0f\
+\x10\x11\x12\x13\x14\x15\x16\x17\x18\x19\x1a\x1b\x1c\x1d\x1e\x1f";
 
 /// Where a text stops being JSON, and what its writer has to know of that place.
 #[derive(Clone, Copy)]
@@ -17,7 +30,7 @@ impl Flaw {
 /// The number of four hexadecimal digits.
 fn unit_at(text: &str, at: usize) -> Option<u32> {
     let digits = text.get(at..at.saturating_add(4))?;
-    if !digits.bytes().all(|byte| byte.is_ascii_hexdigit()) {
+    if front_len(digits.as_bytes(), HEX_DIGITS) < digits.len() {
         return None;
     }
     u32::from_str_radix(digits, 16).ok()
@@ -79,10 +92,7 @@ pub(crate) fn string_end(text: &str, quote: usize) -> Result<usize, Flaw> {
     let mut at = quote.saturating_add(1);
     for _ in 0..text.len() {
         let rest = rest_of(text, at).as_bytes();
-        let plain = rest
-            .iter()
-            .position(|byte| matches!(byte, b'"' | b'\\' | 0..=31));
-        at = at.saturating_add(plain.unwrap_or(rest.len()));
+        at = at.saturating_add(rest.find_byteset(NOT_PLAIN).unwrap_or(rest.len()));
         match text.as_bytes().get(at) {
             Some(b'"') => return Ok(at.saturating_add(1)),
             Some(b'\\') => at = at.saturating_add(escape_len(text, at)?),
@@ -93,14 +103,14 @@ pub(crate) fn string_end(text: &str, quote: usize) -> Result<usize, Flaw> {
     Err(Flaw::at(text.len(), "this text has no closing quote"))
 }
 
-fn is_of_number(byte: u8) -> bool {
-    byte.is_ascii_alphanumeric() || matches!(byte, b'+' | b'-' | b'.' | b'_')
+/// The number at the front, also a wrong one, or the word.
+pub(crate) fn number_of(text: &str) -> &str {
+    text.get(..front_len(text.as_bytes(), NUMBER_BYTES))
+        .unwrap_or(text)
 }
 
 fn digits_len(text: &str) -> usize {
-    text.bytes()
-        .position(|byte| !byte.is_ascii_digit())
-        .unwrap_or(text.len())
+    front_len(text.as_bytes(), DIGITS)
 }
 
 /// What is wrong with a number behind its point and its exponent's sign.
@@ -159,17 +169,12 @@ fn number_sentence(number: &str) -> Option<&'static str> {
 
 /// Where the number ends that begins at an offset.
 pub(crate) fn number_end(text: &str, at: usize) -> Result<usize, Flaw> {
-    let rest = rest_of(text, at);
-    let len = rest
-        .bytes()
-        .position(|byte| !is_of_number(byte))
-        .unwrap_or(rest.len());
-    let number = rest.get(..len).unwrap_or(rest);
+    let number = number_of(rest_of(text, at));
     if let Some(sentence) = number_sentence(number) {
         return Err(Flaw::at(at, sentence));
     }
     match number.parse::<f64>() {
-        Ok(value) if value.is_finite() => Ok(at.saturating_add(len)),
+        Ok(value) if value.is_finite() => Ok(at.saturating_add(number.len())),
         _ => Err(Flaw::at(
             at,
             "this number is too large: none of JSON here is above 1.8e308",
@@ -203,10 +208,7 @@ fn word_sentence(word: &str) -> Option<&'static str> {
 /// Where the word ends that begins at an offset.
 pub(crate) fn word_end(text: &str, at: usize) -> Result<usize, Flaw> {
     let rest = rest_of(text, at);
-    let len = rest
-        .bytes()
-        .position(|byte| !byte.is_ascii_alphanumeric() && byte != b'_')
-        .unwrap_or(rest.len());
+    let len = front_len(rest.as_bytes(), WORD_BYTES);
     match word_sentence(rest.get(..len).unwrap_or(rest)) {
         Some(sentence) => Err(Flaw::at(at, sentence)),
         None => Ok(at.saturating_add(len)),

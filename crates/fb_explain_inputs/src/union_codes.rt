@@ -1,13 +1,13 @@
 //! A union in a buffer whose code has no member.
 use crate::buffer_paths::push_path;
-use crate::json_names::names_in;
+use crate::json_names::{field_of, names_in};
 use crate::sources::Sources;
 use crate::union_paths::{Unnamed, first_unnamed};
 use fb_explain_pages::{Page, push_names};
 use fb_json::Place;
 use fb_layout::Layout;
 use fb_read::{Entries, verify_framed};
-use fb_schema::{Kind, Shape, field_at, members_of, type_name};
+use fb_schema::{Kind, Shape, members_of, type_name};
 use std::alloc::{AllocError, Global};
 
 /// The first such union of the buffer.
@@ -33,10 +33,7 @@ fn unnamed_in(
 /// Adds the members of a union that is in a slot.
 fn push_members(page: &mut Page, layout: &Layout, place: Place) {
     let schema = layout.schema();
-    let field = place
-        .slot
-        .and_then(|slot| field_at(schema, place.owner, slot));
-    let Some(field) = field else {
+    let Some(field) = field_of(schema, place) else {
         return;
     };
     if let Shape::One(Kind::Code(union) | Kind::Union(union)) = field.shape {
@@ -59,7 +56,7 @@ pub fn push_unnamed_member(page: &mut Page, layout: &Layout, sources: &Sources<'
     found.steps.as_mut_slice().reverse();
     page.push_str(sources.input.path);
     page.push_str(": ");
-    push_path(page, layout, found.steps.as_slice());
+    let _is_root = push_path(page, layout, found.steps.as_slice());
     page.push_str(": the union's code ");
     page.push_number(u64::from(found.code));
     page.push_str(" is one that the schema doesn't have");

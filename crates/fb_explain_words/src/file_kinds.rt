@@ -30,7 +30,7 @@ const FIRST_WORDS: &[&str] = &[
 /// What kind of file bytes look like by their front, where that is clear.
 pub fn kind_of_file(bytes: &[u8]) -> Option<FileKind> {
     let front = bytes.get(..FRONT).unwrap_or(bytes);
-    if front.iter().any(|byte| *byte == 0) {
+    if front.contains(&0) {
         return Some(FileKind::Buffer);
     }
     let token = Tokens::of(bytes).next_token()?.bytes;

@@ -1,4 +1,5 @@
 //! The tokens of a schema text, also of one that isn't right.
+use crate::words::{WORD_BYTES, front_len};
 use bstr::ByteSlice;
 
 /// A token, and its offset in bytes.
@@ -14,6 +15,9 @@ pub(crate) struct Tokens<'t> {
     text: &'t [u8],
     at: usize,
 }
+
+/// The bytes of words and of the dots between them.
+const NAME_BYTES: &[u8] = b".0123456789ABCDEFGHIJKLMNOPQRSTUVWXYZ_abcdefghijklmnopqrstuvwxyz";
 
 fn is_word_byte(byte: u8) -> bool {
     byte.is_ascii_alphanumeric() || byte == b'_'
@@ -53,15 +57,8 @@ fn token_len(text: &[u8]) -> usize {
             Some(end) => end.saturating_add(2),
             None => text.len(),
         },
-        [b'+' | b'-', rest @ ..] => rest
-            .iter()
-            .position(|byte| !is_word_byte(*byte))
-            .unwrap_or(rest.len())
-            .saturating_add(1),
-        [first, ..] if is_word_byte(*first) => text
-            .iter()
-            .position(|byte| !is_word_byte(*byte))
-            .unwrap_or(text.len()),
+        [b'+' | b'-', rest @ ..] => front_len(rest, WORD_BYTES).saturating_add(1),
+        [first, ..] if is_word_byte(*first) => front_len(text, WORD_BYTES),
         [first, rest @ ..] if *first >= 128 => rest
             .iter()
             .position(|byte| byte / 64 != 2)
@@ -84,11 +81,7 @@ pub fn name_at(text: &[u8], at: usize) -> &[u8] {
         return token;
     }
     let rest = rest_from(text, at);
-    let len = rest
-        .iter()
-        .position(|byte| !is_word_byte(*byte) && *byte != b'.')
-        .unwrap_or(rest.len());
-    rest.get(..len).unwrap_or(rest)
+    rest.get(..front_len(rest, NAME_BYTES)).unwrap_or(rest)
 }
 
 impl<'t> Tokens<'t> {

@@ -1,4 +1,13 @@
-//! Words that are looked up in tables, and the last one of a name.
+//! Words that are looked up in tables, the bytes of words, and the last word of a name.
+use bstr::ByteSlice;
+
+/// The bytes of a word.
+pub const WORD_BYTES: &[u8] = b"0123456789ABCDEFGHIJKLMNOPQRSTUVWXYZ_abcdefghijklmnopqrstuvwxyz";
+
+/// How many bytes at a text's front are among these.
+pub fn front_len(text: &[u8], bytes: &[u8]) -> usize {
+    text.find_not_byteset(bytes).unwrap_or(text.len())
+}
 
 /// What a table has beside a word.
 pub fn value_of<T: Copy>(table: &[(&str, T)], word: &[u8]) -> Option<T> {
@@ -12,7 +21,12 @@ pub fn value_of<T: Copy>(table: &[(&str, T)], word: &[u8]) -> Option<T> {
 
 /// Whether a word is one of these.
 pub fn is_one_of(words: &[&str], word: &[u8]) -> bool {
-    words.iter().any(|name| name.as_bytes() == word)
+    for name in words {
+        if name.as_bytes() == word {
+            return true;
+        }
+    }
+    false
 }
 
 /// What is behind the last dot of a name.
