@@ -1,1 +1,2 @@
 pub mod InOrder
+pub mod OneBranchIsTaken

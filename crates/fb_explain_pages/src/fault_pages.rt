@@ -16,19 +16,20 @@ pub fn fault_page(number: u8) -> Option<&'static str>
     ensures titled { IfSome result (λ page. first_number page.now ≡ number) }
     ensures listed { IsSome result ↔ IsTrue (is_number_of_fault number) }
 {
-    match number {
-        1..=7 => Some(page_in(schemas::OF_TEXTS, 1, number)),
-        10..=23 => Some(page_in(schemas::OF_DECLARATIONS, 10, number)),
-        30..=32 => Some(page_in(schemas::OF_SIZES, 30, number)),
-        40..=41 => Some(page_in(buffers::OF_BUILDING, 40, number)),
-        50..=60 => Some(page_in(buffers::OF_READING, 50, number)),
-        62..=64 => Some(page_in(buffers::OF_LIMITS, 62, number)),
-        70..=82 => Some(page_in(json_texts::OF_JSON, 70, number)),
-        84 => Some(page_in(json_texts::OF_PRINTING, 84, number)),
-        90..=103 => Some(page_in(jobs::OF_COMPARISONS, 90, number)),
-        110..=114 => Some(page_in(jobs::OF_FILES, 110, number)),
-        _ => None,
-    }
+    let (first, pages) = match number {
+        1..=7 => (1, schemas::OF_TEXTS),
+        10..=23 => (10, schemas::OF_DECLARATIONS),
+        30..=32 => (30, schemas::OF_SIZES),
+        40..=41 => (40, buffers::OF_BUILDING),
+        50..=60 => (50, buffers::OF_READING),
+        62..=64 => (62, buffers::OF_LIMITS),
+        70..=82 => (70, json_texts::OF_JSON),
+        84 => (84, json_texts::OF_PRINTING),
+        90..=103 => (90, jobs::OF_COMPARISONS),
+        110..=114 => (110, jobs::OF_FILES),
+        _ => return None,
+    };
+    Some(page_in(pages, first, number))
 }
 
 /// The page of a number, among the pages of the numbers from `first` on.
