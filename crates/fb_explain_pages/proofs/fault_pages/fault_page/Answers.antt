@@ -15,7 +15,8 @@ is_group_of : (number : ℕ) (group taken : ℕ × Bor (List (Bor (List ℕ))))
     → taken ≡ group → (count : ℕ) → length group.1.now ≡ count → pages_by_branch group.0 group.1.now ≡ true
     → group.0 ≤ number → number < group.0 + count → IsGroupOf number taken
 is_group_of number group taken is count counted in_order from to =
-    rw is (record { pages = same_pages group.0 group.1.now ∙ in_order; first = from; last = omega (arith, counted, to) })
+    let shown = same_pages group.0 group.1.now ∙ in_order in
+    rw is (record { pages = shown; first = from; last = omega (arith, counted, to) })
 
 group_taken : (c : goal.After-pages-1) → IsGroupOf c.args.number c.match-number.first
 group_taken c = elim c.match-number.branch [
