@@ -31,24 +31,22 @@ fn distance(alloc: Global, name: &str, wanted: &str) -> Result<Option<usize>, Al
         return Ok(None);
     }
     let distance = osa_distance(alloc, name, wanted)?;
-    Ok(Some(distance).filter(|distance| *distance <= greatest_distance(name, wanted)))
+    Ok((distance <= greatest_distance(name, wanted)).then_some(distance))
 }
 
 /// The place of the nearest of some names, where one is near.
 fn nearest_at(alloc: Global, names: &[&str], wanted: &str) -> Result<Option<usize>, AllocError> {
-    let mut best: Option<(usize, usize)> = None;
+    let mut nearest = None;
+    let mut least = usize::MAX;
     for (at, name) in names.iter().take(MOST_NAMES).enumerate() {
         if let Some(distance) = distance(alloc, name, wanted)? {
-            let is_nearer = match best {
-                Some((least, _)) => distance < least,
-                None => true,
-            };
-            if is_nearer {
-                best = Some((distance, at));
+            if distance < least {
+                nearest = Some(at);
+                least = distance;
             }
         }
     }
-    Ok(best.map(|(_, at)| at))
+    Ok(nearest)
 }
 
 /// The place of the nearest of some names, where one is near; none too where memory runs out.
