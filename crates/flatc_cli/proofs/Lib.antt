@@ -1,3 +1,4 @@
 pub mod Arguments
 pub mod JobLines
 pub mod Refusals
+pub mod LineInputs

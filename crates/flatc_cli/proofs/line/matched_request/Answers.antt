@@ -11,3 +11,17 @@ returns-in-Err-clause-memory c = λ line.
     (rows_of (found_of c.in-Some.found.now))
     c.in-Some.ensures.name c.in-Some.ensures.rows in
     c.misuse_error-in-Err.ensures.memory (c.in-Err.ensures.refusal (sym (ap is_line pair) ∙ line))
+
+pub returns-in-Ok-clause-request : goal.returns-in-Ok-clause-request
+returns-in-Ok-clause-request c =
+    let pair = one_pair (out-ArgMatches c.args.matches.now).subcommand c.in-Some.job.now
+    (rows_of (found_of c.in-Some.found.now))
+    c.in-Some.ensures.name c.in-Some.ensures.rows in
+    rw pair c.in-Ok.ensures.request
+
+pub returns-in-Ok-clause-line : goal.returns-in-Ok-clause-line
+returns-in-Ok-clause-line c =
+    let pair = one_pair (out-ArgMatches c.args.matches.now).subcommand c.in-Some.job.now
+    (rows_of (found_of c.in-Some.found.now))
+    c.in-Some.ensures.name c.in-Some.ensures.rows in
+    rw pair c.in-Ok.ensures.line

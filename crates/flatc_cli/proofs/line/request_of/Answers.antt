@@ -1,8 +1,9 @@
 use Rattle.std.proofs.Common.{◌≡◌, List, ap, refl, ◌∙◌, map, string_bytes}
 use Rattle.std.proofs.lemmas.Result.{IfErr-weaker}
-use Rattle.clap.specs.Words.{App, HasMatchesOf, Text, takes, subcommand_of, subcommand_rows_of}
+use Rattle.clap.specs.Words.{kind_of, App, HasMatchesOf, Text, takes, subcommand_of, subcommand_rows_of}
 use Rattle.clap.specs.declared.parser.matches.ArgMatches.{ArgMatches}
 use Rattle.flatc_cli.specs.Commands.{flatc_app}
+use Rattle.flatc_cli.specs.Misuses.{IsRefusal}
 use Rattle.flatc_cli.proofs.Refusals.{refuses_memory}
 use Rattle.flatc_cli.proofs.line.request_of.Goals as goal
 
@@ -34,3 +35,8 @@ pub returns-clause-memory : goal.returns-clause-memory
 returns-clause-memory c =
     IfErr-weaker c.matched_request.result _ _ (λ e memory taken line. memory line)
     (rw (own_rows _ _ c.in_ok-flatc_command.ensures.0 c.in-Ok.ensures.matches) at c.matched_request.ensures.memory)
+
+pub returns-clause-refusal : goal.returns-clause-refusal
+returns-clause-refusal c =
+    IfErr-weaker c.matched_request.result (λ e. IsRefusal (kind_of e)) _ (λ e is taken. is)
+    c.matched_request.ensures.refusal

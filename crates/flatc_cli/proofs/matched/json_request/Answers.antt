@@ -1,4 +1,8 @@
-use Rattle.std.proofs.Common.{rules, codes}
+use Rattle.std.proofs.Common.{◌≡◌, ◌∙◌, rules, codes}
+use Rattle.std.proofs.lemmas.Result.{IfErr-weaker}
+use Rattle.clap.specs.Words.{found_of, rows_of}
+use Rattle.flatc_cli.specs.declared.misuse.Misuse.TheVariants.{Memory}
+use Rattle.flatc_cli.proofs.LineInputs.{refused, taken, jsons_inputs}
 use Rattle.flatc_cli.proofs.matched.json_request.Goals as goal
 
 pub returns-in_default : goal.returns-in_default
@@ -10,3 +14,20 @@ returns-in_default c = record {
 
 pub returns-clause-request : goal.returns-clause-request
 returns-clause-request c = c.batch_request.ensures.request (codes "json") (search rules)
+
+pub returns-in_err-check_read_once-clause-refusal : goal.returns-in_err-check_read_once-clause-refusal
+returns-in_err-check_read_once-clause-refusal c =
+    let rows = rows_of (found_of c.args.found.now) in
+    refused (λ m. m ≡ Memory) _ _
+    (jsons_inputs rows _ _ _ c.in-Some.ensures c.in_ok-files.ensures.ok c.schema_of.ensures
+    ∙ c.in_err-check_read_once.ensures.refusal)
+
+pub returns-clause-line : goal.returns-clause-line
+returns-clause-line c =
+    let rows = rows_of (found_of c.args.found.now) in
+    taken _ (jsons_inputs rows _ _ _ c.in-Some.ensures c.in_ok-files.ensures.ok c.schema_of.ensures
+    ∙ c.in_ok-check_read_once.ensures.ok)
+
+pub returns-clause-refusal : goal.returns-clause-refusal
+returns-clause-refusal c =
+    IfErr-weaker c.batch_request.result (λ m. m ≡ Memory) _ (λ m memory line. memory) c.batch_request.ensures.refusal
