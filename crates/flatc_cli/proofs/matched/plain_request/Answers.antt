@@ -1,3 +1,6 @@
+use Rattle.std.proofs.Common.{◌≡◌, refl}
+use Rattle.std.proofs.lemmas.Result.{IfErr-weaker}
+use Rattle.flatc_cli.specs.declared.misuse.Misuse.TheVariants.{Memory}
 use Rattle.flatc_cli.proofs.matched.plain_request.Goals as goal
 
 pub returns-in-binary : goal.returns-in-binary
@@ -14,3 +17,17 @@ returns-in-conform c = rw c.in-conform.is c.conform_request.ensures
 
 pub returns-in-inspect : goal.returns-in-inspect
 returns-in-inspect c = rw c.in-inspect.is c.inspect_request.ensures
+
+pub returns-in-explain-clause-request : goal.returns-in-explain-clause-request
+returns-in-explain-clause-request c = rw c.in-explain.is c.explain_request.ensures.request
+
+pub returns-in-explain-clause-line : goal.returns-in-explain-clause-line
+returns-in-explain-clause-line c = rw c.in-explain.is c.explain_request.ensures.line
+
+pub returns-in-explain-clause-refusal : goal.returns-in-explain-clause-refusal
+returns-in-explain-clause-refusal c =
+    IfErr-weaker c.explain_request.result (λ m. m ≡ Memory) _ (λ m memory line. memory)
+    c.explain_request.ensures.refusal
+
+pub returns-in_default-clause-refusal : goal.returns-in_default-clause-refusal
+returns-in_default-clause-refusal c = λ line. refl
