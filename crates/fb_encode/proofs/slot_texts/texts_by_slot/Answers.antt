@@ -70,3 +70,13 @@ pub returns-clause-values : goal.returns-clause-values
 returns-clause-values c read =
     let all = take_all c.loop-member.member-index c.args.members.now (omega (arith, c.loop-member-test.false)) in
     rw (← all) (c.loop-member.invariant.values read)
+
+pub returns-clause-texts : goal.returns-clause-texts
+returns-clause-texts c =
+    let all = take_all c.loop-member.member-index c.args.members.now (omega (arith, c.loop-member-test.false)) in
+    rw (← all, c.requires.slots) c.loop-member.invariant.texts_are
+
+pub returns-clause-known : goal.returns-clause-known
+returns-clause-known c =
+    let all = take_all c.loop-member.member-index c.args.members.now (omega (arith, c.loop-member-test.false)) in
+    rw (← all) c.loop-member.invariant.known_is
