@@ -1,4 +1,5 @@
 use Rattle.std.proofs.Common.{◌≡◌, ◌∙◌, [], ap, sym, take, arith}
+use Rattle.std.proofs.lemmas.List.{take_all}
 use Rattle.fb_resolve.specs.StructsRead.{natural_of_type}
 use Rattle.fb_declare.specs.NameSet.{is_met}
 use Rattle.fb_declare.specs.TypeFaults.{aligns_from, type_behind}
@@ -44,3 +45,9 @@ loop-number-preserved c =
       )
           (sym (aligns-more types rs i r h e));
     }
+
+pub returns : goal.returns
+returns c =
+    let types = c.as_slice-types.result.now in
+    let all = take_all c.loop-number.number types (omega (arith, c.loop-number-test.false)) in
+    rw (← c.as_slice-types.ensures.value, ← all) c.loop-number.invariant.least
