@@ -1,24 +1,13 @@
 -- How a walk ends at a slot, by how it ends at what the slot names.
-use Rattle.std.proofs.Common.{◌≡◌, ◌≢◌, ℕ, suc, ◌+◌, ◌-◌, ◌==◌, ◌&&◌, ◌||◌, not, cond, ℤ, ◌≤◌, List, [], Bool, true}
-use Rattle.std.proofs.Common.{false, Option, None, Some, Result, Ok, Err, IfOk, refl, sym, ◌∙◌, arith}
+use Rattle.std.proofs.Common.{◌≡◌, ◌≢◌, ℕ, ◌+◌, ◌≤◌, List, [], Bool}
+use Rattle.std.proofs.Common.{Option, None, Some, Result, Ok, Err, IfOk, refl, sym, ◌∙◌, arith}
 use Rattle.std.proofs.lemmas.Bool.Decides.{nat_tests}
-use Rattle.fb_layout.specs.Laid.{LaidSchema, Slot, StoredKind, scalar_kind, struct_kind, table_kind, union_kind}
-use Rattle.fb_layout.specs.Laid.{code_kind}
-use Rattle.fb_layout.specs.Laid.{text_kind, StoredShape, one_of, vector_of, stored_shape, member_by_code, default_of}
+use Rattle.fb_layout.specs.Laid.{Slot, StoredKind}
 use Rattle.fb_value.specs.declared.faults.ReadFault.{ReadFault}
 use Rattle.fb_value.specs.Datum.{Datum, a_member, an_unknown}
 use Rattle.fb_value.specs.Nth.{LiesInSlot}
 use Rattle.fb_value.specs.Places.{Target, table_part, member_part, ref_place, inline_place, code_place, unknown_place}
-use Rattle.fb_value.specs.Places.{Place, slot_number, is_present, code_at, named_union, named_slot, sort_of}
-use Rattle.fb_value.specs.Places.{next_required}
-use Rattle.fb_read.proofs.places.AbsentSlotNamesNoPlace.{unset_place}
-use Rattle.fb_value.specs.Num.{Bytes}
-use Rattle.fb_value.specs.Rules.{is_union}
-use Rattle.fb_schema.specs.declared.kinds.Shape.{Shape}
-use Rattle.fb_schema.specs.declared.kinds.Shape.TheVariants.{One}
-use Rattle.fb_schema.specs.declared.kinds.Kind.{Kind}
-use Rattle.fb_schema.specs.declared.kinds.Kind.TheVariants.{Union, Code}
-use Rattle.fb_schema.specs.declared.kinds.TypeId.{TypeId}
+use Rattle.fb_value.specs.Places.{Place}
 use Rattle.fb_schema.specs.declared.types.FieldInfo.{FieldInfo}
 use Rattle.fb_read.specs.declared.buffer.Buffer.{Buffer}
 use Rattle.fb_read.specs.declared.step.Step.{Step}
@@ -27,80 +16,12 @@ use Rattle.fb_read.specs.Ends.{Passes, PassesAt, IsRefused, EndsAtEntry, slot_at
 use Rattle.fb_read.specs.FaultPaths.{HearsFrom}
 use Rattle.fb_read.specs.Values.{Gives, KeepsInline, KeepsEntry, KeepsInSlot}
 use Rattle.fb_read.specs.Walks.{place, limits_of, visit_in, visit_entry_in, EntersAt, EntersSlot, entered_in}
-use Rattle.fb_read.specs.Visits.{slot_seen, slots_seen, union_place}
+use Rattle.fb_read.specs.Visits.{slot_seen, union_place}
 use Rattle.fb_read.specs.Stored.{number_entry}
 use Rattle.fb_read.proofs.visit_tables.VisitsOnePlaceAfterAnother.{visit_member, visit_no_member}
 use Rattle.fb_read.proofs.visit_tables.EnteredPartsAreCounted.{inline_slot_entered, none_entered, member_slot_entered}
 use Rattle.fb_read.proofs.visit_tables.HearsTheWayBack.{leaf_heard, member_heard}
 use Rattle.fb_read.proofs.visit_tables.KeepsWhatLies.{ref_slot_kept, member_kept, default_is}
-
--- ---- the place that a stored slot names
-
-module _ (L : LaidSchema) (b : Bytes) (p k : ℕ) (fs : List Slot) where
-  place_named : (shape : StoredShape) → is_present b p k ≡ true → is_union shape ≡ false
-      → named_slot L b p k fs shape ≡ Some (place (sort_of b p k fs shape) (p + slot_number b p k))
-  place_named (vector_of kind) here other = rw here refl
-  place_named (one_of (union_kind u)) here other = cc
-  place_named (one_of (scalar_kind base)) here other = rw here refl
-  place_named (one_of (struct_kind s)) here other = rw here refl
-  place_named (one_of (table_kind t)) here other = rw here refl
-  place_named (one_of (code_kind u)) here other = rw here refl
-  place_named (one_of text_kind) here other = rw here refl
-
-  union_named : (c : ℕ) (o : Option ℕ) → is_present b p k ≡ true
-      → named_union b p k c o ≡ union_place c (p + slot_number b p k) o
-  union_named c None here = rw here (by_code (c == 0))
-    where
-      by_code : (t : Bool) → cond {A = Option Place} (not t && true) (Some (place (unknown_place c) (p
-          + slot_number b p k))) None ≡ cond {A = Option Place} t None (Some (place (unknown_place c) (p
-          + slot_number b p k)))
-      by_code true = refl
-      by_code false = refl
-  union_named c (Some t) here = rw here refl
-
-module _ (buffer : Buffer) (p k offset : ℕ) (later : List FieldInfo) (field : FieldInfo) where
-  pub slot_names : (shape : Shape) → field.deprecated ≡ false → field.shape ≡ shape
-      → offset ≡ slot_number buffer.bytes.now p k → offset ≢ 0
-      → is_union (stored_shape buffer.layout.now.schema shape) ≡ false → slot_at buffer p k later field
-      ≡ Some (place (sort_of buffer.bytes.now p k (slots_seen buffer.layout.now later)
-      (stored_shape buffer.layout.now.schema shape)) (p + offset))
-  slot_names shape used is at some other =
-      let here : is_present buffer.bytes.now p k ≡ true = rw (← at) (grind (arith, nat_tests)) in
-      rw (used, is, at) (place_named buffer.layout.now buffer.bytes.now p k (slots_seen buffer.layout.now later)
-      (stored_shape buffer.layout.now.schema shape) here other)
-
-  -- of one value
-  pub slot_names_one : (found kind : Kind) → field.deprecated ≡ false → field.shape ≡ One found → found ≡ kind
-      → offset ≡ slot_number buffer.bytes.now p k → offset ≢ 0
-      → is_union (stored_shape buffer.layout.now.schema (One kind)) ≡ false → slot_at buffer p k later field
-      ≡ Some (place (sort_of buffer.bytes.now p k (slots_seen buffer.layout.now later)
-      (stored_shape buffer.layout.now.schema (One kind))) (p + offset))
-  slot_names_one found kind used shape is at some other =
-      slot_names (One kind) used (rw is at shape) at some other
-
-  -- of a union's code, which has the slot before its value
-  pub slot_names_code : (found : Kind) (u : TypeId) → field.deprecated ≡ false → field.shape ≡ One found
-      → found ≡ Code u → offset ≡ slot_number buffer.bytes.now p k → offset ≢ 0 → slot_at buffer p k later field
-      ≡ Some (place (code_place u.0 (k + 1) (next_required (slots_seen buffer.layout.now later))
-      (is_present buffer.bytes.now p (k + 1))) (p + offset))
-  slot_names_code found u used shape is at some =
-      let one : suc k ≡ k + 1 = omega arith in
-      rw one at (slot_names_one found (Code u) used shape is at some refl)
-
-  pub slot_names_none : offset ≡ slot_number buffer.bytes.now p k → offset ≡ 0 → slot_at buffer p k later field ≡ None
-  slot_names_none at none = unset_place buffer.layout.now buffer.bytes.now p k (slots_seen buffer.layout.now later)
-      (slot_seen buffer.layout.now field) (rw at at none)
-
-  pub slot_names_union : (found : Kind) (u : TypeId) (c : ℕ) → field.deprecated ≡ false → field.shape ≡ One found
-      → found ≡ Union u
-      → offset ≡ slot_number buffer.bytes.now p k → offset ≢ 0 → c ≡ code_at buffer.bytes.now p (k - 1)
-      → slot_at buffer p k later field ≡ union_place c (p + offset) (member_by_code buffer.layout.now u.0 c)
-  slot_names_union found u c used shape is at some coded =
-      let here : is_present buffer.bytes.now p k ≡ true = rw (← at) (grind (arith, nat_tests)) in
-      rw (used, shape, is, at, coded) (union_named buffer.layout.now buffer.bytes.now p k (slots_seen buffer.layout.now
-      later)
-      (code_at buffer.bytes.now p (k - 1)) (member_by_code buffer.layout.now u.0 (code_at buffer.bytes.now p (k - 1)))
-      here)
 
 -- ---- past what it names
 
@@ -274,14 +195,6 @@ member_slot_refused takes told silent keeps buffer m c t q tables old new f g r 
     })
 
 -- at a slot of a union, whose value has no default
-pub union_has_no_default : (deprecated optional : Bool) (default : ℤ) (u : ℕ)
-    → default_of (deprecated || optional) default (one_of (union_kind u)) ≡ None
-union_has_no_default deprecated optional default u = by_case (deprecated || optional)
-  where
-    by_case : (t : Bool) → default_of t default (one_of (union_kind u)) ≡ None
-    by_case true = refl
-    by_case false = refl
-
 pub union_slot_ends : {V K : Type 0} (takes : Type 0) (told : V → List Step → V → Type 0)
     (keeps : K → Datum → Type 0) (buffer : Buffer) (x y : Option Place) (tables : ℕ) (old new : Walk V) (f : Slot)
     (r : Result (Option K) ReadFault) → x ≡ y → f.if_absent ≡ None

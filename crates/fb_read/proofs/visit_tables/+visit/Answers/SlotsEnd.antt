@@ -13,12 +13,13 @@ use Rattle.fb_value.specs.Counts.{entries_entered}
 use Rattle.fb_read.specs.Tails.{entries_from}
 use Rattle.fb_read.proofs.visit_tables.CountsGoOn.{not_entered, refused_then, none_left, at_end, below, rest_long}
 use Rattle.fb_read.proofs.visit_tables.EndsAtAPlace.{leaf_refused}
-use Rattle.fb_read.proofs.visit_tables.EndsAtASlot.{slot_names, slot_names_one, slot_names_code, slot_names_none}
-use Rattle.fb_read.proofs.visit_tables.EndsAtASlot.{slot_names_union, ref_slot_passes, no_place_passes}
+use Rattle.fb_read.proofs.stored.SlotNamesItsPlace.{slot_names, slot_names_one, slot_names_code, slot_names_none}
+use Rattle.fb_read.proofs.stored.SlotNamesItsPlace.{slot_names_union, union_has_no_default}
+use Rattle.fb_read.proofs.visit_tables.EndsAtASlot.{ref_slot_passes, no_place_passes}
 use Rattle.fb_read.proofs.visit_tables.EndsAtASlot.{code_passes, member_passes, no_value_passes, no_member_passes}
 use Rattle.fb_read.proofs.visit_tables.EndsAtASlot.{slot_refused, slot_was_refused, member_slot_refused}
 use Rattle.fb_read.proofs.visit_tables.EndsAtASlot.{union_slot_ends}
-use Rattle.fb_read.proofs.visit_tables.EndsAtASlot.{union_has_no_default, inline_slot_ends}
+use Rattle.fb_read.proofs.visit_tables.EndsAtASlot.{inline_slot_ends}
 use Rattle.fb_read.proofs.visit_tables.EnteredPartsAreCounted.{rest_entered}
 use Rattle.fb_read.proofs.visit_tables.FrontIsFreeOfFaults.{front_fails, slots_rest_free, slot_found}
 use Rattle.fb_read.proofs.visit_tables.KeepsWhatLies.{defaults_left}
@@ -105,8 +106,8 @@ absent_passed g t c =
     no_place_passes g.V.Visitor.keeps buffer
     (slot_at buffer c.args.table.at c.args.slot c.args.later.now c.args.field.now) c.args.tables c.args.walk.now
     (slot_seen L c.args.field.now) c.default_kept.result
-    (slot_names_none buffer c.args.table.at c.args.slot c.held_slot-offset.result c.args.later.now c.args.field.now
-    c.held_slot-offset.ensures.number c.if-offset-eq0.true)
+    (slot_names_none buffer.layout.now buffer.bytes.now c.args.table.at c.args.slot c.held_slot-offset.result
+    c.args.later.now c.args.field.now c.held_slot-offset.ensures.number c.if-offset-eq0.true)
     c.requires.limits.few c.default_kept.ensures
 
 pub vector_behind_refused : goal.visit_slot-returns-in_err-visit_vector_behind-in-Many
@@ -120,7 +121,8 @@ vector_behind_refused g t c =
     (place (ref_place (vector_part (stored_kind buffer.layout.now.schema c.in-Many.kind))) (c.args.table.at +
     c.held_slot-offset.result))
     c.args.tables c.args.walk.now c.visit_vector_behind.new.walk c.in_err-visit_vector_behind-in-Many.field-0.0 p.0
-    c.from_residual.result (slot_names buffer c.args.table.at c.args.slot c.held_slot-offset.result c.args.later.now
+    c.from_residual.result (slot_names buffer.layout.now buffer.bytes.now c.args.table.at c.args.slot
+    c.held_slot-offset.result c.args.later.now
     c.args.field.now (Shape.Many c.in-Many.kind) c.if-field.false c.in-Many.is c.held_slot-offset.ensures.number
     c.if-offset-eq0.false refl) p.1 p.2 c.in_err-visit_vector_behind-in-Many.ensures
 
@@ -132,8 +134,8 @@ vector_behind_passed g t c =
     (vector_part (stored_kind buffer.layout.now.schema c.in-Many.kind)) (c.args.table.at + c.held_slot-offset.result)
     c.args.tables
     c.args.walk.now c.visit_vector_behind.new.walk (slot_seen buffer.layout.now c.args.field.now)
-    c.in_ok-visit_vector_behind-in-Many.field-0 (slot_names buffer c.args.table.at c.args.slot c.held_slot-offset.result
-    c.args.later.now
+    c.in_ok-visit_vector_behind-in-Many.field-0 (slot_names buffer.layout.now buffer.bytes.now c.args.table.at
+    c.args.slot c.held_slot-offset.result c.args.later.now
     c.args.field.now (Shape.Many c.in-Many.kind) c.if-field.false c.in-Many.is c.held_slot-offset.ensures.number
     c.if-offset-eq0.false refl) c.in_ok-visit_vector_behind-in-Many.ensures
 
@@ -147,8 +149,8 @@ text_behind_refused g t c =
     (λ kept. KeepsInSlot g.V.Visitor.keeps buffer (slot_seen buffer.layout.now c.args.field.now) x kept) buffer x
     (place (ref_place text_part) (c.args.table.at + c.held_slot-offset.result))
     c.args.tables c.args.walk.now c.visit_text_behind.new.walk c.in_err-visit_text_behind-in-One-Text.field-0.0 p.0
-    c.from_residual-in_err-visit_text_behind-in-One-Text.result (slot_names_one buffer c.args.table.at c.args.slot
-    c.held_slot-offset.result
+    c.from_residual-in_err-visit_text_behind-in-One-Text.result (slot_names_one buffer.layout.now buffer.bytes.now
+    c.args.table.at c.args.slot c.held_slot-offset.result
     c.args.later.now c.args.field.now c.in-One-Text.field-0 Kind.Text c.if-field.false c.in-One-Text.is
     (rw c.in-One-Text.is at c.in-One-Text.field-0-is) c.held_slot-offset.ensures.number c.if-offset-eq0.false refl) p.1
     p.2 c.in_err-visit_text_behind-in-One-Text.ensures
@@ -160,8 +162,8 @@ text_behind_passed g t c =
     c.args.field.now)
     text_part (c.args.table.at + c.held_slot-offset.result) c.args.tables
     c.args.walk.now c.visit_text_behind.new.walk (slot_seen buffer.layout.now c.args.field.now)
-    c.in_ok-visit_text_behind-in-One-Text.field-0 (slot_names_one buffer c.args.table.at c.args.slot
-    c.held_slot-offset.result
+    c.in_ok-visit_text_behind-in-One-Text.field-0 (slot_names_one buffer.layout.now buffer.bytes.now c.args.table.at
+    c.args.slot c.held_slot-offset.result
     c.args.later.now c.args.field.now c.in-One-Text.field-0 Kind.Text c.if-field.false c.in-One-Text.is
     (rw c.in-One-Text.is at c.in-One-Text.field-0-is) c.held_slot-offset.ensures.number c.if-offset-eq0.false refl)
     c.in_ok-visit_text_behind-in-One-Text.ensures
@@ -176,8 +178,8 @@ table_behind_refused g t c =
     (λ kept. KeepsInSlot g.V.Visitor.keeps buffer (slot_seen buffer.layout.now c.args.field.now) x kept) buffer x
     (place (ref_place (table_part c.in-One-Table.type_id.0)) (c.args.table.at + c.held_slot-offset.result))
     c.args.tables c.args.walk.now c.visit_table_behind.new.walk c.in_err-visit_table_behind-in-One-Table.field-0.0 p.0
-    c.from_residual-in_err-visit_table_behind-in-One-Table.result (slot_names_one buffer c.args.table.at c.args.slot
-    c.held_slot-offset.result
+    c.from_residual-in_err-visit_table_behind-in-One-Table.result (slot_names_one buffer.layout.now buffer.bytes.now
+    c.args.table.at c.args.slot c.held_slot-offset.result
     c.args.later.now c.args.field.now c.in-One-Table.field-0 (Kind.Table c.in-One-Table.type_id) c.if-field.false
     c.in-One-Table.is
     (rw c.in-One-Table.is at c.in-One-Table.field-0-is) c.held_slot-offset.ensures.number c.if-offset-eq0.false refl)
@@ -190,8 +192,8 @@ table_behind_passed g t c =
     c.args.field.now)
     (table_part c.in-One-Table.type_id.0) (c.args.table.at + c.held_slot-offset.result) c.args.tables
     c.args.walk.now c.visit_table_behind.new.walk (slot_seen buffer.layout.now c.args.field.now)
-    c.in_ok-visit_table_behind-in-One-Table.field-0 (slot_names_one buffer c.args.table.at c.args.slot
-    c.held_slot-offset.result
+    c.in_ok-visit_table_behind-in-One-Table.field-0 (slot_names_one buffer.layout.now buffer.bytes.now c.args.table.at
+    c.args.slot c.held_slot-offset.result
     c.args.later.now c.args.field.now c.in-One-Table.field-0 (Kind.Table c.in-One-Table.type_id) c.if-field.false
     c.in-One-Table.is
     (rw c.in-One-Table.is at c.in-One-Table.field-0-is) c.held_slot-offset.ensures.number c.if-offset-eq0.false refl)
@@ -206,7 +208,8 @@ union_ends g t c =
     (union_place c.union_code-code.result (c.args.table.at + c.held_slot-offset.result)
     (member_by_code L c.in-One-Union.union.0 c.union_code-code.result)) c.args.tables c.args.walk.now
     c.visit_union.new.walk (slot_seen L c.args.field.now) c.visit_union.result
-    (slot_names_union buffer c.args.table.at c.args.slot c.held_slot-offset.result c.args.later.now c.args.field.now
+    (slot_names_union buffer.layout.now buffer.bytes.now c.args.table.at c.args.slot c.held_slot-offset.result
+    c.args.later.now c.args.field.now
     c.in-One-Union.field-0 c.in-One-Union.union c.union_code-code.result c.if-field.false c.in-One-Union.is
     (rw c.in-One-Union.is at c.in-One-Union.field-0-is) c.held_slot-offset.ensures.number
     c.if-offset-eq0.false c.union_code-code.ensures)
@@ -227,8 +230,8 @@ code_refused g t c =
     (λ kept. KeepsInSlot g.V.Visitor.keeps buffer (slot_seen buffer.layout.now c.args.field.now) x kept) buffer x
     y c.args.tables c.args.walk.now c.args.walk.now c.in_err-visit_code-in-One-Code.field-0.0 p.0
     c.from_residual-in_err-visit_code-in-One-Code.result
-    (slot_names_code buffer c.args.table.at c.args.slot c.held_slot-offset.result c.args.later.now c.args.field.now
-    c.in-One-Code.field-0 c.in-One-Code.field-0-0 c.if-field.false c.in-One-Code.is
+    (slot_names_code buffer.layout.now buffer.bytes.now c.args.table.at c.args.slot c.held_slot-offset.result
+    c.args.later.now c.args.field.now c.in-One-Code.field-0 c.in-One-Code.field-0-0 c.if-field.false c.in-One-Code.is
     (rw c.in-One-Code.is at c.in-One-Code.field-0-is) c.held_slot-offset.ensures.number c.if-offset-eq0.false) p.1 p.2
     (leaf_refused g.V.Visitor.takes_memory g.V.Visitor.told g.met.V.Visitor.silent buffer y c.args.tables
     c.args.walk.now
@@ -244,8 +247,8 @@ code_passed g t c =
     c.in-One-Code.field-0-0.0 (c.args.slot + 1) (next_required (slots_seen buffer.layout.now c.args.later.now))
     (is_present buffer.bytes.now c.args.table.at (c.args.slot + 1)) (c.args.table.at + c.held_slot-offset.result)
     c.args.tables c.args.walk.now (slot_seen buffer.layout.now c.args.field.now)
-    (slot_names_code buffer c.args.table.at c.args.slot c.held_slot-offset.result c.args.later.now c.args.field.now
-    c.in-One-Code.field-0 c.in-One-Code.field-0-0 c.if-field.false c.in-One-Code.is
+    (slot_names_code buffer.layout.now buffer.bytes.now c.args.table.at c.args.slot c.held_slot-offset.result
+    c.args.later.now c.args.field.now c.in-One-Code.field-0 c.in-One-Code.field-0-0 c.if-field.false c.in-One-Code.is
     (rw c.in-One-Code.is at c.in-One-Code.field-0-is) c.held_slot-offset.ensures.number c.if-offset-eq0.false)
     c.requires.limits.few (c.in_ok-visit_code-in-One-Code.ensures c.args.tables c.args.walk.now.spent
     c.in-One-Code.field-0-0.0)
@@ -258,7 +261,7 @@ number_ends g t c =
     (stored_kind buffer.layout.now.schema (Kind.Scalar c.in-One-Scalar.base)) (c.args.table.at +
     c.held_slot-offset.result) c.args.tables
     c.args.walk.now (slot_seen buffer.layout.now c.args.field.now) c.visit_inline.result
-    (slot_names_one buffer c.args.table.at c.args.slot c.held_slot-offset.result
+    (slot_names_one buffer.layout.now buffer.bytes.now c.args.table.at c.args.slot c.held_slot-offset.result
     c.args.later.now c.args.field.now c.in-One-Scalar.field-0 (Kind.Scalar c.in-One-Scalar.base) c.if-field.false
     c.in-One-Scalar.is
     (rw c.in-One-Scalar.is at c.in-One-Scalar.field-0-is) c.held_slot-offset.ensures.number c.if-offset-eq0.false refl)
@@ -273,7 +276,7 @@ enum_ends g t c =
     (stored_kind buffer.layout.now.schema (Kind.Enum c.in-One-Enum.values)) (c.args.table.at +
     c.held_slot-offset.result) c.args.tables
     c.args.walk.now (slot_seen buffer.layout.now c.args.field.now) c.visit_inline-in-One-Enum.result
-    (slot_names_one buffer c.args.table.at c.args.slot c.held_slot-offset.result
+    (slot_names_one buffer.layout.now buffer.bytes.now c.args.table.at c.args.slot c.held_slot-offset.result
     c.args.later.now c.args.field.now c.in-One-Enum.field-0 (Kind.Enum c.in-One-Enum.values) c.if-field.false
     c.in-One-Enum.is
     (rw c.in-One-Enum.is at c.in-One-Enum.field-0-is) c.held_slot-offset.ensures.number c.if-offset-eq0.false refl)
@@ -289,7 +292,7 @@ struct_ends g t c =
     (stored_kind buffer.layout.now.schema (Kind.Struct c.in-One-Struct.structure)) (c.args.table.at +
     c.held_slot-offset.result) c.args.tables
     c.args.walk.now (slot_seen buffer.layout.now c.args.field.now) c.visit_inline-in-One-Struct.result
-    (slot_names_one buffer c.args.table.at c.args.slot c.held_slot-offset.result
+    (slot_names_one buffer.layout.now buffer.bytes.now c.args.table.at c.args.slot c.held_slot-offset.result
     c.args.later.now c.args.field.now c.in-One-Struct.field-0 (Kind.Struct c.in-One-Struct.structure) c.if-field.false
     c.in-One-Struct.is
     (rw c.in-One-Struct.is at c.in-One-Struct.field-0-is) c.held_slot-offset.ensures.number c.if-offset-eq0.false refl)
