@@ -1,4 +1,6 @@
 use Rattle.std.proofs.Common.{◌≡◌, refl, FitsSigned, true, cond, not, ◌∙◌, ◌||◌, rules, ap, sym, map, take}
+use Rattle.std.proofs.Common.{arith}
+use Rattle.std.proofs.lemmas.List.{take_all}
 use Rattle.std.specs.Int.{w128}
 use Rattle.std.specs.List.{list_any}
 use Rattle.std.proofs.Math.Bool.{not-not}
@@ -69,3 +71,9 @@ loop-place-preserved c =
           ∙ sym (ap (list_any (int_eq n)) (map-taken (λ v. v.number) values i v h e)
           ∙ list_any-snoc (int_eq n) (map (λ v. v.number) (take i values)) m);
     }
+
+pub returns : goal.returns
+returns c =
+    let values = c.as_slice-values.result.now in
+    let all = take_all c.loop-place.place values (omega (arith, c.loop-place-test.false)) in
+    rw (← c.of_enum.view_is, ← c.as_slice-values.ensures.value, ← all) c.loop-place.invariant.least
