@@ -55,14 +55,14 @@ impl<'s> Sides<'s> {
         let (Some((was, _)), Some((now, _))) = (was, members.get(index)) else {
             return;
         };
-        let Some(place) = members.iter().position(|(name, _)| name == was) else {
+        let Some(place) = self.new.schema().code_of_name(twin.new, was.as_str()) else {
             return;
         };
         self.push_name_in(page, twin, was.as_str());
         page.push_str(" was member ");
         page.push_number(u64::from(code));
         page.push_str(", is member ");
-        page.push_number((place as u64).saturating_add(1));
+        page.push_number(u64::from(place));
         page.push_str(": buffers of the old schema show ");
         page.push_cut(was.as_bytes());
         page.push_str(" as ");

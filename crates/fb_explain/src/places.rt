@@ -29,7 +29,8 @@ fn set_place(fields: &mut [u64], field: &FieldInfo, at: u64) {
         *place = at;
     }
     if let Shape::One(Kind::Union(_)) = field.shape
-        && let Some(place) = slot.checked_sub(1).and_then(|code| fields.get_mut(code))
+        && let Some(code) = slot.checked_sub(1)
+        && let Some(place) = fields.get_mut(code)
     {
         *place = at;
     }

@@ -33,13 +33,21 @@ impl Shift {
     }
 }
 
+/// How many fields have the same names in both lists, from the front on.
+fn front_len(fields: &[FieldInfo], others: &[FieldInfo]) -> usize {
+    let mut len = 0usize;
+    for (field, other) in fields.iter().zip(others) {
+        if field.name != other.name {
+            break;
+        }
+        len = len.saturating_add(1);
+    }
+    len
+}
+
 /// Whether all fields of the first list are called like those that the second begins with.
 fn begin_alike(fields: &[FieldInfo], others: &[FieldInfo]) -> bool {
-    fields.len() <= others.len()
-        && fields
-            .iter()
-            .zip(others)
-            .all(|(field, other)| field.name == other.name)
+    front_len(fields, others) == fields.len()
 }
 
 fn rest_of(fields: &[FieldInfo], from: usize) -> &[FieldInfo] {
@@ -72,11 +80,17 @@ fn shift_by(old: &[FieldInfo], new: &[FieldInfo], first: usize, count: usize) ->
 
 /// Which slots were removed or inserted, where that is the only change of order.
 fn shift_of(old: &[FieldInfo], new: &[FieldInfo]) -> Option<Shift> {
-    let first = old
-        .iter()
-        .zip(new)
-        .position(|(was, is)| was.name != is.name)?;
-    (1..=MOST).find_map(|count| shift_by(old, new, first, count))
+    let first = front_len(old, new);
+    if first >= old.len().min(new.len()) {
+        return None;
+    }
+    for count in 1..=MOST {
+        let shift = shift_by(old, new, first, count);
+        if shift.is_some() {
+            return shift;
+        }
+    }
+    None
 }
 
 /// The shift of the table that breaches are listed of, which is told once.
@@ -101,7 +115,10 @@ impl Shifts {
         {
             return shift;
         }
-        let shift = sides.twin(old).and_then(|twin| sides.shift(twin));
+        let shift = match sides.twin(old) {
+            Some(twin) => sides.shift(twin),
+            None => None,
+        };
         self.found = Some((old, shift));
         self.is_told = false;
         shift

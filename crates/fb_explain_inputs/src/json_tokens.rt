@@ -10,7 +10,7 @@ const HEX_DIGITS: &[u8] = b"0123456789ABCDEFabcdef";
 /// The bytes of numbers, also of wrong ones.
 const NUMBER_BYTES: &[u8] = b"+-.0123456789ABCDEFGHIJKLMNOPQRSTUVWXYZ_abcdefghijklmnopqrstuvwxyz";
 
-/// What a text has no more of as it is: its quote, a backslash, control characters.
+/// What ends a text or may not be in it as it is: its quote, a backslash, control characters.
 const NOT_PLAIN: &[u8] = b"\"\\\x00\x01\x02\x03\x04\x05\x06\x07\x08\t\n\x0b\x0c\r\x0e\x0f\
 \x10\x11\x12\x13\x14\x15\x16\x17\x18\x19\x1a\x1b\x1c\x1d\x1e\x1f";
 

@@ -64,8 +64,3 @@ pub inspected_uncounted : (rows : List Row) → is_set (codes "header") rows ≡
     → length (paths_in (codes "FILE") rows) ≢ 2 → has_inputs (codes "inspect") rows ≡ false
 inspected_uncounted rows no_header other =
     let uncounted = differs (length (paths_in (codes "FILE") rows)) 2 other in rw (no_header, uncounted) refl
-
-pub compared_inputs : (rows : List Row) (old new : Text)
-    → old ≡ first_text (codes "OLD") rows → new ≡ first_text (codes "NEW") rows
-    → has_inputs (codes "conform") rows ≡ is_read_once (old ∷ new ∷ [])
-compared_inputs rows old new is_old is_new = rw (is_old, is_new) refl
