@@ -13,53 +13,39 @@ fn word_at(bytes: &[u8], offset: usize) -> Option<[u8; 4]> {
     bytes.get(offset..)?.first_chunk::<4>().copied()
 }
 
-/// Adds texts, each with a number behind it, and ends the line behind the last text.
-fn push_sentence(page: &mut Page, parts: &[(&str, u64)], rest: &str) {
-    for (text, number) in parts {
-        page.push_str(text);
-        page.push_number(*number);
-    }
-    page.push_line(rest);
+/// Adds a text and a number behind it.
+fn push_part(page: &mut Page, text: &str, number: u64) {
+    page.push_str(text);
+    page.push_number(number);
 }
 
 /// Adds what is wrong with a table's vtable.
 fn push_vtable(page: &mut Page, bytes: &[u8], offset: u64) {
-    let table = ("the vtable of the table at ", offset);
-    let end = (", and the buffer ends at ", bytes.len() as u64);
+    push_part(page, "the vtable of the table at ", offset);
     let Some(word) = word_at(bytes, offset as usize) else {
-        push_sentence(
-            page,
-            &[table],
-            " can't be found: the table ends past the buffer",
-        );
+        page.push_line(" can't be found: the table ends past the buffer");
         return;
     };
     let place = i128::from(offset) - i128::from(i32::from_le_bytes(word));
     let Ok(start) = u64::try_from(place) else {
-        push_sentence(page, &[table], " would be before the buffer");
+        page.push_line(" would be before the buffer");
         return;
     };
-    let start_part = (" would be at ", start);
+    push_part(page, " would be at ", start);
     if start % 2 != 0 {
-        push_sentence(page, &[table, start_part], ", which isn't even");
+        page.push_line(", which isn't even");
         return;
     }
-    match bytes.get(start as usize..) {
-        Some([low, high, ..]) => {
-            let size = u16::from_le_bytes([*low, *high]);
-            let size_part = (" and have a size of ", u64::from(size));
-            if size % 2 != 0 || size < 4 {
-                push_sentence(
-                    page,
-                    &[table, start_part, size_part],
-                    ", where an even number from 4 on is right",
-                );
-                return;
-            }
-            push_sentence(page, &[table, start_part, size_part, end], "")
+    if let Some([low, high, ..]) = bytes.get(start as usize..) {
+        let size = u16::from_le_bytes([*low, *high]);
+        push_part(page, " and have a size of ", u64::from(size));
+        if size % 2 != 0 || size < 4 {
+            page.push_line(", where an even number from 4 on is right");
+            return;
         }
-        _ => push_sentence(page, &[table, start_part, end], ""),
     }
+    push_part(page, ", and the buffer ends at ", bytes.len() as u64);
+    page.end_line();
 }
 
 fn push_identifiers(page: &mut Page, layout: &Layout, bytes: &[u8], offset: u64) {
@@ -73,85 +59,84 @@ fn push_identifiers(page: &mut Page, layout: &Layout, bytes: &[u8], offset: u64)
     page.push_line(" (--raw-binary skips this check)");
 }
 
-fn push_byte(page: &mut Page, bytes: &[u8], offset: u64, rest: &str) {
+fn push_byte(page: &mut Page, bytes: &[u8], offset: u64) {
     match bytes.get(offset as usize) {
-        Some(byte) => push_sentence(
-            page,
-            &[("the byte at ", offset), (" is ", u64::from(*byte))],
-            rest,
-        ),
-        None => push_sentence(page, &[("there is no byte at ", offset)], rest),
+        Some(byte) => {
+            push_part(page, "the byte at ", offset);
+            push_part(page, " is ", u64::from(*byte));
+        }
+        None => push_part(page, "there is no byte at ", offset),
     }
 }
 
 /// Adds a sentence on the rule that a buffer breaks, with the numbers that break it.
 fn push_rule(page: &mut Page, layout: &Layout, limits: Limits, bytes: &[u8], fault: ReadFault) {
-    let end = (" ends past the buffer, which ends at ", bytes.len() as u64);
-    match fault {
-        ReadFault::Short(len) => push_sentence(
-            page,
-            &[("the buffer's length is ", len)],
-            ": too short for the root's offset and the file identifier",
-        ),
+    let rest = match fault {
+        ReadFault::Short(len) => {
+            push_part(page, "the buffer's length is ", len);
+            ": too short for the root's offset and the file identifier"
+        }
         ReadFault::TooLong(most) => {
-            push_sentence(page, &[("the buffer is longer than ", most)], " bytes")
+            push_part(page, "the buffer is longer than ", most);
+            " bytes"
         }
-        ReadFault::WrongIdentifier(at) => push_identifiers(page, layout, bytes, at),
-        ReadFault::Misaligned(at) => push_sentence(
-            page,
-            &[("what is stored at ", at)],
-            " must be at a multiple of its alignment, and isn't",
-        ),
+        ReadFault::WrongIdentifier(at) => return push_identifiers(page, layout, bytes, at),
+        ReadFault::Misaligned(at) => {
+            push_part(page, "what is stored at ", at);
+            " must be at a multiple of its alignment, and isn't"
+        }
         ReadFault::OutOfBounds(at) => {
-            push_sentence(page, &[("what is stored at ", at), end], "")
-        }
-        ReadFault::ZeroOffset(at) => push_sentence(
-            page,
-            &[("the offset at ", at)],
-            " is 0: it must lead on to a table, string or vector",
-        ),
-        ReadFault::BadVtable(at) => push_vtable(page, bytes, at),
-        ReadFault::MissingRequired(at, slot) => push_sentence(
-            page,
-            &[
-                ("the table at ", at),
-                (" has nothing in slot ", u64::from(slot)),
-            ],
-            ", which is required",
-        ),
-        ReadFault::NoTerminator(at) => {
-            push_byte(page, bytes, at, ", where a string's final 0 must be")
-        }
-        ReadFault::BadUtf8(at) => push_byte(
-            page,
-            bytes,
-            at,
-            ": the string isn't UTF-8 from here on",
-        ),
-        ReadFault::UnionMismatch(at) => push_byte(
-            page,
-            bytes,
-            at,
-            ": the union's type says that it has a value, and it has none",
-        ),
-        ReadFault::TooDeep(at) => {
-            let depth = u64::from(limits.most_depth());
-            push_sentence(
+            push_part(page, "what is stored at ", at);
+            push_part(
                 page,
-                &[("the table at ", at), (" is nested deeper than ", depth)],
-                " levels",
-            )
+                " ends past the buffer, which ends at ",
+                bytes.len() as u64,
+            );
+            ""
+        }
+        ReadFault::ZeroOffset(at) => {
+            push_part(page, "the offset at ", at);
+            " is 0: it must lead on to a table, string or vector"
+        }
+        ReadFault::BadVtable(at) => return push_vtable(page, bytes, at),
+        ReadFault::MissingRequired(at, slot) => {
+            push_part(page, "the table at ", at);
+            push_part(page, " has nothing in slot ", u64::from(slot));
+            ", which is required"
+        }
+        ReadFault::NoTerminator(at) => {
+            push_byte(page, bytes, at);
+            ", where a string's final 0 must be"
+        }
+        ReadFault::BadUtf8(at) => {
+            push_byte(page, bytes, at);
+            ": the string isn't UTF-8 from here on"
+        }
+        ReadFault::UnionMismatch(at) => {
+            push_byte(page, bytes, at);
+            ": the union's type says that it has a value, and it has none"
+        }
+        ReadFault::TooDeep(at) => {
+            push_part(page, "the table at ", at);
+            push_part(
+                page,
+                " is nested deeper than ",
+                u64::from(limits.most_depth()),
+            );
+            " levels"
         }
         ReadFault::TooManyCells(at) => {
-            let cells = u64::from(limits.most_cells());
-            push_sentence(
+            push_part(page, "at ", at);
+            push_part(
                 page,
-                &[("at ", at), (" the buffer has more than ", cells)],
-                " tables, strings, vectors, elements and bytes of strings",
-            )
+                " the buffer has more than ",
+                u64::from(limits.most_cells()),
+            );
+            " tables, strings, vectors, elements and bytes of strings"
         }
-        ReadFault::Memory => {}
-    }
+        ReadFault::Memory => return,
+    };
+    page.push_line(rest);
 }
 
 /// Adds the path to what is wrong behind a buffer's header; returns whether that is the root.
@@ -182,13 +167,14 @@ fn push_root_offset(page: &mut Page, bytes: &[u8], prefixed: bool, fault: ReadFa
     };
     match fault {
         ReadFault::Misaligned(at) if at < len => {
-            push_sentence(page, &[(says, at)], ", which isn't a multiple of 4")
+            push_part(page, says, at);
+            page.push_line(", which isn't a multiple of 4");
         }
-        ReadFault::OutOfBounds(at) | ReadFault::Misaligned(at) => push_sentence(
-            page,
-            &[(says, at), (", and the buffer has ", len)],
-            " bytes",
-        ),
+        ReadFault::OutOfBounds(at) | ReadFault::Misaligned(at) => {
+            push_part(page, says, at);
+            push_part(page, ", and the buffer has ", len);
+            page.push_line(" bytes");
+        }
         _ => return false,
     }
     true
