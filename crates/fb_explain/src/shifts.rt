@@ -45,11 +45,6 @@ fn front_len(fields: &[FieldInfo], others: &[FieldInfo]) -> usize {
     len
 }
 
-/// Whether all fields of the first list are called like those that the second begins with.
-fn begin_alike(fields: &[FieldInfo], others: &[FieldInfo]) -> bool {
-    front_len(fields, others) == fields.len()
-}
-
 fn rest_of(fields: &[FieldInfo], from: usize) -> &[FieldInfo] {
     fields.get(from..).unwrap_or(&[])
 }
@@ -57,7 +52,8 @@ fn rest_of(fields: &[FieldInfo], from: usize) -> &[FieldInfo] {
 /// Which so many slots were removed or inserted, from the first that has another name on.
 fn shift_by(old: &[FieldInfo], new: &[FieldInfo], first: usize, count: usize) -> Option<Shift> {
     let behind = first.saturating_add(count);
-    if behind < old.len() && begin_alike(rest_of(old, behind), rest_of(new, first)) {
+    let left = rest_of(old, behind);
+    if !left.is_empty() && front_len(left, rest_of(new, first)) == left.len() {
         let end = old.len();
         return Some(Shift {
             change: Change::Removed,
@@ -66,7 +62,8 @@ fn shift_by(old: &[FieldInfo], new: &[FieldInfo], first: usize, count: usize) ->
             end,
         });
     }
-    if begin_alike(rest_of(old, first), rest_of(new, behind)) {
+    let left = rest_of(old, first);
+    if front_len(left, rest_of(new, behind)) == left.len() {
         let end = old.len().saturating_add(count);
         return Some(Shift {
             change: Change::Inserted,

@@ -29,11 +29,6 @@ fn field_names(alloc: Global, fields: &[FieldInfo]) -> Result<Vec<&str>, AllocEr
     Ok(names)
 }
 
-/// A text without its quotes.
-fn unquoted(token: &str) -> &str {
-    token.trim_matches('"')
-}
-
 /// Adds what no name is, and the nearest of those that there are.
 fn push_no_name(
     page: &mut Page,
@@ -95,7 +90,7 @@ pub(crate) fn push_unknown_name(
     token: &str,
     field: Option<&FieldInfo>,
 ) {
-    let text = unquoted(token);
+    let text = token.trim_matches('"');
     let Some(field) = field else {
         page.push_line("no such name");
         return;

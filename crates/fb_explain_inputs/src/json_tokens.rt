@@ -109,10 +109,6 @@ pub(crate) fn number_of(text: &str) -> &str {
         .unwrap_or(text)
 }
 
-fn digits_len(text: &str) -> usize {
-    front_len(text.as_bytes(), DIGITS)
-}
-
 /// What is wrong with a number behind its point and its exponent's sign.
 fn exponent_sentence(exponent: &str) -> Option<&'static str> {
     let mark = exponent.as_bytes().first();
@@ -128,7 +124,7 @@ fn exponent_sentence(exponent: &str) -> Option<&'static str> {
             1
         },
     );
-    if digits.is_empty() || digits_len(digits) < digits.len() {
+    if digits.is_empty() || front_len(digits.as_bytes(), DIGITS) < digits.len() {
         return Some("the exponent of a number has digits alone");
     }
     None
@@ -143,7 +139,7 @@ fn fraction_sentence(rest: &str) -> Option<&'static str> {
             exponent_sentence(rest)
         };
     };
-    let len = digits_len(digits);
+    let len = front_len(digits.as_bytes(), DIGITS);
     if len == 0 {
         return Some("a number has a digit behind its point");
     }
@@ -156,7 +152,7 @@ fn fraction_sentence(rest: &str) -> Option<&'static str> {
 /// What is wrong with a number.
 fn number_sentence(number: &str) -> Option<&'static str> {
     let digits = number.strip_prefix('-').unwrap_or(number);
-    let len = digits_len(digits);
+    let len = front_len(digits.as_bytes(), DIGITS);
     match digits.as_bytes() {
         [b'N' | b'I' | b'n' | b'i', ..] => return Some("JSON has no NaN and no Infinity"),
         [b'0', b'x' | b'X', ..] => return Some("numbers of JSON are decimal"),
