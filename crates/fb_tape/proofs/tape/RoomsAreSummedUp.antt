@@ -1,5 +1,6 @@
 -- The rooms of all parts are summed up, also where they are too big for a buffer together.
-use Rattle.std.proofs.Common.{ℕ, ◌+◌, ◌-◌, ◌^◌, ◌≡◌, ◌≤◌, ◌<◌, min, ◌↔◌, IsTrue, false, ap, sym, ◌∙◌, arith}
+use Rattle.std.proofs.Common.{ℕ, ◌+◌, ◌-◌, ◌^◌, ◌≡◌, ◌≤◌, ◌<◌, min, ◌↔◌, IsTrue, true, false, ap, sym, ◌∙◌}
+use Rattle.std.proofs.Common.{refl, arith}
 use Rattle.fb_value.specs.UpTo.{at_most_usize}
 use Rattle.fb_tape.specs.Tapes.{Taped}
 
@@ -22,3 +23,18 @@ pub room_known : (before sized : Taped) (own room : ℕ) → sized ≡ with_room
 room_known before sized own room e is over =
     let sum : sized.room ≡ at_most_usize (before.room + own) = ap (λ (t : Taped). t.room) e in
     sym sum ∙ room_added before.room own room sized.room sum is over
+
+-- Nothing is said of a tape that is over.
+pub over_fits : {P : Type 0} (room held : ℕ) → (IsTrue true ↔ (2147483647 < room)) → held ≡ room
+    → held ≤ 2147483647 → P
+over_fits room held over same fits = let past = over.0 refl in absurd (omega (arith, past, same, fits))
+
+-- The rooms of all parts are cut off at most once.
+pub room_capped : (before own room after : ℕ) → after ≡ at_most_usize (before + own) → own ≡ at_most_usize room
+    → after ≡ at_most_usize (before + room)
+room_capped before own room after sum is = omega (arith, sum, is)
+
+pub room_is : (before sized : Taped) (own room : ℕ) → sized ≡ with_room before (at_most_usize (before.room + own))
+    → own ≡ room → sized.room ≡ at_most_usize (before.room + room)
+room_is before sized own room e is =
+    ap (λ (t : Taped). t.room) e ∙ ap (λ n. at_most_usize (before.room + n)) is

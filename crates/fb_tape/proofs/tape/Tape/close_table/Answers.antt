@@ -1,5 +1,5 @@
-use Rattle.std.proofs.Common.{◌≡◌, ◌∙◌, ◌+◌, ◌-◌, ◌++◌, ℕ, List, [], length, drop, take, ap, sym, arith}
-use Rattle.std.proofs.Common.{subst}
+use Rattle.std.proofs.Common.{◌≡◌, ◌≤◌, ◌∙◌, ◌+◌, ◌-◌, ◌++◌, ℕ, List, [], length, drop, take, ap, sym, arith}
+use Rattle.std.proofs.Common.{subst, refl}
 use Rattle.std.proofs.lemmas.List.{length-drop, append-nil, take-append-drop, drop_all}
 use Rattle.fb_layout.specs.WellMade.{IsWellMade}
 use Rattle.fb_value.specs.Room.{table_room}
@@ -8,7 +8,7 @@ use Rattle.fb_tape.specs.StoredTables.{notes_of, bytes_of, in_order}
 use Rattle.fb_tape.specs.TapeHeld.{tape_seen}
 use Rattle.fb_tape.specs.Tapes.{Taped}
 use Rattle.fb_tape.specs.declared.ops.NotedField.{NotedField}
-use Rattle.fb_tape.proofs.tape.RoomsAreSummedUp.{room_known}
+use Rattle.fb_tape.proofs.tape.RoomsAreSummedUp.{room_known, room_is, over_fits}
 use Rattle.fb_layout.specs.Laid.{slots_of}
 use Rattle.fb_tape.specs.StoredFields.{stored_in}
 use Rattle.fb_tape.proofs.stored.StoredFieldsFit.{open_stored}
@@ -103,3 +103,61 @@ returns-clause-waits c others xs h waits =
       room = ap (λ (t : Taped). t.room) seen ∙ room_known before c.add_room.new.self c.table_room.result
           (table_room before.layout t) c.add_room.ensures.adds own c.if-is_over.ensures.exact;
     }) (rw (← vtable) numbered) h stored.aligned adds.noted waits
+
+pub returns-then-is_over-clause-waits : goal.returns-then-is_over-clause-waits
+returns-then-is_over-clause-waits c others xs h waits fits =
+    over_fits c.add_room.new.self.room c.add_room.new.self.room c.if-is_over.ensures.exact refl fits
+
+pub returns-then-is_over-clause-room : goal.returns-then-is_over-clause-room
+returns-then-is_over-clause-room c =
+    room_is c.args.self.now c.add_room.new.self _ _ c.add_room.ensures.adds
+    (rw (ap (λ (t : Taped). t.layout) c.self.view_is) at c.table_room.ensures)
+
+pub returns-then-is_over-clause-whole : goal.returns-then-is_over-clause-whole
+returns-then-is_over-clause-whole c = ap (λ (t : Taped). t.unfinished) c.add_room.ensures.adds ∙ c.requires.whole
+
+pub returns-then-is_over-clause-layout : goal.returns-then-is_over-clause-layout
+returns-then-is_over-clause-layout c = ap (λ (t : Taped). t.layout) c.add_room.ensures.adds
+
+pub note_table-requires-clause-within : goal.note_table-requires-clause-within
+note_table-requires-clause-within c = c.requires.within
+
+pub returns-in_err-align-clause-layout : goal.returns-in_err-align-clause-layout
+returns-in_err-align-clause-layout c = ap (λ (t : Taped). t.layout) (c.self-2.view_is ∙ c.add_room.ensures.adds)
+
+pub returns-in_err-vtable-clause-layout : goal.returns-in_err-vtable-clause-layout
+returns-in_err-vtable-clause-layout c = ap (λ (t : Taped). t.layout) (c.self-2.view_is ∙ c.add_room.ensures.adds)
+
+pub returns-in_err-reserve-clause-layout : goal.returns-in_err-reserve-clause-layout
+returns-in_err-reserve-clause-layout c = ap (λ (t : Taped). t.layout) (c.self-2.view_is ∙ c.add_room.ensures.adds)
+
+within_all : (n long : ℕ) → n ≡ long → n ≤ long
+within_all n long is = omega (arith, is)
+
+pub invariant_of-self-in_err-reserve : goal.invariant_of-self-in_err-reserve
+invariant_of-self-in_err-reserve c =
+    record { within = within_all _ _ (c.len-self-inside.ensures ∙ c.note_table.new.bytes.ok.0) }
+
+pub invariant_of-self-2 : goal.invariant_of-self-2
+invariant_of-self-2 c =
+    record { within = within_all _ _ (c.len-self-inside.ensures ∙ c.note_table.new.bytes.ok.0) }
+
+from_within : (from long len : ℕ) → from ≤ long → len ≡ long → from ≤ len
+from_within from long len low is = omega (arith, low, is)
+
+pub overflow_sub-len : goal.overflow_sub-len
+overflow_sub-len c = from_within _ _ _ c.requires.within c.len.ensures.exact
+
+pub returns-clause-room : goal.returns-clause-room
+returns-clause-room c =
+    ap (λ (t : Taped). t.room) c.self-2.view_is ∙ room_is c.args.self.now c.add_room.new.self _ _
+    c.add_room.ensures.adds (rw (ap (λ (t : Taped). t.layout) c.self.view_is) at c.table_room.ensures)
+
+all_dropped : (n : ℕ) (xs : List ℕ) → n ≡ length xs → drop n xs ≡ []
+all_dropped n xs is = drop_all n xs (omega (arith, is))
+
+pub returns-clause-whole : goal.returns-clause-whole
+returns-clause-whole c = all_dropped _ _ (c.len-self-inside.ensures ∙ c.note_table.new.bytes.ok.0)
+
+pub returns-clause-layout : goal.returns-clause-layout
+returns-clause-layout c = ap (λ (t : Taped). t.layout) (c.self-2.view_is ∙ c.add_room.ensures.adds)

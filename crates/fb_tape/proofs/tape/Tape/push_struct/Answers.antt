@@ -12,3 +12,9 @@ returns-clause-adds c =
     (a_struct (parts_view c.args.parts.now)) c.self.inside.finished c.self.inside.bytes.items
     c.push_struct.new.bytes.items c.self.invariant.within (ap (λ (t : Taped). t.layout) c.self.view_is)
     (ap (λ (t : Taped). t.unfinished) c.self.view_is) c.push_struct.ensures.adds
+
+pub returns-then-leaves_vector_out-clause-waits : goal.returns-then-leaves_vector_out-clause-waits
+returns-then-leaves_vector_out-clause-waits c ps waits = waits
+
+pub returns-clause-layout : goal.returns-clause-layout
+returns-clause-layout c = ap (λ (t : Taped). t.layout) c.self.view_is
