@@ -1,14 +1,15 @@
 -- How a walk ends where memory ran out: nothing is said of the place, and no table is entered before its rules hold.
-use Rattle.std.proofs.Common.{◌≡◌, ℕ, ◌+◌, ◌*◌, ◌≤◌, drop, Result, Err, refl, ap, arith}
+use Rattle.std.proofs.Common.{◌≡◌, ℕ, ◌+◌, ◌*◌, ◌≤◌, drop, Result, Ok, Err, refl, ap, arith}
 use Rattle.std.proofs.lemmas.Result.{err_from_is_err_and}
 use Rattle.fb_value.specs.declared.faults.ReadFault.{ReadFault}
-use Rattle.fb_value.specs.declared.faults.ReadFault.TheVariants.{Memory}
+use Rattle.fb_value.specs.declared.faults.ReadFault.TheVariants.{Memory, TooDeep, TooManyCells}
 use Rattle.fb_value.specs.Places.{ref_place}
 use Rattle.fb_read.specs.declared.buffer.Buffer.{Buffer}
 use Rattle.fb_read.specs.declared.walk.Walk.{Walk}
 use Rattle.fb_read.specs.Ends.{Ends}
 use Rattle.fb_read.specs.Values.{led_to}
 use Rattle.fb_read.specs.Walks.{place}
+use Rattle.fb_read.proofs.visit_tables.CountsGoOn.{not_entered, just_entered}
 use Rattle.fb_read.proofs.visit_tables.EndsAtAPlace.{ends_passed}
 use Rattle.fb_read.proofs.visit_tables.EndsAtASlot.{slot_passed}
 use Rattle.fb_read.proofs.visit_tables.+visit.Goals as goal
@@ -28,6 +29,15 @@ no_memory : {T K : Type 0} (r : Result K ReadFault) (f g : ReadFault) → r ≡ 
     → (◌≡◌ {A = Result T ReadFault} (Err f) (Err Memory) → ⊥) → r ≡ Err Memory → ⊥
 no_memory r f g err is other memory = let same : f ≡ Memory = cc in other (ap Err same)
 
+no_fault : {T : Type 0} {x : T} → ◌≡◌ {A = Result T ReadFault} (Ok x) (Err Memory) → ⊥
+no_fault memory = cc
+
+deep : {T : Type 0} {at : ℕ} → ◌≡◌ {A = Result T ReadFault} (Err (TooDeep at)) (Err Memory) → ⊥
+deep memory = cc
+
+many_cells : {T : Type 0} {at : ℕ} → ◌≡◌ {A = Result T ReadFault} (Err (TooManyCells at)) (Err Memory) → ⊥
+many_cells memory = cc
+
 entered_few : (old spent mid spent_mid most : ℕ) → mid + spent ≤ old + spent_mid → spent_mid ≤ most
     → mid + spent ≤ old + (most + 1)
 entered_few old spent mid spent_mid most before few = omega arith
@@ -40,7 +50,7 @@ pub no_elements_kept : goal.visit_elements-returns-in_err-elements
 no_elements_kept g t c =
     let p = err_from_is_err_and c.from_residual.result c.from_residual.ensures.1 in
     memory_ended _ _ _ _ _ _ _ _ c.from_residual.result p.0 p.1 p.2 c.in_err-elements.ensures.memory
-    (entered_few _ _ _ c.args.walk.now.spent _ (omega arith) c.requires.limits.few)
+    (not_entered _ _ _ c.requires.limits.few)
 
 pub element_not_kept : goal.visit_elements-returns-in_err-add_element
 element_not_kept g t c =
@@ -59,7 +69,7 @@ pub no_entries_kept : goal.visit_slots-returns-in_err-entries
 no_entries_kept g t c =
     let p = err_from_is_err_and c.from_residual.result c.from_residual.ensures.1 in
     memory_ended _ _ _ _ _ _ _ _ c.from_residual.result p.0 p.1 p.2 c.in_err-entries.ensures.memory
-    (entered_few _ _ _ c.args.walk.now.spent _ (omega arith) c.requires.limits.few)
+    (not_entered _ _ _ c.requires.limits.few)
 
 pub entry_not_kept : goal.visit_slots-returns-in_err-add_entry
 entry_not_kept g t c =
@@ -96,7 +106,7 @@ inlines_not_kept g t c =
     let p = err_from_is_err_and c.from_residual-in_err-inlines-in-None.result
     c.from_residual-in_err-inlines-in-None.ensures.1 in
     memory_ended _ _ _ _ _ _ _ _ c.from_residual-in_err-inlines-in-None.result p.0 p.1 p.2
-    c.in_err-inlines-in-None.ensures.memory (omega arith)
+    c.in_err-inlines-in-None.ensures.memory (just_entered _ _ _ _ c.tick.ensures c.requires.limits.few)
 
 pub reference_not_open : goal.visit_table_behind-returns-in_err-target-clause-open
 reference_not_open g t c memory =
@@ -104,7 +114,7 @@ reference_not_open g t c memory =
     absurd (no_memory c.from_residual.result c.in_err-target.field-0.0 p.0 p.1 p.2 c.in_err-target.ensures.rule memory)
 
 pub passed_over_open : goal.visit_table_behind-returns-in-Some-clause-open
-passed_over_open g t c memory = absurd cc
+passed_over_open g t c memory = absurd (no_fault memory)
 
 pub table_not_open : goal.visit_table-returns-in_err-vtable_at-clause-open
 table_not_open g t c memory =
@@ -113,14 +123,14 @@ table_not_open g t c memory =
     memory)
 
 pub deep_table_not_open : goal.visit_table-returns-then-tables-buffer-clause-open
-deep_table_not_open g t c memory = absurd cc
+deep_table_not_open g t c memory = absurd (deep memory)
 
 pub last_table_not_open : goal.visit_table-returns-then-walk-from-clause-open
-last_table_not_open g t c memory = absurd cc
+last_table_not_open g t c memory = absurd (many_cells memory)
 
 pub entries_open : goal.visit_table-returns-in_err-entries-clause-open
 entries_open g t c memory =
     (c.in_ok-vtable_at.ensures.rules, c.if-tables-buffer.false, rw (← c.from.ensures) c.if-walk-from.false)
 
 pub table_open : goal.visit_table-returns-clause-open
-table_open g t c memory = absurd cc
+table_open g t c memory = absurd (no_fault memory)
