@@ -1,4 +1,5 @@
-use Rattle.std.proofs.Common.{ℕ, ◌≡◌, ◌≤◌, max, arith, ap, ◌∙◌, subst}
+use Rattle.std.proofs.Common.{ℕ, ◌≡◌, ◌≤◌, List, [], ◌∷◌, zero, suc, length, take, drop, max, arith, ap, refl, ◌∙◌, subst}
+use Rattle.std.proofs.lemmas.List.{length-take-le}
 use Rattle.std.proofs.lemmas.Result.{on_ok_weaker}
 use Rattle.fb_layout.specs.Laid.{align_of}
 use Rattle.fb_layout.specs.Seen.{kind_seen}
@@ -73,3 +74,22 @@ returns-clause-whole c =
 
 pub returns-clause-layout : goal.returns-clause-layout
 returns-clause-layout c = c.finish_data.ensures.layout ∙ ap (λ (t : Taped). t.layout) c.add_room.ensures.adds
+
+none_behind : (n : ℕ) (xs : List ℕ) → drop n (take n xs) ≡ []
+none_behind zero xs = refl
+none_behind (suc n) [] = refl
+none_behind (suc n) (x ∷ xs) = none_behind n xs
+
+pub returns-then-is_over-clause-whole : goal.returns-then-is_over-clause-whole
+returns-then-is_over-clause-whole c =
+    ap (drop c.self-2.inside.finished) c.truncate.ensures.items
+    ∙ none_behind c.self-2.inside.finished c.self-2.inside.bytes.items
+
+taken_within : (n : ℕ) (xs ys : List ℕ) → n ≤ length xs → ys ≡ take n xs → n ≤ length ys
+taken_within n xs ys within is = omega (arith, length-take-le n xs within, ap length is)
+
+pub invariant_of-self : goal.invariant_of-self
+invariant_of-self c = record {
+  within = taken_within c.self-2.inside.finished c.self-2.inside.bytes.items _ c.self-2.invariant.within
+      c.truncate.ensures.items;
+}
