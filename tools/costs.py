@@ -5,8 +5,9 @@ usage: tools/costs.py CRATE [--test] [--lines N]
 
 The crates below are proved first, as tools/build.py does. Then one job checks the crate from nothing. The prover writes
 a file for each module that it has checked, so the time between two files is what the second one took, by the clock.
-Prints the seconds by kind of module, by function, and of single modules, N lines of each. With --test the crate's tests
-are checked too.
+Prints the seconds by kind of module, by function, and of single modules, N lines of each, with the size of what was
+written. Seconds swing with the machine and what else it does; sizes don't, so they tell whether a body's model shrank.
+With --test the crate's tests are checked too.
 
 The kinds that matter: Lts is the model of a function's body, and grows with its statements, and with how many values
 live across them. Proof has the goals that no answer is written for, which tactics look for. Answers has those that
@@ -31,35 +32,38 @@ def check(crates, name, kept, flags):
 
 
 def modules_in(kept, name):
-    """The modules of a crate whose files are in a folder, each with the seconds from the one before it."""
+    """The modules of a crate whose files are in a folder: name, seconds from the one before it, and bytes."""
     files = []
     for at, _, names in os.walk(kept):
         if os.path.basename(at) != "records":
             checked = [it.removesuffix(".oantt") for it in names if it.endswith(".oantt")]
-            files += [(os.stat(f"{at}/{it}.oantt").st_mtime_ns, it) for it in checked]
+            stats = [(os.stat(f"{at}/{it}.oantt"), it) for it in checked]
+            files += [(known.st_mtime_ns, it, known.st_size) for known, it in stats]
     files.sort()
     steps = zip(files, files[1:])
-    return [(it.removeprefix(f"Rattle-{name}-"), (time - before) / 1e9) for (before, _), (time, it) in steps]
+    return [(it.removeprefix(f"Rattle-{name}-"), (time - old[0]) / 1e9, size) for old, (time, it, size) in steps]
 
 
-def show(title, costs, most):
+def show(title, costs, sizes, most):
     total = sum(costs.values())
     print(f"\n{title}:")
     for name, seconds in costs.most_common(most):
-        print(f"{seconds:8.1f} s {100 * seconds / total:5.1f} %  {name}")
+        print(f"{seconds:8.1f} s {100 * seconds / total:5.1f} % {sizes[name] / 1e6:8.2f} MB  {name}")
 
 
 def report(modules, most):
-    kinds, functions, single = collections.Counter(), collections.Counter(), collections.Counter()
-    for name, seconds in modules:
+    kinds, functions, single = [(collections.Counter(), collections.Counter()) for _ in range(3)]
+    for name, seconds, size in modules:
         function, _, kind = name.rpartition(".")
-        kinds["contracts" if ".contracts." in name else kind.partition("-")[0]] += seconds
-        functions[function] += seconds
-        single[name] += seconds
-    print(f"{len(modules)} modules in {sum(single.values()):.0f} s")
-    show("by kind", kinds, most)
-    show("by function, or folder of lemmas", functions, most)
-    show("single modules", single, most)
+        kind = "contracts" if ".contracts." in name else kind.partition("-")[0]
+        for (costs, sizes), key in ((kinds, kind), (functions, function), (single, name)):
+            costs[key] += seconds
+            sizes[key] += size
+    costs, sizes = single
+    print(f"{len(modules)} modules in {sum(costs.values()):.0f} s, {sum(sizes.values()) / 1e6:.1f} MB")
+    show("by kind", *kinds, most)
+    show("by function, or folder of lemmas", *functions, most)
+    show("single modules", *single, most)
 
 
 def main():
