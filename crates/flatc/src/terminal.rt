@@ -50,15 +50,15 @@ fn before_number(text: &str) -> Option<&str> {
     Some(front)
 }
 
-/// Whether a text ends in `:line:column`.
-fn ends_in_position(text: &str) -> Option<&str> {
+/// A text without the `:line:column` that it ends in.
+fn before_position(text: &str) -> Option<&str> {
     before_number(before_number(text)?)
 }
 
 /// The length of the place that a line begins with: `path:line:column`.
 fn place_len(line: &str) -> Option<usize> {
     for (at, _) in line.match_indices(": ") {
-        if line.get(..at).and_then(ends_in_position).is_some() {
+        if line.get(..at).and_then(before_position).is_some() {
             return Some(at);
         }
     }
