@@ -28,26 +28,52 @@ impl ReadFault {
     ghost use Rattle.std.specs.Prelude.{◌≡◌};
     ghost use Rattle.fb_value.specs.FaultTable.{number_of, name_of, offset_of};
 
-    // The number and the name.
-    fn row(self) -> (u8, &'static str)
+    // The number, the name, and what its sentence says before the offset and behind it; of a missing slot, before and
+    // behind the slot's number.
+    fn row(self) -> (u8, &'static str, &'static str, &'static str)
         ensures number { result.0 ≡ number_of self }
         ensures name { result.1.now ≡ name_of self }
     {
         match self {
-            ReadFault::Short(_) => (50, "Short"),
-            ReadFault::TooLong(_) => (51, "TooLong"),
-            ReadFault::WrongIdentifier(_) => (52, "WrongIdentifier"),
-            ReadFault::Misaligned(_) => (53, "Misaligned"),
-            ReadFault::OutOfBounds(_) => (54, "OutOfBounds"),
-            ReadFault::ZeroOffset(_) => (55, "ZeroOffset"),
-            ReadFault::BadVtable(_) => (56, "BadVtable"),
-            ReadFault::MissingRequired(_, _) => (57, "MissingRequired"),
-            ReadFault::NoTerminator(_) => (58, "NoTerminator"),
-            ReadFault::BadUtf8(_) => (59, "BadUtf8"),
-            ReadFault::UnionMismatch(_) => (60, "UnionMismatch"),
-            ReadFault::TooDeep(_) => (62, "TooDeep"),
-            ReadFault::TooManyCells(_) => (63, "TooManyCells"),
-            ReadFault::Memory => (64, "Memory"),
+            ReadFault::Short(_) => (50, "Short", "the buffer ends at ", ", inside its header"),
+            ReadFault::TooLong(_) => (51, "TooLong", "the buffer is longer than ", " bytes"),
+            ReadFault::WrongIdentifier(_) => (
+                52,
+                "WrongIdentifier",
+                "the file identifier at ",
+                " is not the schema's",
+            ),
+            ReadFault::Misaligned(_) => (53, "Misaligned", "position ", " is not aligned"),
+            ReadFault::OutOfBounds(_) => (
+                54,
+                "OutOfBounds",
+                "what is at ",
+                " ends past the buffer",
+            ),
+            ReadFault::ZeroOffset(_) => (55, "ZeroOffset", "the reference at ", " is 0"),
+            ReadFault::BadVtable(_) => (56, "BadVtable", "the table at ", " has no valid vtable"),
+            ReadFault::MissingRequired(_, _) => (
+                57,
+                "MissingRequired",
+                "the required slot ",
+                " is missing at ",
+            ),
+            ReadFault::NoTerminator(_) => (
+                58,
+                "NoTerminator",
+                "the string that ends at ",
+                " has no zero byte",
+            ),
+            ReadFault::BadUtf8(_) => (59, "BadUtf8", "the string's byte at ", " is not UTF-8"),
+            ReadFault::UnionMismatch(_) => (
+                60,
+                "UnionMismatch",
+                "the union's code at ",
+                " has no value",
+            ),
+            ReadFault::TooDeep(_) => (62, "TooDeep", "the table at ", " is too deep"),
+            ReadFault::TooManyCells(_) => (63, "TooManyCells", "the cells at ", " are too many"),
+            ReadFault::Memory => (64, "Memory", "out of memory", ""),
         }
     }
 
@@ -110,31 +136,9 @@ impl<T: Drop> From<AllocFailed<T>> for ReadFault {
     }
 }
 
-impl ReadFault {
-    // What its sentence says before the offset and behind it; of a missing slot, before and behind the slot's number.
-    fn sentence(self) -> (&'static str, &'static str) {
-        match self {
-            ReadFault::Short(_) => ("the buffer ends at ", ", inside its header"),
-            ReadFault::TooLong(_) => ("the buffer is longer than ", " bytes"),
-            ReadFault::WrongIdentifier(_) => ("the file identifier at ", " is not the schema's"),
-            ReadFault::Misaligned(_) => ("position ", " is not aligned"),
-            ReadFault::OutOfBounds(_) => ("what is at ", " ends past the buffer"),
-            ReadFault::ZeroOffset(_) => ("the reference at ", " is 0"),
-            ReadFault::BadVtable(_) => ("the table at ", " has no valid vtable"),
-            ReadFault::NoTerminator(_) => ("the string that ends at ", " has no zero byte"),
-            ReadFault::BadUtf8(_) => ("the string's byte at ", " is not UTF-8"),
-            ReadFault::UnionMismatch(_) => ("the union's code at ", " has no value"),
-            ReadFault::TooDeep(_) => ("the table at ", " is too deep"),
-            ReadFault::TooManyCells(_) => ("the cells at ", " are too many"),
-            ReadFault::MissingRequired(_, _) => ("the required slot ", " is missing at "),
-            ReadFault::Memory => ("out of memory", ""),
-        }
-    }
-}
-
 impl fmt::Display for ReadFault {
     fn fmt<W: fmt::Write>(&self, f: &mut fmt::Formatter<W>) -> fmt::Result {
-        let (before, behind) = self.sentence();
+        let (_number, _name, before, behind) = self.row();
         if let ReadFault::MissingRequired(at, slot) = self {
             return write!(f, "{before}{slot}{behind}{at}");
         }
@@ -145,15 +149,9 @@ impl fmt::Display for ReadFault {
     }
 }
 
+// The sentence: a derived one takes the prover a step for each variant.
 impl fmt::Debug for ReadFault {
     fn fmt<W: fmt::Write>(&self, f: &mut fmt::Formatter<W>) -> fmt::Result {
-        let mut shown = f.debug_tuple(self.name());
-        if let Some(at) = self.offset() {
-            shown.field(&at);
-        }
-        if let ReadFault::MissingRequired(_, slot) = self {
-            shown.field(slot);
-        }
-        shown.finish()
+        fmt::Display::fmt(self, f)
     }
 }
