@@ -68,14 +68,10 @@ impl fmt::Display for SchemaFault {
     }
 }
 
-// As a derived one would show it, which takes the prover a step for each variant.
+// The sentence: a derived one takes the prover a step for each variant.
 impl fmt::Debug for SchemaFault {
     fn fmt<W: fmt::Write>(&self, f: &mut fmt::Formatter<W>) -> fmt::Result {
-        let mut shown = f.debug_tuple(self.name());
-        if let Some(at) = self.offset() {
-            shown.field(&at);
-        }
-        shown.finish()
+        fmt::Display::fmt(self, f)
     }
 }
 
