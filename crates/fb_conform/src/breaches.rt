@@ -43,25 +43,45 @@ pub enum Breach {
 impl Breach {
     ghost use Rattle.fb_conform.specs.BreachTable.{number_of, name_of, type_of, slot_of};
 
-    // The number and the name.
-    fn row(self) -> (u8, &'static str)
+    // The number, the name, and what is told of it before its slot and type, and behind them.
+    fn row(self) -> (u8, &'static str, &'static str, &'static str)
         ensures number { result.0 ≡ number_of self }
         ensures name { result.1.now ≡ name_of self }
     {
         match self {
-            Breach::RootChanged => (90, "RootChanged"),
-            Breach::IdentifierChanged => (91, "IdentifierChanged"),
-            Breach::TypeGone(_) => (92, "TypeGone"),
-            Breach::KindChanged(_) => (93, "KindChanged"),
-            Breach::StructChanged(_) => (94, "StructChanged"),
-            Breach::SlotGone(_, _) => (95, "SlotGone"),
-            Breach::FieldTypeChanged(_, _) => (96, "FieldTypeChanged"),
-            Breach::DefaultChanged(_, _) => (97, "DefaultChanged"),
-            Breach::RequiredChanged(_, _) => (98, "RequiredChanged"),
-            Breach::DeprecatedTakenBack(_, _) => (99, "DeprecatedTakenBack"),
-            Breach::NewRequired(_, _) => (100, "NewRequired"),
-            Breach::EnumChanged(_) => (101, "EnumChanged"),
-            Breach::UnionChanged(_) => (102, "UnionChanged"),
+            Breach::RootChanged => (90, "RootChanged", "the root is a type of another name", ""),
+            Breach::IdentifierChanged => (
+                91,
+                "IdentifierChanged",
+                "the file identifier changed",
+                "",
+            ),
+            Breach::TypeGone(_) => (92, "TypeGone", "", " is gone"),
+            Breach::KindChanged(_) => (93, "KindChanged", "", " is of another kind"),
+            Breach::StructChanged(_) => (
+                94,
+                "StructChanged",
+                "the struct, ",
+                ", has another layout",
+            ),
+            Breach::SlotGone(_, _) => (95, "SlotGone", "", " is gone"),
+            Breach::FieldTypeChanged(_, _) => (96, "FieldTypeChanged", "", " has another type"),
+            Breach::DefaultChanged(_, _) => (97, "DefaultChanged", "", " has another default"),
+            Breach::RequiredChanged(_, _) => (
+                98,
+                "RequiredChanged",
+                "",
+                " is required in one schema alone",
+            ),
+            Breach::DeprecatedTakenBack(_, _) => (
+                99,
+                "DeprecatedTakenBack",
+                "",
+                " isn't deprecated any more",
+            ),
+            Breach::NewRequired(_, _) => (100, "NewRequired", "the new ", " is required"),
+            Breach::EnumChanged(_) => (101, "EnumChanged", "the enum, ", ", has lost values"),
+            Breach::UnionChanged(_) => (102, "UnionChanged", "the union, ", ", has lost members"),
         }
     }
 
@@ -113,30 +133,11 @@ impl Breach {
             _ => None,
         }
     }
-
-    // What is told of it before its slot and type, and behind them.
-    fn text(self) -> (&'static str, &'static str) {
-        match self {
-            Breach::RootChanged => ("the root is a type of another name", ""),
-            Breach::IdentifierChanged => ("the file identifier changed", ""),
-            Breach::TypeGone(_) => ("", " is gone"),
-            Breach::KindChanged(_) => ("", " is of another kind"),
-            Breach::StructChanged(_) => ("the struct, ", ", has another layout"),
-            Breach::SlotGone(_, _) => ("", " is gone"),
-            Breach::FieldTypeChanged(_, _) => ("", " has another type"),
-            Breach::DefaultChanged(_, _) => ("", " has another default"),
-            Breach::RequiredChanged(_, _) => ("", " is required in one schema alone"),
-            Breach::DeprecatedTakenBack(_, _) => ("", " isn't deprecated any more"),
-            Breach::NewRequired(_, _) => ("the new ", " is required"),
-            Breach::EnumChanged(_) => ("the enum, ", ", has lost values"),
-            Breach::UnionChanged(_) => ("the union, ", ", has lost members"),
-        }
-    }
 }
 
 impl fmt::Display for Breach {
     fn fmt<W: fmt::Write>(&self, f: &mut fmt::Formatter<W>) -> fmt::Result {
-        let (front, behind) = self.text();
+        let (_number, _name, front, behind) = self.row();
         f.write_str(front)?;
         if let Some(slot) = self.slot() {
             write!(f, "slot {slot} of ")?;
@@ -148,16 +149,9 @@ impl fmt::Display for Breach {
     }
 }
 
-// As a derived one would show it, which takes the prover a step for each variant.
+// The sentence: a derived one takes the prover a step for each variant.
 impl fmt::Debug for Breach {
     fn fmt<W: fmt::Write>(&self, f: &mut fmt::Formatter<W>) -> fmt::Result {
-        let mut shown = f.debug_tuple(self.name());
-        if let Some(type_id) = self.type_id() {
-            shown.field(&type_id);
-        }
-        if let Some(slot) = self.slot() {
-            shown.field(&slot);
-        }
-        shown.finish()
+        fmt::Display::fmt(self, f)
     }
 }
