@@ -14,7 +14,6 @@ use std::alloc::{AllocError, Global};
 
 /// The full name of a path and a name behind it, with the path's last word in the name instead; none
 /// where no such name is used.
-#[tactic(auto, using(crate::proofs::LastWordMoves::same_moved, crate::proofs::LastWordMoves::one_shorter))]
 fn outward<'d>(
     tree: &PathTree<'d>,
     used: &PathTree<'d>,

@@ -42,7 +42,6 @@ impl NamedTypes {
     }
 
     /// Notes a number for a name at a path, where none is noted yet. The only error is a refused allocation.
-    #[tactic(auto, using(crate::proofs::NamedTypesKept::map_read))]
     pub(crate) fn note(&mut self, path: usize, name: usize, number: usize) -> Result<(), AllocError>
         requires maps { HasMaps self.now }
         requires path { path < path_count self.now }

@@ -32,9 +32,12 @@ fn attribute_called<'a, 's>(
 ) -> Option<&'a Attribute<'s>>
     ensures { option_copied result ≡ attribute_called built_in attributes.now }
 {
-    attributes.iter().find(
-        |attribute| matches!(attribute.built_in, Some(named) if named == built_in),
-    )
+    for attribute in attributes {
+        if matches!(attribute.built_in, Some(named) if named == built_in) {
+            return Some(attribute);
+        }
+    }
+    None
 }
 
 /// Whether one of the attributes is this built-in one.

@@ -67,13 +67,18 @@ fn are_places(alloc: Global, numbers: &[u64]) -> Result<bool, AllocError>
             taken[number] = true;
         }
     }
-    Ok(taken.iter().all(|taken| *taken))
+    Ok(!taken.contains(&false))
 }
 
 fn have_ids(fields: &[ResolvedField<'_, '_>]) -> bool
     ensures { result ≡ have_ids fields.now }
 {
-    fields.iter().any(|field| field.attributes.has_id)
+    for field in fields {
+        if field.attributes.has_id {
+            return true;
+        }
+    }
+    false
 }
 
 impl Slots {

@@ -1,6 +1,6 @@
 //! What a schema text declares, each type with the namespace that it stands in.
-ghost use Rattle.std.specs.Prelude.{◌≡◌, List, IfOk, map, string_bytes};
-ghost use Rattle.fb_resolve.specs.Outline.{TypeRead as Read, outline_of, word_of, name_of_type};
+ghost use Rattle.std.specs.Prelude.{◌≡◌, List, Some, IfOk, map, string_bytes};
+ghost use Rattle.fb_resolve.specs.Outline.{TypeRead as Read, outline_of, word_of, full_name, name_of_type};
 ghost use Rattle.fb_resolve.specs.EnumValues.{enum_values_of, underlying_at};
 
 use crate::basic_types::BasicType;
@@ -147,6 +147,13 @@ impl Names<'_, '_> {
     }
 }
 
+/// The name of what has this name in a namespace.
+fn name_inside<'n>(alloc: Global, scope: &'n str, word: &'n str) -> Result<String, AllocError>
+    ensures { IfOk result (λ s. string_bytes s ≡ full_name (Some scope.now) word.now) }
+{
+    [scope, ".", word].concat(alloc)
+}
+
 /// The name of a type with its namespace. The only error is a refused allocation.
 pub fn name_of_type(alloc: Global, read: &TypeRead<'_, '_>) -> Result<String, AllocError>
     ensures { IfOk result (λ s. string_bytes s ≡ name_of_type read.now) }
@@ -155,12 +162,7 @@ pub fn name_of_type(alloc: Global, read: &TypeRead<'_, '_>) -> Result<String, Al
     let Some(scope) = read.scope else {
         return String::from_str(alloc, word);
     };
-    let len = scope.len().saturating_add(word.len()).saturating_add(1);
-    let mut name = String::with_capacity(alloc, len)?;
-    name.push_str(scope)?;
-    name.push_str(".")?;
-    name.push_str(word)?;
-    Ok(name)
+    name_inside(alloc, scope, word)
 }
 
 /// A type's name as it is declared.

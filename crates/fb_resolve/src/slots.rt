@@ -42,10 +42,7 @@ fn value_slot(
 fn name_of_code(alloc: Global, name: &str) -> Result<String, AllocError>
     ensures { IfOk result (λ s. string_bytes s ≡ name_of_code name.now) }
 {
-    let mut code = String::with_capacity(alloc, name.len() + "_type".len())?;
-    code.push_str(name)?;
-    code.push_str("_type")?;
-    Ok(code)
+    [name, "_type"].concat(alloc)
 }
 
 /// The code that comes with a field whose type means this. The only error is a refused allocation.
@@ -69,7 +66,7 @@ pub(crate) fn code_of(
 pub fn union_in(resolved: &ResolvedField<'_, '_>) -> Option<TypeId>
     ensures { result ≡ union_in resolved.now }
 {
-    resolved.code.as_ref().map(|code| code.union)
+    Some(resolved.code.as_ref()?.union)
 }
 
 /// The slot of the code of a union's field.
@@ -105,16 +102,13 @@ pub(crate) fn push_slots(
     ensures { OnOk result (map field_seen slots.new.items ≡ map field_seen slots.old.items
         ++ slots_of_field resolved.entry slot) }
 {
-    match union_in(&resolved) {
-        Some(_) => {
-            // made first, since the code's slot takes the field
-            let value = value_slot(alloc, &resolved, slot + 1)?;
-            slots.push(code_slot(resolved, slot))?;
-            slots.push(value)?;
-        }
-        None => slots.push(value_slot(alloc, &resolved, slot)?)?,
+    let is_union = union_in(&resolved).is_some();
+    // made first, since the code's slot takes the field
+    let value = value_slot(alloc, &resolved, slot + u64::from(is_union))?;
+    if is_union {
+        slots.push(code_slot(resolved, slot))?;
     }
-    Ok(())
+    Ok(slots.push(value)?)
 }
 
 /// The slots of a table without ids, in the order of declaration. The only error is a refused

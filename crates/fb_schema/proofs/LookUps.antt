@@ -121,8 +121,16 @@ zipped_past R (a ∷ xs) [] k y h e f = h
 zipped_past R (a ∷ xs) (b ∷ ys) zero y h e f = cc
 zipped_past R (a ∷ xs) (b ∷ ys) (suc k) y h e f = zipped_past R xs ys k y h.1 e f
 
+-- where there is no type, there is what stands for none
+module _ (types : List TypeInfo) (at : ℕ) (none : None ≡ slice_get types at) where
+  pub none_seen : slice_get (map type_seen types) at ≡ None
+  none_seen = slice_get-map type_seen types at ∙ ap (option_map type_seen) (sym none)
+
+  pub no_body : body_in (slice_get (map type_seen types) at) ≡ table_body []
+  no_body = ap body_in none_seen
+
 module _ (types : List TypeInfo) (at : ℕ) (info : TypeInfo) (there : Some info ≡ slice_get types at) where
-  seen_there : slice_get (map type_seen types) at ≡ Some (type_seen info)
+  pub seen_there : slice_get (map type_seen types) at ≡ Some (type_seen info)
   seen_there = slice_get-map type_seen types at ∙ ap (option_map type_seen) (sym there)
 
   -- the body of the type there

@@ -1,5 +1,5 @@
 -- Where a list's first element that passes a test stands.
-use Rattle.std.proofs.Common.{◌≡◌, ℕ, ◌+◌, Bool, true, false, cond, ◌||◌, List, [], ◌∷◌, map, length, position, find}
+use Rattle.std.proofs.Common.{◌≡◌, ℕ, suc, ◌+◌, Bool, true, false, cond, ◌||◌, List, [], ◌∷◌, map, length, position, find}
 use Rattle.std.proofs.Common.{slice_get, None, Some, is_some, refl, ap, sym, ◌∙◌, arith, nat_lt, get_or, drop}
 use Rattle.std.proofs.Common.{drop-cons, ◌<◌, ◌≤◌}
 use Rattle.std.specs.List.{list_any, position_from, position_or_len}
@@ -51,6 +51,11 @@ module _ {X : Type 0} (p : X → Bool) (xs : List X) (i : ℕ)
     (so_far : position_from p 0 xs ≡ position_from p i (drop i xs)) where
   pub found_here : (x : X) → i < length xs → p (get_or xs i x) ≡ true → position p xs ≡ Some i
   found_here x within passes = position_from-zero p xs ∙ (so_far ∙ rw (drop-cons xs i x, passes) refl)
+
+  pub found_later : (x : X) → i < length xs → p (get_or xs i x) ≡ false
+      → position_from p 0 xs ≡ position_from p (i + 1) (drop (i + 1) xs)
+  found_later x within fails = let next : suc i ≡ i + 1 = omega arith in
+      so_far ∙ rw (drop-cons xs i x, fails) (ap (λ k. position_from p (i + 1) (drop k xs)) next)
 
   pub found_nowhere : length xs ≤ i → position p xs ≡ None
   found_nowhere past = position_from-zero p xs ∙ (so_far ∙ rw (drop_all i xs past) refl)

@@ -11,7 +11,7 @@ use crate::number_index::NumberIndex;
 use crate::types::{Body, FieldInfo};
 
 /// The fields of a table or struct; none of another type.
-fn fields_of(body: &Body) -> &[FieldInfo]
+pub(crate) fn fields_of(body: &Body) -> &[FieldInfo]
     ensures { map field_seen result.now ≡ fields_in (body_seen body.now) }
 {
     match body {
@@ -22,7 +22,7 @@ fn fields_of(body: &Body) -> &[FieldInfo]
 }
 
 /// The values of an enum; none of another type.
-fn values_of(body: &Body) -> &[(String, i128)]
+pub(crate) fn values_of(body: &Body) -> &[(String, i128)]
     ensures { map (λ v. (string_bytes v.0, v.1)) result.now ≡ values_in (body_seen body.now) }
 {
     match body.as_enum() {
@@ -32,7 +32,7 @@ fn values_of(body: &Body) -> &[(String, i128)]
 }
 
 /// The members of a union; none of another type.
-fn members_of(body: &Body) -> &[(String, TypeId)]
+pub(crate) fn members_of(body: &Body) -> &[(String, TypeId)]
     ensures { map (λ m. (string_bytes m.0, m.1.0)) result.now ≡ members_in (body_seen body.now) }
 {
     body.as_union().unwrap_or(&[])

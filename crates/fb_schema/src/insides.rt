@@ -5,6 +5,7 @@ ghost use Rattle.fb_schema.specs.Schema.{body_at, table_body, values_in, members
 ghost use Rattle.fb_schema.specs.Seen.{field_seen, body_seen};
 ghost use Rattle.fb_schema.specs.Found.{fields_in};
 
+use crate::finding;
 use crate::kinds::TypeId;
 use crate::schema::Schema;
 use crate::types::{Body, FieldInfo};
@@ -26,9 +27,8 @@ pub fn fields_of(schema: &Schema, number: TypeId) -> &[FieldInfo]
     ensures { map field_seen result.now ≡ fields_in (body_at schema.now number.0) }
 {
     match body_of(schema, number) {
-        Some(Body::Table(slots)) => slots.as_slice(),
-        Some(Body::Struct(fields, _)) => fields.as_slice(),
-        _ => &[],
+        Some(body) => finding::fields_of(body),
+        None => &[],
     }
 }
 
@@ -45,8 +45,8 @@ pub fn values_of(schema: &Schema, number: TypeId) -> &[(String, i128)]
     ensures { map (λ v. (string_bytes v.0, v.1)) result.now ≡ values_in (body_at schema.now number.0) }
 {
     match body_of(schema, number) {
-        Some(Body::Enum(_, _, values)) => values.as_slice(),
-        _ => &[],
+        Some(body) => finding::values_of(body),
+        None => &[],
     }
 }
 
@@ -55,7 +55,7 @@ pub fn members_of(schema: &Schema, number: TypeId) -> &[(String, TypeId)]
     ensures { map (λ m. (string_bytes m.0, m.1.0)) result.now ≡ members_in (body_at schema.now number.0) }
 {
     match body_of(schema, number) {
-        Some(Body::Union(members)) => members.as_slice(),
-        _ => &[],
+        Some(body) => finding::members_of(body),
+        None => &[],
     }
 }

@@ -36,7 +36,6 @@ impl Base {
     }
 
     /// Whether a number is one of the type's; a `bool` is 0 or 1.
-    #[tactic(auto, unfolding(crate::specs::Ranges::holds))]
     pub fn holds(self, number: i128) -> bool
         ensures test { result ≡ holds self number }
         ensures range { IsTrue result ↔ InRange self number }

@@ -69,7 +69,7 @@ impl ByteClass {
     pub(crate) fn has_all(self, bytes: &[u8]) -> bool
         ensures { result ≡ list_all (has self) bytes.now }
     {
-        bytes.iter().all(|b| self.has(*b))
+        self.run(bytes) == bytes.len()
     }
 
     /// How many bytes at the front are of the class.
@@ -77,6 +77,11 @@ impl ByteClass {
         ensures run { result ≡ prefix_len (has self) text.now }
         ensures within { result ≤ length text.now }
     {
-        text.iter().take_while(|b| self.has(**b)).count()
+        for (len, byte) in text.iter().enumerate() {
+            if !self.has(*byte) {
+                return len;
+            }
+        }
+        text.len()
     }
 }

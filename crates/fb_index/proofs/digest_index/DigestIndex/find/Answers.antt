@@ -1,8 +1,9 @@
-use Rattle.std.proofs.Common.{◌<◌, nat_eq, false, arith, sym, ◌∙◌}
+use Rattle.std.proofs.Common.{◌≡◌, ◌<◌, ℕ, nat_eq, position, Some, false, below_more, subst, arith, sym, ◌∙◌}
 use Rattle.std.proofs.lemmas.Option.{slice_get_within}
 use Rattle.std.proofs.lemmas.Map.Entries.{length-keys_of}
 use Rattle.std.proofs.lemmas.Map.Made.{is_some-lookup}
 use Rattle.indexmap.specs.IndexMap.{keys}
+use Rattle.fb_index.specs.DigestIndexes.{key_behind}
 use Rattle.fb_index.proofs.Keyed.{looked_at}
 use Rattle.fb_index.proofs.digest_index.DigestIndex.find.Goals as goal
 
@@ -18,6 +19,18 @@ returns-in_err-place-clause-absent g c =
     (λ p. goal.F-post g c.args.is_at p false) c.loop-far.far c.loop-far.invariant
     (rw c.key_behind.ensures at (sym c.in_err-place.ensures.index))
     (rw c.key_behind.ensures at free))
+
+pub loop-far-preserved : goal.loop-far-preserved
+loop-far-preserved g c =
+    let place_of = λ (n : ℕ). position (nat_eq (key_behind c.digest-digest.result n)) (keys c.self.inside.keys) in
+    let failed = rw c.if-is_at.false at c.is_at.ensures in
+    let here : Some c.in_ok-place.place ≡ place_of c.loop-far.far =
+    rw c.key_behind.ensures at c.in_ok-place.ensures.index in
+    λ n place below at.
+    below_more (λ k. (p : ℕ) → place_of k ≡ Some p → goal.F-post g c.args.is_at p false) c.loop-far.far
+    (λ k low p is. c.loop-far.invariant k p low is)
+    (λ p is. let same : c.in_ok-place.place ≡ p = cc in subst (λ q. goal.F-post g c.args.is_at q false) same failed)
+    n below place at
 
 pub returns-clause-absent : goal.returns-clause-absent
 returns-clause-absent g c = λ place at.

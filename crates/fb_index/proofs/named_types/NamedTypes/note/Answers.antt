@@ -2,8 +2,14 @@ use Rattle.std.proofs.Common.{◌∙◌, ◌≡◌, ◌≢◌, ◌==◌, ◌&&�
 use Rattle.std.proofs.lemmas.Bool.Decides.{Decides-and, Decides-eqb}
 use Rattle.fb_index.specs.Maps.{value_in}
 use Rattle.fb_index.specs.NamedTypes.{noted_at}
-use Rattle.fb_index.proofs.NamedTypesKept.{top-read, other-top, newly-noted, noted-before}
+use Rattle.fb_index.proofs.NamedTypesKept.{map_read, top-read, other-top, newly-noted, noted-before}
 use Rattle.fb_index.proofs.named_types.NamedTypes.note.Goals as goal
+
+pub get-requires : goal.get-requires
+get-requires c = map_read c.args.self.now c.requires.maps c.args.path c.index-top.result.now c.requires.path c.index-top.ensures
+
+pub insert-requires-clause-map : goal.insert-requires-clause-map
+insert-requires-clause-map c = map_read c.args.self.now c.requires.maps c.args.path c.index-top.result.now c.requires.path c.index-top.ensures
 
 pub returns-in_ok-self-clause-noted : goal.returns-in_ok-self-clause-noted
 unfolding noted_at

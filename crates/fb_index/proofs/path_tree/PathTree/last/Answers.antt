@@ -1,7 +1,16 @@
 use Rattle.std.proofs.Common.{◌≡◌, ◌+◌, arith}
+use Rattle.std.proofs.lemmas.List.{length-map}
 use Rattle.indexmap.specs.IndexMap.{keys}
+use Rattle.fb_index.specs.PathTree.{named_by}
 use Rattle.fb_index.proofs.PathsGrown.{link_read}
 use Rattle.fb_index.proofs.path_tree.PathTree.last.Goals as goal
+
+pub bounds-branch-branch : goal.bounds-branch-branch
+bounds-branch-branch c =
+    let behind : c.args.path ≡ c.in_ok-checked_sub.field-0 + 1 =
+    omega (arith, c.in_ok-checked_sub.ensures.0, c.in_ok-checked_sub.ensures.1) in
+    rw (c.as_slice.ensures, c.keys.ensures.rest)
+    (omega (arith, behind, c.requires.inside, c.requires.tree.count, length-map (keys c.args.self.now.links) named_by))
 
 pub returns-clause-before : goal.returns-clause-before
 returns-clause-before c =

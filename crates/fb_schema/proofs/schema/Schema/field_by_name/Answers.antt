@@ -3,7 +3,7 @@ use Rattle.fb_schema.specs.Schema.{DeclaredBody}
 use Rattle.fb_schema.specs.Found.{field_named}
 use Rattle.fb_schema.specs.Indexed.{inner_names, IndexesNames}
 use Rattle.fb_schema.proofs.Got.{got_of}
-use Rattle.fb_schema.proofs.LookUps.{index_there, index_held, no_repeats_there, body_there}
+use Rattle.fb_schema.proofs.LookUps.{index_there, index_held, no_repeats_there, body_there, no_body}
 use Rattle.fb_schema.proofs.schema.Schema.field_by_name.Goals as goal
 
 pub field_in-requires-clause-indexed : goal.field_in-requires-clause-indexed
@@ -25,6 +25,14 @@ field_in-requires-clause-distinct c =
     let there = got_of c.deref.result.now s.types.items c.args.owner.0
     (Some info) c.deref.ensures.value c.in_ok-info.ensures.lookup.0 c.in_ok-info.ensures.lookup.1 in
     no_repeats_there s.types.items c.args.owner.0 info.now there s.root s.identifier c.self.invariant.declared
+
+pub returns-in_err-info : goal.returns-in_err-info
+returns-in_err-info c =
+    let s = c.self.inside in
+    let none = got_of c.deref.result.now s.types.items c.args.owner.0 None c.deref.ensures.value
+    c.in_err-info.ensures.lookup.0 c.in_err-info.ensures.lookup.1 in
+    rw (c.from_residual.ensures, ← c.self.view_is)
+    (ap (λ (b : DeclaredBody). field_named b c.args.name.now) (sym (no_body s.types.items c.args.owner.0 none)))
 
 pub returns-in_err-names : goal.returns-in_err-names
 returns-in_err-names c =

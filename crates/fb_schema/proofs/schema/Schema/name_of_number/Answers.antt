@@ -5,7 +5,7 @@ use Rattle.fb_schema.specs.Schema.{DeclaredBody}
 use Rattle.fb_schema.specs.Found.{name_numbered}
 use Rattle.fb_schema.specs.Indexed.{inner_numbers, IndexesNumbers}
 use Rattle.fb_schema.proofs.Got.{got_of}
-use Rattle.fb_schema.proofs.LookUps.{index_there, index_held, no_repeats_there, body_there}
+use Rattle.fb_schema.proofs.LookUps.{index_there, index_held, no_repeats_there, body_there, no_body}
 use Rattle.fb_schema.proofs.schema.Schema.name_of_number.Goals as goal
 
 pub name_in-requires-clause-indexed : goal.name_in-requires-clause-indexed
@@ -28,6 +28,14 @@ name_in-requires-clause-distinct c =
     let there = got_of c.deref.result.now s.types.items c.args.enumeration.0
     (Some info) c.deref.ensures.value c.in_ok-info.ensures.lookup.0 c.in_ok-info.ensures.lookup.1 in
     no_repeats_there s.types.items c.args.enumeration.0 info.now there s.root s.identifier c.self.invariant.declared
+
+pub returns-in_err-info : goal.returns-in_err-info
+returns-in_err-info c =
+    let s = c.self.inside in
+    let none = got_of c.deref.result.now s.types.items c.args.enumeration.0 None c.deref.ensures.value
+    c.in_err-info.ensures.lookup.0 c.in_err-info.ensures.lookup.1 in
+    rw (c.from_residual.ensures, ← c.self.view_is)
+    (ap (λ (b : DeclaredBody). name_numbered b c.args.number) (sym (no_body s.types.items c.args.enumeration.0 none)))
 
 pub returns-in_err-numbers : goal.returns-in_err-numbers
 returns-in_err-numbers c =
