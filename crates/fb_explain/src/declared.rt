@@ -92,9 +92,12 @@ fn has_default_at(field: &Field<'_>, offset: u64) -> bool
 fn field_with_default<'d, 't>(declared: &'d TypeDecl<'t>, offset: u64) -> Option<&'d Field<'t>>
     ensures { option_copied result ≡ find (has_default_at offset) (fields_of declared.now) }
 {
-    fields_of(declared)
-        .iter()
-        .find(|field| has_default_at(field, offset))
+    for field in fields_of(declared) {
+        if has_default_at(field, offset) {
+            return Some(field);
+        }
+    }
+    None
 }
 
 /// The field whose default is at an offset.
@@ -128,17 +131,24 @@ fn is_struct_with(declaration: &Declaration<'_>, offset: u64) -> bool
 pub(crate) fn is_in_a_struct(decls: &Decls<'_>, offset: u64) -> bool
     ensures { result ≡ list_any (is_struct_with offset) decls.now.declarations }
 {
-    decls
-        .declarations()
-        .iter()
-        .any(|declaration| is_struct_with(declaration, offset))
+    for declaration in decls.declarations() {
+        if is_struct_with(declaration, offset) {
+            return true;
+        }
+    }
+    false
 }
 
 /// Whether one of some members has its type at an offset.
 fn has_member_at(members: &[UnionMember<'_>], offset: u64) -> bool
     ensures { result ≡ list_any (is_member_at offset) members.now }
 {
-    members.iter().any(|member| member.table.at() == offset)
+    for member in members {
+        if member.table.at() == offset {
+            return true;
+        }
+    }
+    false
 }
 
 /// Whether a declaration is a union, one of whose members has its type at an offset.
@@ -157,10 +167,12 @@ fn is_union_with(declaration: &Declaration<'_>, offset: u64) -> bool
 pub(crate) fn is_in_a_union(decls: &Decls<'_>, offset: u64) -> bool
     ensures { result ≡ list_any (is_union_with offset) decls.now.declarations }
 {
-    decls
-        .declarations()
-        .iter()
-        .any(|declaration| is_union_with(declaration, offset))
+    for declaration in decls.declarations() {
+        if is_union_with(declaration, offset) {
+            return true;
+        }
+    }
+    false
 }
 
 /// Whether an enum has its underlying type at an offset.

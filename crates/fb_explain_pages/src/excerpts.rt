@@ -1,7 +1,7 @@
 //! A line of a text, with a caret under a place.
 use crate::pages::{Page, shown_width};
 use crate::positions::line_start;
-use bstr::{decode_last_utf8, decode_utf8};
+use bstr::{ByteSlice, decode_last_utf8, decode_utf8};
 
 // Before the line, and for the dots where a part of it is left out.
 const INDENT: usize = 2;
@@ -58,10 +58,8 @@ fn beginning_of(rest: &[u8], most: usize) -> Part<'_> {
 
 /// What is left of a line from its front on, without what ends it.
 fn rest_of_line(text: &[u8]) -> &[u8] {
-    let line = match text.iter().position(|byte| *byte == b'\n') {
-        Some(end) => text.get(..end).unwrap_or(text),
-        None => text,
-    };
+    let end = text.find_byte(b'\n').unwrap_or(text.len());
+    let line = text.get(..end).unwrap_or(text);
     line.strip_suffix(b"\r").unwrap_or(line)
 }
 

@@ -71,13 +71,10 @@ fn cut_len(line: &str, columns: usize) -> usize {
     if fitting == line.len() {
         return fitting;
     }
-    if line
-        .get(fitting..)
-        .is_some_and(|rest| rest.starts_with(' '))
-    {
+    if line.as_bytes().get(fitting) == Some(&b' ') {
         return fitting.saturating_add(1);
     }
-    match line.get(..fitting).and_then(|front| front.rfind(' ')) {
+    match line.get(..fitting).unwrap_or("").rfind(' ') {
         Some(space) if space >= columns / 2 => space.saturating_add(1),
         _ => fitting,
     }

@@ -60,13 +60,21 @@ fn before(text: &[u8], offset: usize) -> &[u8]
 fn feed_count(text: &[u8]) -> usize
     ensures { result ≡ count_by is_feed text.now }
 {
-    text.iter().filter(|byte| is_feed(**byte)).count()
+    let mut count = 0;
+    for byte in text {
+        count += usize::from(is_feed(*byte));
+    }
+    count
 }
 
 fn character_count(text: &[u8]) -> usize
     ensures { result ≡ count_by begins_character text.now }
 {
-    text.iter().filter(|byte| begins_character(**byte)).count()
+    let mut count = 0;
+    for byte in text {
+        count += usize::from(begins_character(*byte));
+    }
+    count
 }
 
 /// Where the last line begins.

@@ -9,15 +9,19 @@ use std::alloc::{AllocError, Global};
 
 const COLUMNS: usize = 120;
 
+fn are_printable(bytes: &[u8]) -> bool {
+    for byte in bytes {
+        if !byte.is_ascii_graphic() && *byte != b' ' {
+            return false;
+        }
+    }
+    true
+}
+
 /// Adds the bytes of an identifier where they are printable.
 fn push_identifier(page: &mut Page, bytes: &[u8], at: usize) {
     match bytes.get(at..at.saturating_add(4)) {
-        Some(identifier)
-            if identifier
-                .iter()
-                .all(|byte| byte.is_ascii_graphic() || *byte == b' ') => {
-            page.push_name(identifier)
-        }
+        Some(identifier) if are_printable(identifier) => page.push_name(identifier),
         _ => page.push_str("none"),
     }
     page.end_line();

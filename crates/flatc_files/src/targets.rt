@@ -19,6 +19,16 @@ pub enum Misuse {
     Said(String),
 }
 
+impl Misuse {
+    /// That of a sentence, if there was memory for it.
+    fn saying(said: Result<String, AllocError>) -> Misuse {
+        match said {
+            Ok(said) => Misuse::Said(said),
+            Err(AllocError) => Misuse::Memory,
+        }
+    }
+}
+
 impl From<AllocError> for Misuse {
     fn from(_error: AllocError) -> Misuse {
         Misuse::Memory
@@ -82,7 +92,7 @@ fn check_named(alloc: Global, files: &[String]) -> Result<(), Misuse> {
     for file in files {
         if is_standard_input(file.as_str()) {
             let said = "standard input has no name for a file in DIR";
-            return Err(Misuse::Said(String::from_str(alloc, said)?));
+            return Err(Misuse::saying(String::from_str(alloc, said)));
         }
     }
     Ok(())
@@ -92,8 +102,8 @@ fn check_distinct(alloc: Global, paths: &[PathBuf]) -> Result<(), Misuse> {
     let mut met = BTreeSet::new(alloc);
     for path in paths {
         if !met.insert(path.as_str())? {
-            let said = format!(in alloc; "two files would be written to '{}'", path.as_str())?;
-            return Err(Misuse::Said(said));
+            let said = format!(in alloc; "two files would be written to '{}'", path.as_str());
+            return Err(Misuse::saying(said));
         }
     }
     Ok(())
@@ -113,19 +123,30 @@ fn inputs_of(rt: &HostRuntime, batch: &Batch) -> Result<BTreeSet<Identity>, Allo
     Ok(inputs)
 }
 
+/// Whether there is a file where one of the targets goes.
+fn is_any_there(targets: &[Target]) -> bool {
+    for target in targets {
+        if target.file.is_some() {
+            return true;
+        }
+    }
+    false
+}
+
 /// That no target that is there is one of the inputs.
 fn check_apart(rt: &HostRuntime, batch: &Batch, targets: &[Target]) -> Result<(), Misuse> {
-    if targets.iter().all(|target| target.file.is_none()) {
+    if !is_any_there(targets) {
         return Ok(());
     }
     let inputs = inputs_of(rt, batch)?;
     for target in targets {
-        if let Some(file) = target.file {
-            if inputs.contains(&file) {
+        match target.file {
+            Some(file) if inputs.contains(&file) => {
                 let path = target.path.as_str();
-                let said = format!(in rt.alloc(); "the output '{path}' is one of the inputs")?;
-                return Err(Misuse::Said(said));
+                let said = format!(in rt.alloc(); "the output '{path}' is one of the inputs");
+                return Err(Misuse::saying(said));
             }
+            _ => {}
         }
     }
     Ok(())

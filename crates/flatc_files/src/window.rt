@@ -79,16 +79,13 @@ impl Window {
     /// The length of the first line, with its line feed; none where that isn't read yet.
     pub fn line_len(&mut self) -> Option<usize> {
         let from = self.searched.max(self.start);
-        let feed = self.bytes[from..self.end]
-            .iter()
-            .position(|byte| *byte == b'\n');
-        match feed {
-            Some(at) => Some(from - self.start + at + 1),
-            None => {
-                self.searched = self.end;
-                None
+        for at in from..self.end {
+            if self.bytes[at] == b'\n' {
+                return Some(at - self.start + 1);
             }
         }
+        self.searched = self.end;
+        None
     }
 
     /// Moves what isn't taken to the front.

@@ -1,8 +1,8 @@
 -- The tests of pages with the branch that is taken computed alone. As they are written, both are computed at each byte.
 use Rattle.std.proofs.Common.{ℕ, ◌≡◌, ◌+◌, ◌-◌, ◌*◌, ◌==◌, ◌&&◌, Bool, true, false, cond, nat_lt, List, [], ◌∷◌, Bor}
-use Rattle.std.proofs.Common.{refl, ap, ◌∙◌}
+use Rattle.std.proofs.Common.{refl, ap}
 use Rattle.fb_explain_pages.specs.Printed.{is_printable, is_printed}
-use Rattle.fb_explain_pages.specs.Titles.{is_digit, with_digits, first_number, are_pages}
+use Rattle.fb_explain_pages.specs.Titles.{is_digit, with_digits, are_pages}
 
 abbrev printed_by_branch : ℕ → List ℕ → Bool
 printed_by_branch left [] = true
