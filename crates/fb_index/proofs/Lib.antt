@@ -1,4 +1,3 @@
-mod Positions
 mod FreeKeys
 mod Keyed
 pub mod WordsOf

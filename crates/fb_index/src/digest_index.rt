@@ -2,24 +2,25 @@
 ghost use Rattle.std.specs.Prelude.{◌≡◌, ◌≤◌, ◌<◌, ◌+◌, ◌^◌, ◌++◌, ℕ, [], ◌∷◌, length, nat_eq};
 ghost use Rattle.std.specs.Prelude.{slice_get, true, false, Some, IfNone, IfSome, OnOk};
 ghost use Rattle.std.specs.List.{list_any};
-ghost use Rattle.indexmap.specs.IndexMap.{keys};
+ghost use Rattle.std.specs.HashMap.{keys};
 ghost use Rattle.fb_index.specs.DigestIndexes.{key_behind};
 
 use crate::byte_strings::ByteStrings;
 use crate::hash_key::HashKey;
-use indexmap::IndexMap;
 use std::alloc::{AllocError, Global};
+use std::collections::HashMap;
 use std::marker::Model;
 
-// An `IndexSet` has half as many modules again, and each crate with a public schema reads them when it is proved.
-type Keys = IndexMap<u32, (), HashKey>;
+// The standard library's map, since each crate with a public schema reads all modules of this type when it is built:
+// those of an `IndexMap` were up to half of a crate's time.
+type Keys = HashMap<u32, u32, HashKey>;
 
 /// An index of byte strings by digests under a key.
 ///
 /// Places are counted from 0 in the order in which the byte strings came. It keeps no bytes: whoever looks one up
 /// compares it at the places at which it can be. Equal digests cost a comparison more each, and change no result.
 pub struct DigestIndex {
-    // of the byte string at each place its digest, or the first number behind it that was free
+    // of each byte string its place, by its digest or the first number behind it that was free
     keys: Keys,
     seen: ByteStrings,
 }
@@ -77,7 +78,7 @@ impl DigestIndex {
         ensures { result.strings ≡ [] }
     {
         DigestIndex {
-            keys: IndexMap::with_hasher(alloc, key),
+            keys: HashMap::with_hasher(alloc, key),
             seen: ByteStrings::new(),
         }
     }
@@ -87,7 +88,7 @@ impl DigestIndex {
         ensures strings { self.new.strings ≡ self.old.strings }
         ensures spare { OnOk result (more ≤ self.new.spare) }
     {
-        // An `IndexMap` has no room for so many either.
+        // A `HashMap` has no room for so many either.
         if more > (u32::MAX as usize).saturating_sub(self.keys.len()) {
             return Err(AllocError);
         }
@@ -104,7 +105,7 @@ impl DigestIndex {
     {
         let digest = self.keys.hasher().digest(bytes);
         for far in 0..self.keys.len() {
-            let place = self.keys.get_index_of(&key_behind(digest, far))?;
+            let place = *self.keys.get(&key_behind(digest, far))? as usize;
             if is_at(place) {
                 return Some(place);
             }
@@ -119,7 +120,8 @@ impl DigestIndex {
         ensures spare { self.old.spare ≤ self.new.spare + 1 }
     {
         let key = free_key(&self.keys, self.keys.hasher().digest(bytes));
-        match self.keys.insert(key, ()) {
+        let place = self.keys.len() as u32;
+        match self.keys.insert(key, place) {
             Ok(_) => self.seen.push(bytes),
             Err(_) => unreachable!(),
         }

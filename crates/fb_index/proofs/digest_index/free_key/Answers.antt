@@ -1,6 +1,6 @@
 use Rattle.std.proofs.Common.{arith}
 use Rattle.std.proofs.lemmas.Map.Entries.{length-keys_of}
-use Rattle.indexmap.specs.IndexMap.{keys}
+use Rattle.std.specs.HashMap.{keys}
 use Rattle.fb_index.proofs.FreeKeys.{one_is_free}
 use Rattle.fb_index.proofs.digest_index.free_key.Goals as goal
 

@@ -1,6 +1,6 @@
 use Rattle.std.proofs.Common.{◌≡◌, ℕ, ◌<◌, nat_eq, true}
 use Rattle.std.specs.List.{list_any}
-use Rattle.indexmap.specs.IndexMap.{keys}
+use Rattle.std.specs.HashMap.{keys}
 use Rattle.fb_index.specs.DigestIndexes.{key_behind}
 use Rattle.fb_index.proofs.digest_index.free_key.Given as goal
 
