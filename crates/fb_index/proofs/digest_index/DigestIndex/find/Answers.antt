@@ -1,7 +1,7 @@
-use Rattle.std.proofs.Common.{◌<◌, arith, sym}
+use Rattle.std.proofs.Common.{◌≡◌, ◌<◌, ℕ, nat_eq, Some, false, below_more, subst, arith, sym, ◌∙◌}
 use Rattle.std.proofs.lemmas.Option.{slice_get_within}
 use Rattle.std.specs.HashMap.{get}
-use Rattle.std.proofs.Common.{nat_eq, false}
+use Rattle.fb_index.specs.DigestIndexes.{key_behind}
 use Rattle.fb_index.proofs.Keyed.{looked_at}
 use Rattle.fb_index.proofs.digest_index.DigestIndex.find.Goals as goal
 
@@ -15,6 +15,20 @@ returns-in_err-place-clause-absent g c =
     looked_at (get nat_eq x.keys) c.digest-digest.result place keyed
     (λ p. goal.F-post g c.args.is_at p false) c.loop-far.far c.loop-far.invariant
     (rw c.key_behind.ensures at (sym c.in_err-place.ensures.value)))
+
+pub loop-far-preserved : goal.loop-far-preserved
+loop-far-preserved g c =
+    let place_of = λ (n : ℕ). get nat_eq c.self.inside.keys (key_behind c.digest-digest.result n) in
+    let failed = rw c.if-is_at.false at c.is_at.ensures in
+    let here : Some c.in_ok-place.field-0.now ≡ place_of c.loop-far.far =
+    rw c.key_behind.ensures at c.in_ok-place.ensures.value in
+    λ n place below at.
+    below_more (λ k. (p : ℕ) → place_of k ≡ Some p → goal.F-post g c.args.is_at p false) c.loop-far.far
+    (λ k low p is. c.loop-far.invariant k p low is)
+    (λ p is.
+    let same : c.in_ok-place.field-0.now ≡ p = cc in
+    subst (λ q. goal.F-post g c.args.is_at q false) same failed)
+    n below place at
 
 pub returns-clause-absent : goal.returns-clause-absent
 returns-clause-absent g c = λ place at.
