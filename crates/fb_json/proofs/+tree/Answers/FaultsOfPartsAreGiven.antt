@@ -1,7 +1,6 @@
 -- The fault of a part is the whole's, and what a part gives is what is computed.
-use Rattle.std.proofs.Common.{◌≡◌, ◌∙◌, ap, ℕ, zero, suc, ◌-◌, ◌<◌, ◌||◌, ℤ, List, Bool, Option, Some, Result, Ok, Err, map, refl, arith}
+use Rattle.std.proofs.Common.{◌≡◌, ◌∙◌, ap, ℕ, zero, suc, ◌<◌, ◌||◌, List, Bool, Option, Some, Ok, Err, map, refl, arith}
 use Rattle.std.proofs.Common.{Bor}
-use Rattle.std.proofs.lemmas.Int.{to_z-of_z}
 use Rattle.std.proofs.lemmas.Result.{err_from_is_err_and}
 use Rattle.serde_json.specs.Data.{Members, object}
 use Rattle.serde_json.specs.View.{view as tree_view, members_view}
@@ -14,14 +13,12 @@ use Rattle.fb_schema.specs.declared.kinds.Shape.{Shape}
 use Rattle.fb_schema.specs.declared.kinds.Shape.TheVariants.{One}
 use Rattle.fb_schema.specs.declared.kinds.TypeId.{TypeId}
 use Rattle.fb_layout.specs.Laid.{LaidSchema}
-use Rattle.fb_value.specs.Datum.{Datum, a_number, a_struct}
+use Rattle.fb_value.specs.Datum.{Datum, a_struct}
 use Rattle.fb_value.specs.View.{parts_in, view}
-use Rattle.fb_value.specs.declared.values.Value.TheVariants.{Number}
-use Rattle.fb_value.proofs.types.EachVariantHasItsView.{view-Number}
 use Rattle.fb_json.specs.declared.faults.Place.{Place}
 use Rattle.fb_json.specs.declared.faults.JsonFault.{JsonFault}
 use Rattle.fb_json.specs.FaultPaths.{front_of, rest_of, object_front, field_spot, tree_spot}
-use Rattle.fb_json.specs.Meant.{Look, if_known, look, meant, names_known, part_meant, parts_meant, struct_meant}
+use Rattle.fb_json.specs.Meant.{Look, if_known, look, meant, names_known, parts_meant, struct_meant}
 use Rattle.fb_json.specs.Meant.{table_meant, type_place}
 use Rattle.fb_json.specs.SlotMembers.{looked_up}
 use Rattle.fb_json.proofs.slots.OneSlotOrFieldMore.{fails_by}
@@ -33,10 +30,6 @@ use Rattle.fb_json.proofs.+tree.Goals as goal
 
 module _ (L : LaidSchema) (unknown : Bool) (found : Option (Bor Json)) (tree : Bor Json) (shape : Shape) (kind : Kind)
     (at : Place) (levels left : ℕ) (is : found ≡ Some tree) (one : shape ≡ One kind) where
-  number_given : (n : ℤ) → meant L unknown (tree_view tree.now) (One kind) at levels left ≡ Ok (a_number n, left)
-      → part_meant (looked_up L unknown found) shape at levels left ≡ Ok (view (Number n), left)
-  number_given n h = rw (is, one, view-Number n) h
-
   number_refused : (f : JsonFault) → front_of L unknown (tree_spot (tree_view tree.now) (One kind) at levels left)
       ≡ rest_of (meant L unknown (tree_view tree.now) (One kind) at levels left)
       → meant L unknown (tree_view tree.now) (One kind) at levels left ≡ Err f

@@ -1,4 +1,4 @@
-use Rattle.std.proofs.Common.{◌≡◌, ℕ, suc, true, ◌+◌, ◌-◌, ◌<◌, ◌≤◌, Some, refl, sym, ap, ◌∙◌, add-one, arith}
+use Rattle.std.proofs.Common.{◌≡◌, ℕ, suc, true, ◌+◌, ◌-◌, ◌<◌, ◌≤◌, Some, refl, sym, ◌∙◌, add-one, arith}
 use Rattle.std.proofs.Common.{◌++◌, List, slice_index}
 use Rattle.fb_layout.specs.Laid.{struct_at}
 use Rattle.fb_value.specs.Datum.{a_struct}
