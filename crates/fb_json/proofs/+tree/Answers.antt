@@ -1,3 +1,4 @@
+mod FaultsOfPartsAreGiven
 mod PartsGiveTheWhole
 mod StructIsRead
 use Rattle.std.proofs.Common.{◌≡◌, ◌∙◌, ◌++◌, ◌∷◌, ◌≤◌, [], refl, sym, ap, length, map}
@@ -29,6 +30,9 @@ use Rattle.fb_json.proofs.tree.PathGoesThroughParts.{to_slot, to_entry, slot_nex
 use Rattle.fb_json.proofs.tree.PathGoesThroughParts.{element_next, in_vector, too_deep, too_many, unknown_in_table}
 use Rattle.fb_json.proofs.tree.PathGoesThroughParts.{full_vector, in_table}
 use Rattle.fb_json.proofs.tree.TrailLeadsToTheFault.{here, goes, fails_behind, fault_given}
+use Rattle.fb_json.proofs.+tree.Answers.FaultsOfPartsAreGiven.{trail_to_refused_number, unknown_member_given}
+use Rattle.fb_json.proofs.+tree.Answers.FaultsOfPartsAreGiven.{trail_of_unknown_member, refused_parts_given}
+use Rattle.fb_json.proofs.+tree.Answers.FaultsOfPartsAreGiven.{struct_of_parts_given, unknown_member_of_table_given}
 use Rattle.fb_json.proofs.+tree.Answers.PartsGiveTheWhole.{object_nests_less, object_given, trail_of_object}
 use Rattle.fb_json.proofs.+tree.Answers.PartsGiveTheWhole.{array_nests_less, trail_of_array, refused_element_given}
 use Rattle.fb_json.proofs.+tree.Answers.PartsGiveTheWhole.{all_elements_given, refused_vector_given, vector_given}
@@ -297,6 +301,9 @@ tables::entries-returns-clause-gives t c ms are =
     (c.loop-k.invariant.read ms are).0 ∙ slots_end L seen c.args.owner.0 c.args.slots.now c.loop-k.k
     (map (option_map view) c.loop-k.found.items) c.loop-k.code c.args.room.levels c.loop-k.left past
 
+pub tables::table-returns-in_err-members_by_slot-clause-gives : goal.tables::table-returns-in_err-members_by_slot-clause-gives
+tables::table-returns-in_err-members_by_slot-clause-gives = unknown_member_of_table_given
+
 -- ---- entries
 
 pub entries::member-returns-in_err-value-clause-gives : goal.entries::member-returns-in_err-value-clause-gives
@@ -312,14 +319,29 @@ entries::member-returns-in_err-value-clause-gives t c =
 
 -- ---- structs
 
+pub structs::part-returns-in_err-number-clause-trail : goal.structs::part-returns-in_err-number-clause-trail
+structs::part-returns-in_err-number-clause-trail = trail_to_refused_number
+
 pub structs::struct_of-members_by_slot-requires : goal.structs::struct_of-members_by_slot-requires
 structs::struct_of-members_by_slot-requires = fields_are_those
+
+pub structs::struct_of-returns-in_err-members_by_slot-clause-gives : goal.structs::struct_of-returns-in_err-members_by_slot-clause-gives
+structs::struct_of-returns-in_err-members_by_slot-clause-gives = unknown_member_given
+
+pub structs::struct_of-returns-in_err-members_by_slot-clause-trail : goal.structs::struct_of-returns-in_err-members_by_slot-clause-trail
+structs::struct_of-returns-in_err-members_by_slot-clause-trail = trail_of_unknown_member
 
 pub structs::struct_of-parts-requires : goal.structs::struct_of-parts-requires
 structs::struct_of-parts-requires = members_nest_less
 
+pub structs::struct_of-returns-in_err-left-clause-gives : goal.structs::struct_of-returns-in_err-left-clause-gives
+structs::struct_of-returns-in_err-left-clause-gives = refused_parts_given
+
 pub structs::struct_of-returns-in_err-left-clause-trail : goal.structs::struct_of-returns-in_err-left-clause-trail
 structs::struct_of-returns-in_err-left-clause-trail = trail_through_struct
+
+pub structs::struct_of-returns-clause-gives : goal.structs::struct_of-returns-clause-gives
+structs::struct_of-returns-clause-gives = struct_of_parts_given
 
 pub structs::struct_of-returns-clause-trail : goal.structs::struct_of-returns-clause-trail
 structs::struct_of-returns-clause-trail = trail_of_struct

@@ -1,9 +1,10 @@
-use Rattle.std.proofs.Common.{ℕ, List, ◌≡◌, ◌-◌, [], ◌∷◌, ap, length, take, drop, arith}
+use Rattle.std.proofs.Common.{ℕ, List, ◌≡◌, ◌≤◌, ◌-◌, [], ◌∷◌, ap, length, slice_index, take, drop, arith}
 use Rattle.std.proofs.Common.{length-append}
 use Rattle.std.proofs.lemmas.List.{length-take-le}
 use Rattle.fb_layout.specs.Laid.{slots_of}
 use Rattle.fb_build.specs.Fields.{stored_in}
 use Rattle.fb_build.specs.NotesLaid.{AreToBeLaid, notes_references}
+use Rattle.fb_build.specs.Tails.{TailSeen, Grows}
 use Rattle.fb_build.proofs.tail.WhatIsLaidStaysLaid.{then_grows}
 use Rattle.fb_build.proofs.taped.NotedFieldsAreLaidInTurn.{all_left}
 use Rattle.fb_build.proofs.taped.PartsOfATable.{spread}
@@ -75,6 +76,16 @@ close_table-end-requires-clause-short c =
 pub close_table-end-requires-clause-there : goal.close_table-end-requires-clause-there
 close_table-end-requires-clause-there c i low =
     places_some _ _ _ c.requires.ready.may.waiting.shared i low
+
+places_inside : (places : List ℕ) (a b : TailSeen) → ((i : ℕ) → slice_index places i ≤ length a.bytes) → Grows a b
+    → (i : ℕ) → slice_index places i ≤ length b.bytes
+places_inside places a b inside grows i =
+    omega (arith, inside i, ap length grows.grown, length-append grows.front a.bytes)
+
+pub close_table-end-requires-clause-inside : goal.close_table-end-requires-clause-inside
+close_table-end-requires-clause-inside c =
+    places_inside c.args.laying.now.places.items c.args.laying.now.tail c.lay_fields-start.new.out
+    c.requires.ready.may.waiting.made.within c.lay_fields-start.ensures.grows
 
 pub wait-requires-clause-within : goal.wait-requires-clause-within
 wait-requires-clause-within c =

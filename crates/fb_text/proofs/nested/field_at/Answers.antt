@@ -1,9 +1,34 @@
-use Rattle.std.proofs.Common.{◌+◌, ◌-◌, ◌/◌, ◌<◌, ◌≤◌, length, slice_index}
+use Rattle.std.proofs.Common.{◌≡◌, ◌∙◌, ap, sym, ℕ, ◌+◌, ◌-◌, ◌/◌, ◌<◌, ◌≤◌, List, length, map, slice_index}
 use Rattle.std.proofs.Common.{arith}
+use Rattle.std.proofs.lemmas.List.{length-map}
+use Rattle.std.proofs.lemmas.Option.{slice_get_within}
 use Rattle.fb_schema.specs.Schema.{body_at, parts_in}
 use Rattle.fb_layout.specs.Laid.{struct_at}
 use Rattle.fb_text.proofs.nested.FieldHasItsBytes.{begins_before, begins_behind}
 use Rattle.fb_text.proofs.nested.field_at.Goals as goal
+
+as_long : {A B : Type 0} (view : A → B) (xs : List A) (ys : List B) → map view xs ≡ ys → length ys ≡ length xs
+as_long view xs ys seen = sym (ap length seen) ∙ length-map xs view
+
+none_over : (n m : ℕ) → m ≡ n → n ≤ m
+none_over n m same = omega arith
+
+from_none : (k : ℕ) → 0 ≤ k
+from_none k = omega arith
+
+some : 0 < 65535
+some = omega arith
+
+pub loop-low-init : goal.loop-low-init
+loop-low-init c =
+    let fields = parts_in (body_at c.args.layout.now.schema c.args.structure.0) in
+    let long = as_long _ c.parts_of-high.result.now fields c.parts_of-high.ensures.parts in
+    record {
+      few = none_over _ _ long;
+      small = c.parts_of-high.ensures.few;
+      start = some;
+      found = λ k f at has. (from_none k, rw long at (slice_get_within fields k f at));
+    }
 
 pub loop-low-preserved-then-offset_of-byte : goal.loop-low-preserved-then-offset_of-byte
 loop-low-preserved-then-offset_of-byte c =

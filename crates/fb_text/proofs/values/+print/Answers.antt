@@ -1,4 +1,4 @@
-use Rattle.std.proofs.Common.{◌≡◌, suc, true, false, min, ◌+◌, ◌-◌, ◌^◌, ◌<◌, ◌≤◌, ◌++◌, []}
+use Rattle.std.proofs.Common.{◌≡◌, ℕ, suc, true, false, min, ◌+◌, ◌-◌, ◌^◌, ◌<◌, ◌≤◌, ◌++◌, []}
 use Rattle.std.proofs.Common.{slice_index, slice_index_or, append-nil, Some, length, map, sym, ap}
 use Rattle.std.proofs.Common.{◌∙◌, add-one, arith}
 use Rattle.fb_schema.specs.Schema.{body_at, slots_in}
@@ -19,6 +19,41 @@ use Rattle.fb_text.proofs.values.MemberIsItsCodeAndValue.{seen_there, seen_long,
 use Rattle.fb_text.proofs.values.MemberIsItsCodeAndValue.{found_there, is_some_now}
 use Rattle.fb_text.proofs.values.+print.Goals as goal
 
+-- ---- orders
+
+le_itself : (n : ℕ) → n ≤ n
+le_itself n = omega arith
+
+le_through : (a b c : ℕ) → a ≤ b → b ≤ c → a ≤ c
+le_through a b c low high = omega arith
+
+lt_through : (a b c : ℕ) → a < b → b ≤ c → a < c
+lt_through a b c low high = omega arith
+
+le_long : (k end n m : ℕ) → k ≤ end → end ≤ n → m ≡ n → k ≤ m
+le_long k end n m low few long = omega arith
+
+one_more : (n : ℕ) → n + 1 ≡ suc n
+one_more n = omega arith
+
+from_none : (n : ℕ) → 0 + n ≡ n
+from_none n = omega arith
+
+from_next : (k next : ℕ) → k + 1 ≤ next → suc k + (next - suc k) ≡ next
+from_next k next from = omega arith
+
+behind_one : (k i : ℕ) → suc k ≤ i → k + 1 ≤ i
+behind_one k i past = omega arith
+
+is_small : (n : ℕ) → n ≤ 65535 → min n (2 ^ 32 - 1) ≡ n
+is_small n few = omega arith
+
+few_levels : 0 + (2 ^ 64 - 2) < 2 ^ 64 - 1
+few_levels = omega arith
+
+at_end : (i n m : ℕ) → i ≤ n → n ≤ i → n ≡ m → i ≡ m
+at_end i n m low high same = omega arith
+
 pub put_member-returns-clause-text : goal.put_member-returns-clause-text
 put_member-returns-clause-text g t c o shows =
     let L = c.args.style.layout.now in
@@ -36,7 +71,7 @@ pub put_struct-loop-structure-init : goal.put_struct-loop-structure-init
 put_struct-loop-structure-init g t c =
     let L = c.args.style.layout.now in
     rw c.outermost-here.ensures (record {
-      bounded = record { heavy = c.requires; light = omega arith; few = omega arith };
+      bounded = record { heavy = c.requires; light = le_itself _; few = few_levels };
       goes = λ ds shows. (
         ds,
         [],
@@ -49,7 +84,7 @@ pub put_struct-loop-structure-preserved-then-put_fields : goal.put_struct-loop-s
 put_struct-loop-structure-preserved-then-put_fields g t c = record {
   bounded = record {
     heavy = c.put_fields.ensures.bounded.heavy;
-    light = omega (arith, c.put_fields.ensures.bounded.light, c.loop-structure.invariant.bounded.light);
+    light = le_through _ _ _ c.put_fields.ensures.bounded.light c.loop-structure.invariant.bounded.light;
     few = c.put_fields.ensures.bounded.few;
   };
   goes = λ ds shows.
@@ -89,11 +124,11 @@ put_fields-loop-fields-preserved g t c =
     let k = here.next in
     let x = c.index-fields-k.result in
     let fields = c.parts_of-fields.result.now in
-    let less : k < length fields = omega (arith, c.from.ensures, c.loop-fields-test.true) in
+    let less : k < length fields = rw c.from.ensures at c.loop-fields-test.true in
     let own : x ≡ slice_index_or fields k x = rw c.from-k.ensures at c.index-fields-k.is in
     let there = rw c.parts_of-fields.ensures.parts at (seen_there fields k x less own) in
-    let one : first.depth + 1 ≡ suc first.depth = omega arith in
-    let next : k + 1 ≡ suc k = omega arith in
+    let one = one_more first.depth in
+    let next = one_more k in
     let shown = ap (λ (h : StructCursor g.row.S.Denot). h.shown) c.loop-fields.invariant.same in
     record {
       same = ap (λ (h : StructCursor g.row.S.Denot). record h { next = k + 1; some = c.put_field-here.result })
@@ -129,7 +164,7 @@ put_fields-returns-in-loop-fields-clause-text g t c root ds es behind at =
     let shown = ap (λ (h : StructCursor g.row.S.Denot). h.shown) c.loop-fields.invariant.same in
     let part = rw c.from-k.ensures at (c.child-part.ensures.shows L (Some (a_struct es)) (rw shown at.0)) in
     let (inner, is) = c.in-Some.ensures.part (nth_part es k) (c.find-found.ensures.top L _ part) in
-    let less : k < length fields = omega (arith, c.from.ensures, c.loop-fields-test.true) in
+    let less : k < length fields = rw c.from.ensures at c.loop-fields-test.true in
     let own : x ≡ slice_index_or fields k x = rw c.from-k.ensures at c.index-fields-k.is in
     let there = rw c.parts_of-fields.ensures.parts at (seen_there fields k x less own) in
     let has : HasStruct L u es k s inner =
@@ -137,8 +172,8 @@ put_fields-returns-in-loop-fields-clause-text g t c root ds es behind at =
     let deeper = stands_deeper L defaults indent root ds first.depth first.at u es behind k s inner at.1 has in
     let few = few_bytes L defaults c.schema-schema.ensures.made indent root ds first.depth _ s inner _ deeper in
     let place : min (first.at + slice_index (struct_at L u.0).offsets k) (2 ^ 32 - 1)
-    ≡ first.at + slice_index (struct_at L u.0).offsets k = omega (arith, few) in
-    let one : first.depth + 1 ≡ suc first.depth = omega arith in
+    ≡ first.at + slice_index (struct_at L u.0).offsets k = is_small _ few in
+    let one = one_more first.depth in
     let line = rw (c.deeper-inner.ensures, one, c.as_str.ensures.value) at c.put_member_line.ensures in
     rw (c.enter.ensures, c.loop-fields.invariant.same, place, one) (
       inner,
@@ -178,9 +213,9 @@ put_table-loop-k-init g t c = record {
       let seen : fs ≡ slots_in (body_at L.schema c.args.owner.0) = c.slots_of-slots.ensures.slots in
       let k = c.next_printed-k.result in
       let within : k ≤ length fs =
-      omega (arith, c.next_printed-k.ensures.within, c.printed_slots-end.ensures.few, seen_long slots) in
+      le_long _ _ _ _ c.next_printed-k.ensures.within c.printed_slots-end.ensures.few (seen_long slots) in
       added_as (members_skip L c.args.style.defaults (blanks c.inside-inner.result) (blanks c.args.indent.now) false fs
-      es k 0 k (omega arith) within
+      es k 0 k (from_none k) within
       (λ i f low past there. c.next_printed-k.ensures.unprinted L c.args.owner.0 es i f lies low past
       (rw seen at there))) rest;
 }
@@ -199,14 +234,14 @@ put_table-loop-k-preserved g t c = record {
       let there = nth_entry es k in
       let f = field_seen c.index-slots-k.result in
       let shows = c.child.ensures.shows L (Some (a_table c.args.owner.0 es)) lies in
-      let less : k < length slots = omega (arith, c.loop-k-test.true, c.printed_slots-end.ensures.few) in
-      let far : suc k + (next - suc k) ≡ next = omega (arith, c.next_printed-k-in-loop-k.ensures.from) in
+      let less : k < length slots = lt_through _ _ _ c.loop-k-test.true c.printed_slots-end.ensures.few in
+      let far = from_next k next c.next_printed-k-in-loop-k.ensures.from in
       let within : next ≤ length fs =
-      omega (arith, c.next_printed-k-in-loop-k.ensures.within, c.printed_slots-end.ensures.few, seen_long slots) in
+      le_long _ _ _ _ c.next_printed-k-in-loop-k.ensures.within c.printed_slots-end.ensures.few (seen_long slots) in
       let skip = members_skip L c.args.style.defaults inner (blanks c.args.indent.now) c.put_member-some.result fs es
       (next - suc k) (suc k) next far within
       (λ i g low past found. c.next_printed-k-in-loop-k.ensures.unprinted L c.args.owner.0 es i g lies
-      (omega (arith, low)) past (rw seen at found)) in
+      (behind_one k i low) past (rw seen at found)) in
       let step = members_step L c.args.style.defaults inner (blanks c.args.indent.now) c.loop-k.some fs es k f
       (seen_there slots k c.index-slots-k.result less c.index-slots-k.is) in
       c.loop-k.invariant.text es lies end
@@ -224,7 +259,7 @@ put_table-returns g t c shape es lies =
     let end = members_behind L c.args.style.defaults (blanks c.inside-inner.result) (blanks c.args.indent.now)
     c.loop-k.some fs es c.loop-k.k
     (λ j f past there. c.printed_slots-end.ensures.behind L c.args.owner.0 es j f lies long
-    (omega (arith, past, c.loop-k-test.false)) (rw seen at there)) in
+    (le_through _ _ _ c.loop-k-test.false past) (rw seen at there)) in
     let all = c.loop-k.invariant.text es lies _ (added_as end (then c.put_closing.ensures c.put_str-2.ensures)) in
     added_as (table_text L c.args.style.defaults (blanks c.inside-inner.result) (blanks c.args.indent.now) shape
     c.args.owner.0 es) (then c.put_str.ensures (rw (c.inside-inner.ensures, seen) at all))
@@ -241,7 +276,7 @@ pub put_vector-loop-i-preserved : goal.put_vector-loop-i-preserved
 put_vector-loop-i-preserved g t c ds lies end rest =
     let L = c.args.style.layout.now in
     let i = c.loop-i.i in
-    let less : i < count ds = omega (arith, c.loop-i-test.true, c.count-i-end.ensures.all L ds lies) in
+    let less : i < count ds = rw (c.count-i-end.ensures.all L ds lies) at c.loop-i-test.true in
     let there = part_there ds i less in
     let shows = rw there.1 at (c.child.ensures.shows L (Some (a_vector ds)) lies) in
     let step = items_step L c.args.style.defaults (blanks c.inside-inner.result) (blanks c.args.indent.now) c.args.kind
@@ -253,7 +288,7 @@ pub put_vector-returns : goal.put_vector-returns
 put_vector-returns g t c ds lies =
     let L = c.args.style.layout.now in
     let over : c.loop-i.i ≡ count ds =
-    omega (arith, c.count-i-end.ensures.all L ds lies, c.loop-i-test.false, c.loop-i.auto.i-end) in
+    at_end _ _ _ c.loop-i.auto.i-end c.loop-i-test.false (c.count-i-end.ensures.all L ds lies) in
     let end = items_end L c.args.style.defaults (blanks c.inside-inner.result) (blanks c.args.indent.now) c.args.kind
     c.loop-i.some ds c.loop-i.i over in
     let all = c.loop-i.invariant ds lies _ (added_as end (then c.put_closing.ensures c.put_str-2.ensures)) in

@@ -1,15 +1,17 @@
 use Rattle.std.proofs.Common.{◌≡◌, ◌∙◌, ap, ℕ, List, [], ◌∷◌, Option, length, slice_index, slice_index_or, refl}
-use Rattle.std.proofs.Common.{append-nil, arith}
+use Rattle.std.proofs.Common.{◌+◌, ◌≤◌, append-nil, arith, length-append, sym}
 use Rattle.std.proofs.lemmas.Grind.{get_or_default_zero}
 use Rattle.fb_layout.specs.Laid.{LaidSchema}
 use Rattle.fb_value.specs.Datum.{Datum, a_table}
+use Rattle.fb_value.specs.Holds.{front_of}
 use Rattle.fb_value.specs.Num.{Bytes}
 use Rattle.fb_value.specs.Places.{table_part}
 use Rattle.fb_value.specs.View.{entries_in}
 use Rattle.fb_tape.specs.Tapes.{MeansRoot}
 use Rattle.fb_build.specs.CoveredTails.{parts_in_tail}
+use Rattle.fb_build.specs.Lengths.{header_end}
 use Rattle.fb_build.specs.Roots.{IsRoot}
-use Rattle.fb_build.specs.Tails.{TailSeen}
+use Rattle.fb_build.specs.Tails.{TailSeen, Grows}
 use Rattle.fb_build.specs.Waiting.{AreWaiting}
 use Rattle.fb_build.proofs.taped.StepsOfALaying.{ends_inside}
 use Rattle.fb_build.proofs.taped.VtablesComeInTurn.{come_different}
@@ -79,3 +81,23 @@ returns-clause-aligned c =
     let both = c.close_tail.ensures.covered _ _ _ w.shared
     (come_different c.self.inside.tape.vtables (length c.lay_tape.new.laying.places.items) inv.different) root in
     rw (← c.self.view_is) (rw c.into_bytes.ensures both.1)
+
+-- ---- the room that was made for all
+
+end_fits : (a b : TailSeen) (end : ℕ) → a.free ≡ end → Grows a b → end ≤ length b.bytes + b.free
+end_fits a b end is grows =
+    omega (arith, is, ap length grows.grown, length-append grows.front a.bytes, grows.spent)
+
+header_fits : (front : ℕ) (identifier : Option (List ℕ)) (a b : TailSeen) (most end : ℕ) → b.most ≡ most
+    → length b.bytes ≡ end → a.free ≡ header_end front identifier most end → Grows a b
+    → header_end front identifier b.most (length b.bytes) ≤ length b.bytes + b.free
+header_fits front identifier a b most end wide long exact grows =
+    let same : header_end front identifier b.most (length b.bytes) ≡ a.free = rw (wide, long) (sym exact) in
+    end_fits a b (header_end front identifier b.most (length b.bytes)) (sym same) grows
+
+pub close_tail-requires-clause-room : goal.close_tail-requires-clause-room
+close_tail-requires-clause-room c =
+    let inv = c.self.invariant in
+    header_fits (front_of c.self.inside.prefixed) c.self.inside.layout.now.schema.identifier
+    c.self.inside.laying.tail c.lay_tape.new.laying.tail _ _ c.lay_tape.ensures.most c.lay_tape.ensures.long
+    inv.exact c.lay_tape.ensures.grows
