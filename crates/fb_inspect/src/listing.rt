@@ -164,7 +164,7 @@ impl<'a> Listing<'a> {
             note_fault(&mut notes, fault);
         }
         let Notes {
-            nodes,
+            reached,
             pieces,
             way_back,
             is_walked,
@@ -174,6 +174,7 @@ impl<'a> Listing<'a> {
         if is_cut {
             return Err(AllocError);
         }
+        let nodes = reached.into_nodes();
         let pieces = in_order(alloc, pieces, bytes)?;
         Ok(Listing {
             alloc,

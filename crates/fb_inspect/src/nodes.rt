@@ -57,68 +57,16 @@ pub(crate) struct Node {
     pub visit: Option<usize>,
 }
 
-/// The parts that were reached so far, by number.
+/// The parts that were reached, by number.
+#[derive(Drop)]
 pub(crate) struct Nodes {
-    keys: IndexMap<(u32, (u8, u64)), (), HashKey>,
     nodes: Vec<Node>,
-}
-
-// Written out, so that a proof has one step where a value falls out of scope, and not one for each of its parts.
-impl Drop for Nodes {
-    fn drop(self) {
-        let Self { keys: _, nodes: _ } = self;
-    }
 }
 
 // Each step but a reference's takes two characters of a path at least.
 const MOST_STEPS: usize = 64;
 
 impl Nodes {
-    /// None yet; the key is that of a hash of positions.
-    pub(crate) fn new(alloc: Global, key: HashKey) -> Nodes {
-        Nodes {
-            keys: IndexMap::with_hasher(alloc, key),
-            nodes: Vec::new(alloc),
-        }
-    }
-
-    /// The number of the part at a position, and whether it is reached for the first time.
-    ///
-    /// `from` is the part that the reference is in, and which of its slots or elements it is. `counts` says whether the
-    /// reference is counted.
-    pub(crate) fn reach(
-        &mut self,
-        lead: Lead,
-        at: u32,
-        from: (u32, u32),
-        counts: bool,
-    ) -> Result<(u32, bool), AllocError> {
-        let (parent, number) = from;
-        let Ok((index, known)) = self.keys.insert_full((at, lead.key()), ()) else {
-            return Err(AllocError);
-        };
-        let is_new = known.is_none();
-        if is_new {
-            let node = Node {
-                lead,
-                at,
-                parent,
-                number,
-                references: 1,
-                visit: None,
-            };
-            if self.nodes.push(node).is_err() {
-                return Err(AllocError);
-            }
-        } else if counts && let Some(node) = self.nodes.get_mut(index) {
-            node.references = node.references.saturating_add(1);
-        }
-        match u32::try_from(index) {
-            Ok(number) => Ok((number, is_new)),
-            Err(_) => Err(AllocError),
-        }
-    }
-
     /// Notes the number of what is known of a part's visit.
     pub(crate) fn set_visit(&mut self, number: u32, visit: usize) {
         if let Some(node) = self.nodes.get_mut(number as usize) {
@@ -176,6 +124,74 @@ impl Nodes {
                 },
             ) => Step::Slot(table, node.number.min(65535) as u16),
             _ => Step::Element(node.number),
+        }
+    }
+}
+
+/// The parts that a walk has reached so far, and how one is found again.
+pub(crate) struct Reached {
+    keys: IndexMap<(u32, (u8, u64)), (), HashKey>,
+    pub nodes: Nodes,
+}
+
+// Written out, so that a proof has one step where a value falls out of scope, and not one for each of its parts.
+impl Drop for Reached {
+    fn drop(self) {
+        let Self { keys: _, nodes: _ } = self;
+    }
+}
+
+impl Reached {
+    /// None yet; the key is that of a hash of positions.
+    pub(crate) fn new(alloc: Global, key: HashKey) -> Reached {
+        Reached {
+            keys: IndexMap::with_hasher(alloc, key),
+            nodes: Nodes {
+                nodes: Vec::new(alloc),
+            },
+        }
+    }
+
+    /// The parts, once all are reached. So no type that others see holds the map.
+    pub(crate) fn into_nodes(self) -> Nodes {
+        let Self { keys: _, nodes } = self;
+        nodes
+    }
+
+    /// The number of the part at a position, and whether it is reached for the first time.
+    ///
+    /// `from` is the part that the reference is in, and which of its slots or elements it is. `counts` says whether the
+    /// reference is counted.
+    pub(crate) fn reach(
+        &mut self,
+        lead: Lead,
+        at: u32,
+        from: (u32, u32),
+        counts: bool,
+    ) -> Result<(u32, bool), AllocError> {
+        let (parent, number) = from;
+        let Ok((index, known)) = self.keys.insert_full((at, lead.key()), ()) else {
+            return Err(AllocError);
+        };
+        let is_new = known.is_none();
+        if is_new {
+            let node = Node {
+                lead,
+                at,
+                parent,
+                number,
+                references: 1,
+                visit: None,
+            };
+            if self.nodes.nodes.push(node).is_err() {
+                return Err(AllocError);
+            }
+        } else if counts && let Some(node) = self.nodes.nodes.get_mut(index) {
+            node.references = node.references.saturating_add(1);
+        }
+        match u32::try_from(index) {
+            Ok(number) => Ok((number, is_new)),
+            Err(_) => Err(AllocError),
         }
     }
 }

@@ -1,7 +1,7 @@
 //! The pieces of a buffer, noted part by part as a walk comes to them.
 ghost use Rattle.std.specs.Prelude.{◌<◌, ◌^◌};
 
-use crate::nodes::{Lead, Nodes};
+use crate::nodes::{Lead, Reached};
 use crate::pieces::{Piece, What};
 use fb_index::HashKey;
 use fb_layout::Layout;
@@ -29,7 +29,7 @@ struct Open<'a> {
 pub(crate) struct Notes<'a> {
     pub layout: &'a Layout,
     pub bytes: &'a [u8],
-    pub nodes: Nodes,
+    pub reached: Reached,
     pub pieces: Vec<Piece>,
     /// The steps back from the fault that a walk has found, the last one first.
     pub way_back: Vec<Step>,
@@ -53,7 +53,7 @@ impl<'a> Notes<'a> {
         Notes {
             layout,
             bytes,
-            nodes: Nodes::new(alloc, HashKey::of(bytes)),
+            reached: Reached::new(alloc, HashKey::of(bytes)),
             pieces: Vec::new(alloc),
             way_back: Vec::new(alloc),
             is_walked: false,
@@ -90,7 +90,10 @@ impl<'a> Notes<'a> {
         }
         let (parent, number, counts) = self.step_to(reference_at);
         let lead = Lead::of(part);
-        let Ok((node, is_new)) = self.nodes.reach(lead, noted(at), (parent, number), counts) else {
+        let Ok((node, is_new)) = self
+            .reached
+            .reach(lead, noted(at), (parent, number), counts)
+        else {
             self.is_cut = true;
             return None;
         };
@@ -113,7 +116,7 @@ impl<'a> Notes<'a> {
         if self.open.push(open).is_err() {
             self.is_cut = true;
         }
-        self.nodes.visit_of(node)
+        self.reached.nodes.visit_of(node)
     }
 
     /// Notes that the walk passes over the part that it came to.
@@ -126,7 +129,7 @@ impl<'a> Notes<'a> {
     /// The number of what is known of an earlier visit of the part that the walk is at.
     pub(crate) fn visit(&self) -> Option<usize> {
         match self.open.last() {
-            Some(open) => self.nodes.visit_of(open.node),
+            Some(open) => self.reached.nodes.visit_of(open.node),
             None => None,
         }
     }
@@ -138,7 +141,7 @@ impl<'a> Notes<'a> {
         }
         if let Some(open) = self.open.last().copied() {
             self.note_slots(open, open.count);
-            self.nodes.set_visit(open.node, visit);
+            self.reached.nodes.set_visit(open.node, visit);
         }
         self.open.pop();
     }
@@ -177,7 +180,7 @@ impl<'a> Notes<'a> {
 
     /// Which element of a vector of references is at a position.
     fn element_at(&self, node: u32, at: usize) -> u32 {
-        match self.nodes.get(node) {
+        match self.reached.nodes.get(node) {
             Some(vector) => { noted(at).saturating_sub(vector.at).saturating_sub(4) / 4 }
             None => 0,
         }
@@ -264,7 +267,7 @@ impl<'a> Notes<'a> {
     fn note_vtable(&mut self, node: u32, table: EnteredTable<'a>) {
         let at = table.vtable_at();
         let lead = Lead::Vtable(table.table);
-        match self.nodes.reach(lead, noted(at), (node, 0), true) {
+        match self.reached.reach(lead, noted(at), (node, 0), true) {
             Ok((vtable, true)) => {
                 let size = usize::from(u16_within(self.bytes, at));
                 self.note(vtable, at, size, What::Vtable);
