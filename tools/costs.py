@@ -7,8 +7,7 @@ The crates below are proved first, as tools/build.py does. Then one job checks t
 a file for each module that it has checked, so the time between two files is what the second one took, by the clock.
 Prints the seconds by kind of module, by function, and of single modules, N lines of each, with the size of what was
 written. Seconds swing with the machine and what else it does; sizes don't, so they tell whether a body's model shrank.
-With --test the crate's tests are checked too. Of a library it also tells what crates above read of it, and the
-processor time that a build over the check takes to write that: the modules of all types that its public items mention.
+With --test the crate's tests are checked too.
 
 The kinds that matter: Lts is the model of a function's body, and grows with its statements, and with how many values
 live across them. Proof has the goals that no answer is written for, which tactics look for. Answers has those that
@@ -17,11 +16,10 @@ are answered, and a name of this repository's is a file of lemmas.
 import argparse
 import collections
 import os
-import resource
 import sys
 import tempfile
 
-from build import ROOT, below, is_library_for_c, is_program, prove, read_crates, words_of
+from build import ROOT, below, prove, read_crates, words_of
 from mutations import run
 
 
@@ -31,22 +29,6 @@ def check(crates, name, kept, flags):
     status, lines = run(words, f"{ROOT}/crates/{name}")
     print(lines[-1])
     return status == 0
-
-
-def seconds_of_children():
-    used = resource.getrusage(resource.RUSAGE_CHILDREN)
-    return used.ru_utime + used.ru_stime
-
-
-def build(crates, name, kept, made):
-    """Builds a library over a check of it, and prints what that took, and how large it is."""
-    before = seconds_of_children()
-    how = ["--jobs", "1", "--incremental", kept, "--links", f"{name}=", "--statements", "-o", made]
-    status, lines = run([*words_of(crates, name, "build"), *how], f"{ROOT}/crates/{name}")
-    seconds = seconds_of_children() - before
-    files = [f"{at}/{it}" for at, _, names in os.walk(made) for it in names]
-    size = sum(os.path.getsize(it) for it in files)
-    print(f"read by crates above: {size / 1e6:.1f} MB, written in {seconds:.0f} s" if status == 0 else lines[-1])
 
 
 def modules_in(kept, name):
@@ -96,8 +78,6 @@ def main():
     with tempfile.TemporaryDirectory(prefix=f"costs-{given.crate}-") as kept:
         proved = check(crates, given.crate, kept, ["--test"] if given.test else [])
         report(modules_in(kept, given.crate), given.lines)
-        if proved and not (is_program(given.crate) or is_library_for_c(crates, given.crate)):
-            build(crates, given.crate, kept, f"{kept}/{given.crate}.rlib")
     return 0 if proved else 1
 
 
