@@ -2,7 +2,7 @@
 //! holds a value prints as a text that means it.
 use crate::dice::Dice;
 use crate::meanings::meaning;
-use crate::outcomes::is_same_fault;
+use crate::outcomes::{are_alike, is_same_fault};
 use fb_layout::Layout;
 use fb_owned::{build, read, text_of, whole};
 use fb_read::{Entries, View, verify};
@@ -74,7 +74,7 @@ fn limits() -> Limits {
 fn holds(alloc: Global, layout: &Layout, bytes: &[u8], value: &Value) -> bool {
     let mut entries = Entries::new();
     match read(alloc, layout, bytes, limits(), false, &mut entries) {
-        Ok(found) => found == *value,
+        Ok(found) => are_alike(alloc, &found, value),
         Err(_) => false,
     }
 }
@@ -85,7 +85,8 @@ fn means(alloc: Global, layout: &Layout, text: &[u8], value: &Value) -> bool {
         return false;
     };
     match build(alloc, layout, &again) {
-        Ok(bytes) => again == *value && holds(alloc, layout, bytes.as_slice(), value),
+        Ok(bytes) => are_alike(alloc, &again, value)
+            && holds(alloc, layout, bytes.as_slice(), value),
         Err(_) => false,
     }
 }

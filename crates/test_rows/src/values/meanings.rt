@@ -4,6 +4,7 @@ ghost use Rattle.fb_value.specs.View.{view};
 ghost use Rattle.fb_value.specs.Counts.{nesting};
 ghost use Rattle.fb_value.specs.Fits.{FitsRoot};
 
+use crate::refusals::write_json_fault;
 use crate::values::Case;
 use crate::values::readings::is_same;
 use crate::values::texts::try_alike;
@@ -40,7 +41,7 @@ pub(crate) fn meaning(case: &Case, json: &str, unknown: bool) -> Result<Value, U
 pub(crate) fn write_unmeant(unmeant: Unmeant, line: &mut String) -> Result<(), AllocError> {
     match unmeant {
         Unmeant::NoJson => line.push_str("no JSON"),
-        Unmeant::Fault(fault) => write!(line, "{fault:?}"),
+        Unmeant::Fault(fault) => write_json_fault(fault, line),
     }
 }
 

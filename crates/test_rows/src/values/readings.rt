@@ -1,4 +1,5 @@
 //! What both readers make of bytes.
+use crate::refusals::write_read_fault;
 use crate::values::Case;
 use crate::values::agree::table_agrees;
 use crate::values::texts::try_alike;
@@ -77,7 +78,7 @@ pub(crate) fn value_in(case: &Case, bytes: &[u8], raw: bool) -> Result<Value, Un
 /// Writes why there is no value.
 pub(crate) fn write_unread(unread: Unread, line: &mut String) -> Result<(), AllocError> {
     match unread {
-        Unread::Fault(fault) => write!(line, "{fault:?}"),
+        Unread::Fault(fault) => write_read_fault(fault, line),
         Unread::Apart => line.push_str("two readers that differ"),
     }
 }

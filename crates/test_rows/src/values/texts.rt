@@ -59,6 +59,16 @@ pub(crate) fn is_printed_alike(
     }
 }
 
+/// Whether two values are shown alike, and so are the same; false where memory runs out.
+pub(crate) fn are_alike(case: &Case, one: &Value, other: &Value) -> bool {
+    let shown = format!(in case.alloc; "{one:?}");
+    let other_shown = format!(in case.alloc; "{other:?}");
+    match (shown, other_shown) {
+        (Ok(shown), Ok(other)) => shown.as_str() == other.as_str(),
+        _ => false,
+    }
+}
+
 /// Writes a value that bytes hold, where they print as its text, with and without defaults.
 pub(crate) fn try_alike(
     case: &Case,
