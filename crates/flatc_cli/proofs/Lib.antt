@@ -1,4 +1,3 @@
 pub mod Arguments
-pub mod JobLines
 pub mod Refusals
 pub mod LineInputs

@@ -5,7 +5,7 @@ use Rattle.clap.specs.Words.{Text, takes, subcommand_of}
 use Rattle.clap.specs.Walk.{walked}
 use Rattle.clap.specs.Takes.{walk_passes}
 use Rattle.flatc_cli.specs.Commands.{flatc_app}
-use Rattle.flatc_cli.specs.Lines.{IsRequestOf, is_line, is_job_line}
+use Rattle.flatc_cli.specs.Lines.{IsRequestOf, is_line}
 use Rattle.flatc_files.specs.declared.request.Job.TheVariants.{Binary, Check, Conform}
 use Rattle.flatc_files.specs.declared.request.Explaining.TheVariants.{AtTerminal, Always, Never}
 use Rattle.flatc_files.specs.declared.request.Inspection.TheVariants.{Header}
@@ -80,10 +80,6 @@ pub batch_is_a_line : is_line (subcommand_of flatc_app batch_line) ≡ true
 unfolding walked
 batch_is_a_line = refl
 
-pub batch_is_no_job : is_job_line (subcommand_of flatc_app batch_line) ≡ false
-unfolding walked
-batch_is_no_job = refl
-
 -- flatc conform - /dev/stdin, which clap takes
 abbrev pub twice_line : List Text
 twice_line = codes "conform" ∷ codes "-" ∷ codes "/dev/stdin" ∷ []
@@ -104,10 +100,6 @@ pub stream_is_a_line : is_line (subcommand_of flatc_app stream_line) ≡ true
 unfolding walked
 stream_is_a_line = refl
 
-pub stream_is_no_job : is_job_line (subcommand_of flatc_app stream_line) ≡ false
-unfolding walked
-stream_is_no_job = refl
-
 -- flatc json --compact --size-prefixed s b
 abbrev pub form_line : List Text
 form_line = codes "json" ∷ codes "--compact" ∷ codes "--size-prefixed" ∷ codes "s" ∷ codes "b" ∷ []
@@ -115,10 +107,6 @@ form_line = codes "json" ∷ codes "--compact" ∷ codes "--size-prefixed" ∷ c
 pub form_is_a_line : is_line (subcommand_of flatc_app form_line) ≡ true
 unfolding walked
 form_is_a_line = refl
-
-pub form_is_no_job : is_job_line (subcommand_of flatc_app form_line) ≡ false
-unfolding walked
-form_is_no_job = refl
 
 -- flatc inspect --header b
 abbrev pub header_line : List Text

@@ -2,7 +2,7 @@
 use Rattle.std.specs.Prelude.{◌≡◌, ◌≢◌, ◌==◌, ◌&&◌, ◌||◌, ◌≤◌, Bool, true, false, not, List, [], ◌∷◌, Option}
 use Rattle.std.specs.Prelude.{Some, None}
 use Rattle.std.specs.Prelude.{codes, String, string_bytes, length, map, option_map, take, unwrap_or, is_some}
-use Rattle.std.specs.Prelude.{nat_lt, if◌then◌else◌}
+use Rattle.std.specs.Prelude.{if◌then◌else◌}
 use Rattle.std.specs.Borrow.{Bor}
 use Rattle.std.specs.Option.{option_map_or}
 use Rattle.std.specs.Str.{bytes_eq}
@@ -196,22 +196,3 @@ is_line_of name rows = are_allowed rows && has_inputs name rows
 abbrev pub is_line : Option (Text × List Row) → Bool
 is_line None = false
 is_line (Some p) = is_line_of p.0 p.1
-
--- one buffer at most
-abbrev pub is_single : Text → List Row → Bool
-is_single name rows = not (bytes_eq name (codes "check")) || nat_lt (length (paths_in (codes "BIN") rows)) 2
-
--- no word on explanations, streams and forms, and no directory
-abbrev pub is_plain : Text → List Row → Bool
-is_plain name rows = not (is_set (codes "terse") rows) && (not (is_set (codes "explain") rows)
-    && (not (is_streamed rows) && (not (is_set (codes "size-prefixed") rows) && (not (is_set (codes "compact") rows)
-    && (not (has_dir rows) && is_single name rows)))))
-
--- one of the four lines over one file each, without a word on explanations, streams and forms
-abbrev pub is_job_of : Text → List Row → Bool
-is_job_of name rows = is_line_of name rows && (not (bytes_eq name (codes "explain"))
-    && (not (bytes_eq name (codes "inspect")) && is_plain name rows))
-
-abbrev pub is_job_line : Option (Text × List Row) → Bool
-is_job_line None = false
-is_job_line (Some p) = is_job_of p.0 p.1

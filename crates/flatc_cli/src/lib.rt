@@ -10,5 +10,5 @@ mod misuse;
 mod streams;
 
 pub use commands::VERSION;
-pub use line::{job_of, request_of};
-pub use misuse::usage_error;
+pub use line::request_of;
+pub use misuse::{other_line, usage_error};

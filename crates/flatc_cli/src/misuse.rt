@@ -131,7 +131,7 @@ pub(crate) fn misuse_error(alloc: Global, job: &str, misuse: Misuse<'_>) -> Erro
 }
 
 /// The error about a line that is none of the four over one file each.
-pub(crate) fn other_line(alloc: Global) -> Error
+pub fn other_line(alloc: Global) -> Error
     ensures { IsRefusal (kind_of result) }
 {
     let told = match flatc_command(alloc) {

@@ -1,7 +1,7 @@
-use Rattle.flatc_cli.proofs.JobLines.{batch_is_no_job, always_is_no_job, never_is_no_job}
-use Rattle.flatc_cli.proofs.JobLines.{formed_job_is_no_job, formed_batch_is_no_job, stream_is_no_job}
-use Rattle.flatc_cli.proofs.JobLines.{inspection_is_no_job, number_is_no_job}
-use Rattle.flatc_cli.proofs.line.job_in.Goals as goal
+use Rattle.flatc_job_line.proofs.JobLines.{batch_is_no_job, always_is_no_job, never_is_no_job}
+use Rattle.flatc_job_line.proofs.JobLines.{formed_job_is_no_job, formed_batch_is_no_job, stream_is_no_job}
+use Rattle.flatc_job_line.proofs.JobLines.{inspection_is_no_job, number_is_no_job}
+use Rattle.flatc_job_line.proofs.job_in.Goals as goal
 
 pub returns-in-DoEach-clause-none : goal.returns-in-DoEach-clause-none
 returns-in-DoEach-clause-none c = λ line is. batch_is_no_job line _ _ (rw c.in-DoEach.is at is)

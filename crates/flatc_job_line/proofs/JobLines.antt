@@ -4,8 +4,9 @@ use Rattle.std.proofs.Common.{length, refl, ap, sym, is_some, nat_lt, codes, Str
 use Rattle.std.proofs.Common.{bytes_eq, rules}
 use Rattle.std.proofs.lemmas.Bool.{le-ltb}
 use Rattle.clap.specs.Words.{Row, Text}
-use Rattle.flatc_cli.specs.Lines.{is_set, explaining_in, has_dir, paths_in, is_single, is_plain, is_line_of, is_line}
-use Rattle.flatc_cli.specs.Lines.{is_job_of, is_job_line, is_streamed, form_in, IsTask, IsInspection, IsRequestOf}
+use Rattle.flatc_cli.specs.Lines.{is_set, explaining_in, has_dir, paths_in, is_line_of, is_line}
+use Rattle.flatc_cli.specs.Lines.{is_streamed, form_in, IsTask, IsInspection, IsRequestOf}
+use Rattle.flatc_job_line.specs.JobLines.{is_single, is_plain, is_job_of, is_job_line}
 use Rattle.flatc_files.specs.Forms.{usual_form}
 use Rattle.flatc_files.specs.declared.request.Form.{Form}
 use Rattle.flatc_files.specs.declared.request.Stream.{Stream}
