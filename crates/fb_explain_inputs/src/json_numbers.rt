@@ -19,7 +19,10 @@ fn push_fraction(page: &mut Page, whole: &str, fraction: &str) {
         page.push_line(" has a fraction, and numbers are whole here");
         return;
     }
-    let whole = if whole == "-0" { "0" } else { whole };
+    let whole = match whole {
+        "-0" => "0",
+        _ => whole,
+    };
     push_advice(page, " is written with a fraction: write ", whole);
 }
 
@@ -34,7 +37,9 @@ pub(crate) fn push_not_whole(page: &mut Page, token: &str) {
     }
     match token.split_once('.') {
         Some((whole, fraction)) => push_fraction(page, whole, fraction),
-        None if token == "-0" => page.push_line(" isn't written as a whole number: write 0"),
+        None if matches!(token, "-0") => page.push_line(
+            " isn't written as a whole number: write 0",
+        ),
         None if token.starts_with('-') => {
             push_advice(
                 page,

@@ -71,7 +71,7 @@ fn cut_len(line: &str, columns: usize) -> usize {
     if fitting == line.len() {
         return fitting;
     }
-    if line.as_bytes().get(fitting) == Some(&b' ') {
+    if matches!(line.as_bytes().get(fitting), Some(b' ')) {
         return fitting.saturating_add(1);
     }
     match line.get(..fitting).unwrap_or("").rfind(' ') {

@@ -12,7 +12,7 @@ use std::collections::HashMap;
 use std::marker::Model;
 
 // The standard library's map, since each crate with a public schema reads all modules of this type when it is built:
-// those of an `IndexMap` were up to half of a crate's time.
+// those of an `IndexMap` took 10 to 20 s of each build.
 type Keys = HashMap<u32, u32, HashKey>;
 
 /// An index of byte strings by digests under a key.

@@ -30,10 +30,9 @@ fn number_within(base: Base, number: i128) -> Given
 fn null_or_wrong(name: &str) -> Given
     ensures { result ≡ null_or_wrong name.now }
 {
-    if name == "null" {
-        Given::Null
-    } else {
-        Given::Wrong
+    match name {
+        "null" => Given::Null,
+        _ => Given::Wrong,
     }
 }
 

@@ -31,7 +31,7 @@ fn is_set(rt: &HostRuntime, name: &str) -> bool {
 
 fn is_dumb(rt: &HostRuntime) -> bool {
     match env::var(rt, "TERM") {
-        Ok(text) => text.as_str() == "dumb",
+        Ok(text) => matches!(text.as_str(), "dumb"),
         Err(_) => false,
     }
 }
@@ -70,7 +70,7 @@ fn print_coloured(rt: &HostRuntime, line: &str) {
     let words = line.trim_start_matches(' ');
     let indent = line.len().saturating_sub(words.len());
     let _printed = match place_len(line) {
-        _ if words == "^" || words == "^^" => eprintln!(rt;
+        _ if matches!(words, "^" | "^^") => eprintln!(rt;
             "{:indent$}\u{1b}[1;31m{words}\u{1b}[0m",
             ""
         ),

@@ -61,7 +61,7 @@ pub(crate) fn schema_of<'a>(found: &ArgMatches<'a>) -> &'a str
 pub(crate) fn flag_of(found: &ArgMatches<'_>, name: &str) -> bool
     ensures { result ≡ is_set name.now (rows_of (found_of found.now)) }
 {
-    text_of(found, name) == Some("true")
+    matches!(text_of(found, name), Some("true"))
 }
 
 fn strings_of(alloc: Global, texts: &[&str]) -> Result<Vec<String>, AllocError>
