@@ -4,6 +4,16 @@ ghost use Rattle.fb_layout.specs.OneLayout.{NoLayoutWhereRefused, OneLayout};
 ghost use Rattle.fb_layout.specs.Sizes.{IsLeastMultiple, ceil4};
 ghost use Rattle.fb_layout.specs.Laws.{KindsAligned, TablesAligned, GreatestAligned, NoneAlignedToZero};
 ghost use Rattle.fb_layout.specs.Laws.{SizesAreMultiples, SizesFit, StructsHaveFewParts};
+ghost use Rattle.fb_layout.specs.WellMade.{IsWellMade};
+
+use crate::layouts::Layout;
+
+/// A layout is well made: its schema keeps what schemas keep, and its sizes are those of the definition.
+pub fn layout_is_well_made(layout: &Layout)
+    ensures { IsWellMade layout.now }
+{
+    let _schema = layout.schema();
+}
 
 /// A declared schema has one list of sizes at most.
 pub fn one_layout()

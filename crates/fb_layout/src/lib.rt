@@ -14,8 +14,8 @@ mod tables;
 pub use extents::kind_in;
 pub use faults::LayoutFault;
 pub use laws::{
-    greatest_aligned, kinds_aligned, least_multiple_of_four, no_layout_where_refused,
-    none_aligned_to_zero, one_layout, sizes_are_multiples, sizes_fit, structs_have_few_parts,
-    tables_aligned,
+    greatest_aligned, kinds_aligned, layout_is_well_made, least_multiple_of_four,
+    no_layout_where_refused, none_aligned_to_zero, one_layout, sizes_are_multiples, sizes_fit,
+    structs_have_few_parts, tables_aligned,
 };
 pub use layouts::{Layout, lay};
