@@ -1,3 +1,4 @@
+mod Positions
 mod FreeKeys
 mod Keyed
 pub mod WordsOf

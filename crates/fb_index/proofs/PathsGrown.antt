@@ -3,7 +3,6 @@ use Rattle.std.proofs.Common.{Bor, ◌⊎◌, inl, inr, ◌≡◌, ◌≢◌, �
 use Rattle.std.proofs.Common.{true≢false, List, [], ◌∷◌, ◌++◌, length, get_or, slice_get, position, Some, refl, sym, ap}
 use Rattle.std.proofs.Common.{subst, ◌∙◌, arith, ⊎_elim, length-append, if◌then◌else◌}
 use Rattle.std.specs.List.{list_any, position_or_len}
-use Rattle.std.specs.Map.{keys_of}
 use Rattle.std.specs.Option.{option_map}
 use Rattle.std.specs.Str.{bytes_eq}
 use Rattle.std.proofs.lemmas.Bool.Decides.{Decides-and, Decides-eqb}
@@ -11,7 +10,6 @@ use Rattle.std.proofs.lemmas.List.{length-map, map-append}
 use Rattle.std.proofs.lemmas.List.Quantifiers.{position-Some}
 use Rattle.std.proofs.lemmas.Option.{slice_get-map, get_or_from_slice_get, slice_get-get_or, slice_get_within}
 use Rattle.std.proofs.lemmas.Slice.Eq.{bytes_eq-Decides}
-use Rattle.indexmap.specs.IndexMap.{insert_entry}
 use Rattle.fb_index.specs.Words.{Name, Path}
 use Rattle.fb_index.proofs.PathsNamed.{append_inj}
 use Rattle.fb_index.specs.PathTree.{child_of, paths_from, paths_of, named_by, links_in, AreLinks}
@@ -242,20 +240,6 @@ with_key-behind k keys path word = elim (list_any (is_key path word.now) keys) a
     (λ b. (if b then k ∷ keys else (k ∷ keys) ++ (path, word) ∷ [])
     ≡ k ∷ (if b then keys else keys ++ (path, word) ∷ []))
     [ true ↦ refl | false ↦ refl ]
-
--- the keys of a map after one is inserted
-pub keys-inserted : (es : List ((ℕ × Bor Name) × Unit {0})) (path : ℕ) (word : Bor Name)
-    → keys_of (insert_entry (λ k. is_key k.0 k.1.now) es (path, word) tt) ≡ with_key (keys_of es) path word
-keys-inserted [] path word = refl
-keys-inserted (e ∷ es) path word = by (is_key path word.now e.0) refl (keys-inserted es path word)
-  where
-    inserted : List ((ℕ × Bor Name) × Unit {0}) → List (ℕ × Bor Name)
-    inserted es = keys_of (insert_entry (λ k. is_key k.0 k.1.now) es (path, word) tt)
-
-    by : (b : Bool) → is_key path word.now e.0 ≡ b → inserted es ≡ with_key (keys_of es) path word
-        → inserted (e ∷ es) ≡ with_key (keys_of (e ∷ es)) path word
-    by true same rest = rw same refl
-    by false other rest = rw other (ap (λ ks. e.0 ∷ ks) rest ∙ sym (with_key-behind e.0 (keys_of es) path word))
 
 -- after a key is inserted its link stands where `insert_full` says
 link-inserted : (keys : List (ℕ × Bor Name)) (path : ℕ) (word : Bor Name)
