@@ -3,8 +3,8 @@ use Rattle.std.proofs.lemmas.Simd.{map-map}
 use Rattle.fb_schema.specs.Seen.{body_seen}
 use Rattle.fb_schema.specs.Indexed.{inner_numbers}
 use Rattle.fb_schema.proofs.LookUps.{numbers_of}
-use Rattle.fb_schema.proofs.indexing.numbers_in.Goals as goal
-use Rattle.fb_schema.proofs.indexing.numbers_in.Goals.{In-Some}
+use Rattle.fb_schema.proofs.number_index.numbers_in.Goals as goal
+use Rattle.fb_schema.proofs.number_index.numbers_in.Goals.{In-Some}
 
 -- the numbers are those of the borrowed values
 numbers : (c : In-Some) → inner_numbers (body_seen c.args.body.now) ≡ map (λ v. v.1) c.in-Some.values.now

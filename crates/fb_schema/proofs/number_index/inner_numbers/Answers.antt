@@ -1,6 +1,6 @@
 use Rattle.fb_schema.specs.Indexed.{inner_numbers, IndexesNumbers}
 use Rattle.fb_schema.proofs.IndexesOfTypes.{index_more}
-use Rattle.fb_schema.proofs.indexing.inner_numbers.Goals as goal
+use Rattle.fb_schema.proofs.number_index.inner_numbers.Goals as goal
 
 pub loop-info-preserved : goal.loop-info-preserved
 loop-info-preserved c =
