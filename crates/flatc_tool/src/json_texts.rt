@@ -63,15 +63,13 @@ pub fn decode_to<W: Write>(
         &mut entries,
     )
     .map_err(ToolFault::Read)?;
-    match write_spaced(
+    write_spaced(
         &view,
         options.defaults_json,
         spacing_of(options.compact),
         out,
-    ) {
-        Ok(()) => Ok(()),
-        Err(fault) => Err(ToolFault::Write(fault)),
-    }
+    )
+    .map_err(ToolFault::Write)
 }
 
 /// A refusal to print to memory: a write fails only where memory runs out.
