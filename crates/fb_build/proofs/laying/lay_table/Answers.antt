@@ -48,7 +48,8 @@ given : (c : goal.After-close_table-arg-2-1) → let w = c.requires.ready in
     AreToBeLaid w.layout (slots_of w.layout w.may.lays.table)
     (stored_in (slots_of w.layout w.may.lays.table) w.may.lays.entries)
     (spread (slots_of w.layout w.may.lays.table) (stored_in (slots_of w.layout w.may.lays.table) w.may.lays.entries)
-    (drop (length c.args.laying.now.waiting.items - notes_references c.args.fields.notes.now) c.args.laying.now.waiting.items))
+    (drop (length c.args.laying.now.waiting.items - notes_references c.args.fields.notes.now)
+    c.args.laying.now.waiting.items))
     c.bytes.result c.args.fields.notes.now c.args.fields.bytes.now
     (take (length c.deref.result.now - (c.len.result - c.args.fields.references))
     (drop (c.len.result - c.args.fields.references) c.deref.result.now)) c.args.laying.now.tail
