@@ -52,7 +52,8 @@ of-requires-clause-few c =
 pub overflow_cast-len : goal.overflow_cast-len
 overflow_cast-len c =
     let few = open_few c.args.self.now.layout c.args.table.0 (drop c.args.from c.args.opened.now) c.requires.stored.0
-    (subst IsWellMade (ap (λ (t : Taped). t.layout) c.self.view_is) c.layout_is_well_made.ensures) c.requires.stored.1 in
+    (subst IsWellMade (ap (λ (t : Taped). t.layout) c.self.view_is) c.layout_is_well_made.ensures) c.requires.stored.1
+    in
     omega (arith, few, length-drop c.args.from c.args.opened.now, c.len-self-inside.ensures)
 
 whole_taken : (n : ℕ) (xs : List ℕ) → drop n xs ≡ [] → take n xs ≡ xs
