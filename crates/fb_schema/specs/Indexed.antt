@@ -1,5 +1,5 @@
 -- What a schema's indexes find.
-use Rattle.std.specs.Prelude.{ℕ, ◌≡◌, ◌+◌, ◌≢◌, List, length, get_or, slice_get, Some, AllPairs, map, ℤ, pos}
+use Rattle.std.specs.Prelude.{ℕ, ◌≡◌, ◌+◌, ◌≤◌, ◌≢◌, List, length, take, drop, get_or, slice_get, Some, AllPairs, map, ℤ, pos}
 use Rattle.std.specs.Ordering.{int_cmp}
 use Rattle.std.specs.declared.cmp.Ordering.{Ordering}
 use Rattle.std.specs.List.{range_with_len}
@@ -53,6 +53,17 @@ pub record IndexesTypes (index : NameIndex) (types : List DeclaredType) : Type 0
   pub full : AreAt index.digests.keys index.key 0 (map (λ t. t.name) types)
   pub inner : IndexesInner index.digests.keys index.key index.firsts.items types
 
--- an index of the numbers of an enum's values
-abbrev pub IndexesNumbers : NumberIndex → List ℤ → Type 0
-IndexesNumbers index numbers = IsInOrder int_cmp (pos 0) numbers index.places.items
+-- The places of an enum's values are in an index, in ascending order of their numbers.
+pub record AreOrdered (places firsts : List ℕ) (t : ℕ) (numbers : List ℤ) : Type 0 where
+  pub first : ℕ
+  pub at : slice_get firsts t ≡ Some first
+  pub within : first + length numbers ≤ length places
+  pub ordered : IsInOrder int_cmp (pos 0) numbers (take (length numbers) (drop first places))
+
+abbrev pub HasNumbers : NumberIndex → ℕ → List ℤ → Type 0
+HasNumbers index t numbers = AreOrdered index.places.items index.firsts.items t numbers
+
+-- an index of the numbers of all enums
+abbrev pub IndexesNumbers : NumberIndex → List DeclaredType → Type 0
+IndexesNumbers index types = (t : ℕ) (type : DeclaredType) → slice_get types t ≡ Some type
+    → HasNumbers index t (inner_numbers type.body)

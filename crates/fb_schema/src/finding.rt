@@ -2,7 +2,7 @@
 ghost use Rattle.std.specs.Prelude.{◌≡◌, ◌≤◌, length, map, option_copied, option_map, string_bytes};
 ghost use Rattle.fb_schema.specs.Schema.{values_in, members_in};
 ghost use Rattle.fb_schema.specs.Seen.{field_seen, body_seen};
-ghost use Rattle.fb_schema.specs.Indexed.{inner_names, inner_numbers, HasNoRepeats, IndexesNames, IndexesNumbers};
+ghost use Rattle.fb_schema.specs.Indexed.{inner_names, inner_numbers, HasNoRepeats, HasNumbers, IndexesNames};
 ghost use Rattle.fb_schema.specs.Found.{fields_in, field_named, member_coded, name_numbered, number_named, code_named};
 
 use crate::kinds::TypeId;
@@ -59,13 +59,18 @@ pub(crate) fn member_in(body: &Body, code: u8) -> Option<TypeId>
 }
 
 /// The name of an enum's value that has a number.
-pub(crate) fn name_in<'a>(body: &'a Body, numbers: &NumberIndex, number: i128) -> Option<&'a str>
-    requires indexed { IndexesNumbers numbers.now (inner_numbers (body_seen body.now)) }
+pub(crate) fn name_in<'a>(
+    body: &'a Body,
+    enumeration: TypeId,
+    numbers: &NumberIndex,
+    number: i128,
+) -> Option<&'a str>
+    requires indexed { HasNumbers numbers.now enumeration.0 (inner_numbers (body_seen body.now)) }
     requires distinct { HasNoRepeats (body_seen body.now) }
     ensures { option_copied result ≡ name_numbered (body_seen body.now) number }
 {
     let values = values_of(body);
-    let value = values.get(numbers.position(values, number)?)?;
+    let value = values.get(numbers.position(enumeration, values, number)?)?;
     Some(value.0.as_str())
 }
 

@@ -12,7 +12,7 @@ use crate::finding::{code_in, field_in, member_in, name_in, number_in};
 use crate::keys::key_of_types;
 use crate::kinds::TypeId;
 use crate::name_index::NameIndex;
-use crate::number_index::{NumberIndex, inner_numbers};
+use crate::number_index::NumberIndex;
 use crate::paths::name_in_path;
 use crate::types::{FieldInfo, TypeInfo};
 use fb_index::HashKey;
@@ -29,7 +29,7 @@ pub struct Schema {
     root: TypeId,
     identifier: Option<[u8; 4]>,
     names: NameIndex,
-    inner_numbers: Vec<NumberIndex>,
+    numbers: NumberIndex,
 }
 
 impl Model for Schema {
@@ -57,13 +57,13 @@ impl Schema {
     {
         let key = key_of_types(types.as_slice());
         let names = NameIndex::of(alloc, key, types.as_slice())?;
-        let inner_numbers = inner_numbers(alloc, types.as_slice())?;
+        let numbers = NumberIndex::of(alloc, types.as_slice())?;
         Ok(Schema {
             types,
             root,
             identifier,
             names,
-            inner_numbers,
+            numbers,
         })
     }
 
@@ -127,10 +127,8 @@ impl Schema {
     pub fn name_of_number(&self, enumeration: TypeId, number: i128) -> Option<&str>
         ensures { option_copied result ≡ name_numbered (body_at self.now enumeration.0) number }
     {
-        let at = enumeration.0 as usize;
-        let info = self.types.get(at)?;
-        let numbers = self.inner_numbers.get(at)?;
-        name_in(&info.body, numbers, number)
+        let info = self.types.get(enumeration.0 as usize)?;
+        name_in(&info.body, enumeration, &self.numbers, number)
     }
 
     /// The number of an enum's value that has a name.

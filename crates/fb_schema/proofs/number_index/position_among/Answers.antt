@@ -9,11 +9,10 @@ use Rattle.std.proofs.lemmas.Fn.{always_returns_same}
 use Rattle.std.proofs.lemmas.Int.{to_z-of_z}
 use Rattle.std.proofs.lemmas.Map.Lookups.{exact_signed}
 use Rattle.std.proofs.lemmas.Option.{slice_get-get_or}
-use Rattle.fb_schema.specs.Indexed.{IsInOrder}
 use Rattle.fb_schema.proofs.Distinct.{found_at}
 use Rattle.fb_schema.proofs.Got.{got}
 use Rattle.fb_schema.proofs.SearchedByHalves.{searched_ok, searched_err}
-use Rattle.fb_schema.proofs.number_index.NumberIndex.position.Goals as goal
+use Rattle.fb_schema.proofs.number_index.position_among.Goals as goal
 
 pub returns-then-is_at : goal.returns-then-is_at
 returns-then-is_at c =
@@ -32,9 +31,8 @@ returns-then-is_at-2 c =
 pub returns-in-Ok : goal.returns-in-Ok
 returns-in-Ok c =
     let numbers : List ℤ = map (λ (v : String Global × ℤ). v.1) c.args.values.now in
-    let places = c.as_slice-places.result.now in
-    let ordered : IsInOrder int_cmp (pos 0) numbers places =
-    rw c.as_slice-places.ensures.value c.requires.indexed in
+    let places = c.args.places.now in
+    let ordered = c.requires.indexed in
     let result : IsBinarySearchResult (λ p. int_cmp (get_or numbers p (pos 0)) c.args.number) places (Ok c.in-Ok.at) =
     c.in-Ok.ensures.position (λ p. int_cmp (get_or numbers p (pos 0)) c.args.number)
     (always_returns_same _ _ _ (λ a r q k. (search rules, search rules))) in
@@ -47,9 +45,8 @@ returns-in-Ok c =
 pub returns-in-Err : goal.returns-in-Err
 returns-in-Err c =
     let numbers : List ℤ = map (λ (v : String Global × ℤ). v.1) c.args.values.now in
-    let places = c.as_slice-places.result.now in
-    let ordered : IsInOrder int_cmp (pos 0) numbers places =
-    rw c.as_slice-places.ensures.value c.requires.indexed in
+    let places = c.args.places.now in
+    let ordered = c.requires.indexed in
     let result : IsBinarySearchResult (λ p. int_cmp (get_or numbers p (pos 0)) c.args.number) places
     (Err c.in-Err.field-0) = c.in-Err.ensures.position (λ p. int_cmp (get_or numbers p (pos 0)) c.args.number)
     (always_returns_same _ _ _ (λ a r q k. (search rules, search rules))) in
