@@ -1,11 +1,10 @@
 -- A layout as it is held.
 use Rattle.std.specs.Prelude.{ℕ, ◌≡◌, map, slice_index_or}
 use Rattle.std.specs.Option.{option_map}
-use Rattle.fb_schema.specs.Schema.{slots_in}
 use Rattle.fb_layout.specs.declared.layouts.Layout.TheInside.{Inside}
 use Rattle.fb_layout.specs.Laid.{LaidSchema}
 use Rattle.fb_layout.specs.Widths.{widest, table_align, greatest, most_slots}
-use Rattle.fb_layout.specs.Required.{required_numbers}
+use Rattle.fb_layout.specs.RequiredHeld.{HaveRequired}
 use Rattle.fb_layout.specs.WellMade.{IsWellMade}
 use Rattle.fb_layout.specs.Known.{sizes_seen, no_table, layout_known}
 
@@ -19,7 +18,6 @@ pub record IsLaid (l : Inside) : Type 0 where
   pub tables : (t : ℕ)
       → slice_index_or l.tables.items t no_table
       ≡ record { widest = widest (layout_seen l) t; align = table_align (layout_seen l) t }
-  pub required : map (λ numbers. numbers.items) l.required.items ≡ map (λ type. required_numbers (slots_in type.body))
-      (layout_seen l).schema.types
+  pub required : HaveRequired l.required (layout_seen l).schema.types
   pub greatest : l.greatest ≡ greatest (layout_seen l)
   pub most_slots : l.most_slots ≡ most_slots l.schema

@@ -6,6 +6,7 @@ pub mod WellMade
 pub mod Known
 pub mod Refused
 pub mod Required
+pub mod RequiredHeld
 pub mod Held
 pub mod OneLayout
 pub mod FaultTable

@@ -13,7 +13,7 @@ use crate::bodies::{most_slots, parts_at, slots_at};
 use crate::extents::{StructSizes, base_in, extent_of, offsets_in};
 use crate::faults::LayoutFault;
 use crate::greatest::greatest;
-use crate::required::required_of;
+use crate::required::RequiredSlots;
 use crate::structs::structs_of;
 use crate::tables::{TableSizes, tables_of};
 use fb_schema::{Base, FieldInfo, Kind, Schema, TypeId};
@@ -27,7 +27,7 @@ pub struct Layout {
     schema: Schema,
     structs: Vec<Option<StructSizes>>,
     tables: Vec<TableSizes>,
-    required: Vec<Vec<u16>>,
+    required: RequiredSlots,
     greatest: u16,
     most_slots: usize,
 }
@@ -64,7 +64,7 @@ pub fn lay(alloc: Global, schema: Schema) -> Result<Layout, (LayoutFault, Schema
         Ok(tables) => tables,
         Err(fault) => return Err((fault, schema)),
     };
-    let Ok(required) = required_of(alloc, &schema) else {
+    let Ok(required) = RequiredSlots::of(alloc, &schema) else {
         return Err((LayoutFault::Memory, schema));
     };
     let greatest = greatest(&schema, structs.as_slice());
@@ -101,10 +101,7 @@ impl Layout {
     pub fn required_slots(&self, table: TypeId) -> &[u16]
         ensures { result.now ≡ required_slots self.now table.0 }
     {
-        match self.required.get(table.0 as usize) {
-            Some(numbers) => numbers.as_slice(),
-            None => &[],
-        }
+        self.required.of_type(table)
     }
 
     /// The fields of a struct; none of another type.

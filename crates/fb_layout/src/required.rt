@@ -1,11 +1,11 @@
 //! The slots that tables must have.
-ghost use Rattle.std.specs.Prelude.{◌≡◌, ℕ, map, IfOk};
-ghost use Rattle.fb_schema.specs.Schema.{body_at, slots_in};
+ghost use Rattle.std.specs.Prelude.{◌≡◌, ◌≤◌, ℕ, List, length, map, slice_get, IfOk};
+ghost use Rattle.fb_schema.specs.Schema.{DeclaredType, body_at, body_in, slots_in};
 ghost use Rattle.fb_schema.specs.Seen.{field_seen};
 ghost use Rattle.fb_layout.specs.Required.{required_numbers, HaveSmallNumbers};
 
 use crate::bodies::slots_in;
-use fb_schema::{FieldInfo, Schema};
+use fb_schema::{FieldInfo, Schema, TypeId};
 use std::alloc::{AllocError, Global};
 
 /// The numbers of the slots that are required and not deprecated, in order.
@@ -22,16 +22,54 @@ fn required_in(alloc: Global, slots: &[FieldInfo]) -> Result<Vec<u16>, AllocErro
     Ok(numbers)
 }
 
-/// One entry for each type: the numbers of its required slots; none of a type that is no table.
-pub(crate) fn required_of(alloc: Global, schema: &Schema) -> Result<Vec<Vec<u16>>, AllocError>
-    requires { (t : ℕ) → HaveSmallNumbers (slots_in (body_at schema.now t)) }
-    ensures { IfOk result (λ r. map (λ numbers. numbers.items) r.items
-        ≡ map (λ type. required_numbers (slots_in type.body)) schema.now.types) }
-{
-    let types = schema.types();
-    let mut required = Vec::with_capacity(alloc, types.len())?;
-    for info in types {
-        required.push(required_in(alloc, slots_in(&info.body))?)?;
+/// The numbers of the required slots of all tables, table by table.
+#[derive(Drop)]
+pub(crate) struct RequiredSlots {
+    numbers: Vec<u16>,
+    // of each type where the numbers of its slots end
+    ends: Vec<usize>,
+}
+
+impl RequiredSlots {
+    ghost use Rattle.fb_layout.specs.RequiredHeld.{start_of, HaveRequired};
+
+    /// The required slots of a schema's tables. The only error is a refused allocation.
+    pub(crate) fn of(alloc: Global, schema: &Schema) -> Result<RequiredSlots, AllocError>
+        requires { (t : ℕ) → HaveSmallNumbers (slots_in (body_at schema.now t)) }
+        ensures { IfOk result (λ r. HaveRequired r schema.now.types) }
+    {
+        let types = schema.types();
+        let mut numbers = Vec::new(alloc);
+        let mut ends = Vec::with_capacity(alloc, types.len())?;
+        for info in types {
+            let more = required_in(alloc, slots_in(&info.body))?;
+            numbers.extend_from_slice(more.as_slice())?;
+            ends.push(numbers.len())?;
+        }
+        Ok(RequiredSlots { numbers, ends })
     }
-    Ok(required)
+
+    /// Where the numbers of a type begin.
+    fn start(&self, at: usize) -> usize
+        requires { at ≤ length self.now.ends.items }
+        ensures { result ≡ start_of self.now.ends.items at }
+    {
+        match at.checked_sub(1) {
+            Some(before) => self.ends[before],
+            None => 0,
+        }
+    }
+
+    /// The numbers of a table's required slots, in order; none of another type.
+    pub(crate) fn of_type(&self, table: TypeId) -> &[u16]
+        requires { (types : List DeclaredType) × HaveRequired self.now types }
+        ensures { (types : List DeclaredType) → HaveRequired self.now types
+            → result.now ≡ required_numbers (slots_in (body_in (slice_get types table.0))) }
+    {
+        let at = table.0 as usize;
+        let Some(end) = self.ends.get(at) else {
+            return &[];
+        };
+        &self.numbers[self.start(at)..*end]
+    }
 }

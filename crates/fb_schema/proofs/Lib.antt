@@ -6,6 +6,7 @@ pub mod DeclaredNames
 pub mod FoundPlaces
 pub mod NamesIndexed
 pub mod NumbersIndexed
+pub mod LastEntry
 pub mod Got
 pub mod NamedItems
 pub mod LastDot

@@ -1,5 +1,5 @@
 -- The numbers of a table's required slots.
-use Rattle.std.proofs.Common.{◌≡◌, ◌<◌, ◌≤◌, ℕ, zero, suc, ◌+◌, Bool, true, false, not, ◌&&◌, cond, List, [], ◌∷◌}
+use Rattle.std.proofs.Common.{◌≡◌, ◌<◌, ℕ, zero, suc, ◌+◌, Bool, true, false, not, ◌&&◌, cond, List, [], ◌∷◌}
 use Rattle.std.proofs.Common.{length, map, filter, Option, None, Some, slice_get, refl, ap, sym, ◌∙◌, arith}
 use Rattle.std.specs.List.{range_with_len}
 use Rattle.std.proofs.lemmas.List.{length-map}
@@ -74,29 +74,6 @@ numbers_required L declared t =
 
 -- ---- one list of numbers for each type
 
--- A list in front of two equal ones.
-same_front : {X : Type 0} (x y : X) (xs ys : List X) → x ∷ xs ≡ y ∷ ys → (x ≡ y) × (xs ≡ ys)
-same_front x y xs ys e = (cc, cc)
-
-pub numbers_at : {V : Type 0} (numbers : V → List ℕ) (xs : List V) (types : List DeclaredType) (t : ℕ) (x : V)
-    → map numbers xs ≡ map (λ type. required_numbers (slots_in type.body)) types → slice_get xs t ≡ Some x
-    → numbers x ≡ required_numbers (slots_in (body_in (slice_get types t)))
-numbers_at numbers [] types t x e at = cc
-numbers_at numbers (y ∷ xs) [] t x e at = cc
-numbers_at numbers (y ∷ xs) (type ∷ types) zero x e at = let same : y ≡ x = cc in
-    ap numbers (sym same) ∙ (same_front _ _ _ _ e).0
-numbers_at numbers (y ∷ xs) (type ∷ types) (suc t) x e at = numbers_at numbers xs types t x (same_front _ _ _ _ e).1 at
-
-pub no_numbers_at : {V : Type 0} (numbers : V → List ℕ) (xs : List V) (types : List DeclaredType) (t : ℕ)
-    → map numbers xs ≡ map (λ type. required_numbers (slots_in type.body)) types → slice_get xs t ≡ None
-    → [] ≡ required_numbers (slots_in (body_in (slice_get types t)))
-no_numbers_at numbers [] [] t e at = refl
-no_numbers_at numbers [] (type ∷ types) t e at = cc
-no_numbers_at numbers (y ∷ xs) [] t e at = cc
-no_numbers_at numbers (y ∷ xs) (type ∷ types) zero e at = cc
-no_numbers_at numbers (y ∷ xs) (type ∷ types) (suc t) e at =
-    no_numbers_at numbers xs types t (same_front _ _ _ _ e).1 at
-
 -- ---- the numbers fit 16 bits
 
 -- A place with an element is within the list.
@@ -104,12 +81,6 @@ within : {X : Type 0} (xs : List X) (k : ℕ) (x : X) → slice_get xs k ≡ Som
 within [] k x e = cc
 within (y ∷ ys) zero x e = omega arith
 within (y ∷ ys) (suc k) x e = let less = within ys k x e in omega (arith, less)
-
--- No element stands past the end.
-pub past : {X : Type 0} (xs : List X) (k : ℕ) → length xs ≤ k → slice_get xs k ≡ None
-past [] k long = refl
-past (x ∷ xs) zero long = absurd (omega (arith, long))
-past (x ∷ xs) (suc k) long = past xs k (omega (arith, long))
 
 pub small_numbers : (L : LaidSchema) → IsWellMade L → (t : ℕ) → HaveSmallNumbers (slots_in (body_at L.schema t))
 unfolding HaveNumbers

@@ -29,7 +29,7 @@ invariant_of-result c =
     record {
       made = subst IsWellMade same is.made;
       tables = rw (← same) is.tables;
-      required = c.in-Ok-required_of.ensures;
+      required = c.in-Ok-of.ensures;
       greatest = c.greatest-greatest.ensures ∙ ap (λ s. greatest (layout_known S (map (option_map sizes_seen) s)))
           c.as_slice-2.ensures.value;
       most_slots = c.most_slots-most_slots.ensures;
@@ -54,8 +54,8 @@ returns-in-Err-clause-exact c no_memory =
     (refused_for S c.tables_of.ensures.declared c.in-Err.fault (ap (λ k. tables_from S k 0 S.types) (sym seen)
     ∙ c.in-Err.ensures.fault no_memory))
 
-pub required_of-requires : goal.required_of-requires
-required_of-requires c =
+pub of-requires : goal.of-requires
+of-requires c =
     let S = c.args.schema in
     let seen : map (option_map sizes_seen) c.as_slice.result.now ≡ known_from S [] S.types =
     ap (map (option_map sizes_seen)) c.as_slice.ensures.value ∙ c.in-Ok.ensures in
