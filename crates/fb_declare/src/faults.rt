@@ -3,76 +3,41 @@ ghost use Rattle.std.specs.Prelude.{◌≡◌};
 ghost use Rattle.fb_declare.specs.declared.faults.SchemaFault.TheVariants.{Memory};
 
 use std::alloc::{AllocError, AllocFailed};
-use std::fmt;
 use thiserror::Error;
 
 /// The rule on declarations that fails, and the offset in bytes from the text's start.
 ///
 /// `Memory` is a refused allocation and no rule.
-#[derive(Clone, Copy, Drop, Error)]
+#[derive(Clone, Copy, Debug, PartialEq, Eq, Drop, Error)]
 pub enum SchemaFault {
+    #[error("the name at {0} occurs again, or may not be taken")]
     DuplicateName(u64),
+    #[error("the type at {0} isn't found")]
     UnknownType(u64),
+    #[error("the default at {0} isn't one of its field")]
     BadDefault(u64),
+    #[error("the ids of the table at {0} are not 0, 1 and so on")]
     BadIds(u64),
+    #[error("the struct at {0} isn't declared before")]
     IncompleteStruct(u64),
+    #[error("the struct at {0} has no field")]
     EmptyStruct(u64),
+    #[error("the attribute at {0} may not be there, or has a wrong value")]
     BadAttribute(u64),
+    #[error("the attribute at {0} isn't declared")]
     UnknownAttribute(u64),
+    #[error("what is at {0} isn't supported")]
     Unsupported(u64),
+    #[error("the enum value at {0} is out of range or occurs again")]
     BadEnumValue(u64),
+    #[error("the type at {0} may not be a member there")]
     BadMember(u64),
+    #[error("the root type at {0} is missing or no table")]
     BadRoot(u64),
+    #[error("the file identifier at {0} is not four printable bytes")]
     BadIdentifier(u64),
+    #[error("out of memory")]
     Memory,
-}
-
-impl SchemaFault {
-    // What is told of it before its offset, and behind it.
-    fn text(self) -> (&'static str, &'static str) {
-        match self {
-            SchemaFault::DuplicateName(_) => ("the name at ", " occurs again, or may not be taken"),
-            SchemaFault::UnknownType(_) => ("the type at ", " isn't found"),
-            SchemaFault::BadDefault(_) => ("the default at ", " isn't one of its field"),
-            SchemaFault::BadIds(_) => ("the ids of the table at ", " are not 0, 1 and so on"),
-            SchemaFault::IncompleteStruct(_) => ("the struct at ", " isn't declared before"),
-            SchemaFault::EmptyStruct(_) => ("the struct at ", " has no field"),
-            SchemaFault::BadAttribute(_) => (
-                "the attribute at ",
-                " may not be there, or has a wrong value",
-            ),
-            SchemaFault::UnknownAttribute(_) => ("the attribute at ", " isn't declared"),
-            SchemaFault::Unsupported(_) => ("what is at ", " isn't supported"),
-            SchemaFault::BadEnumValue(_) => (
-                "the enum value at ",
-                " is out of range or occurs again",
-            ),
-            SchemaFault::BadMember(_) => ("the type at ", " may not be a member there"),
-            SchemaFault::BadRoot(_) => ("the root type at ", " is missing or no table"),
-            SchemaFault::BadIdentifier(_) => (
-                "the file identifier at ",
-                " is not four printable bytes",
-            ),
-            SchemaFault::Memory => ("out of memory", ""),
-        }
-    }
-}
-
-impl fmt::Display for SchemaFault {
-    fn fmt<W: fmt::Write>(&self, f: &mut fmt::Formatter<W>) -> fmt::Result {
-        let (front, behind) = self.text();
-        match self.offset() {
-            Some(at) => write!(f, "{front}{at}{behind}"),
-            None => f.write_str(front),
-        }
-    }
-}
-
-// The sentence: a derived one takes the prover a step for each variant.
-impl fmt::Debug for SchemaFault {
-    fn fmt<W: fmt::Write>(&self, f: &mut fmt::Formatter<W>) -> fmt::Result {
-        fmt::Display::fmt(self, f)
-    }
 }
 
 impl From<AllocError> for SchemaFault {

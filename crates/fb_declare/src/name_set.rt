@@ -9,15 +9,9 @@ use indexmap::IndexSet;
 use std::alloc::{AllocError, Global};
 
 /// A set of names: those that a loop has met, or the attributes that a text declares.
+#[derive(Drop)]
 pub(crate) struct NameSet<'n> {
     names: IndexSet<&'n str, HashKey>,
-}
-
-// Written out, so that a proof has one step where a value falls out of scope, and not one for each of its parts.
-impl Drop for NameSet<'_> {
-    fn drop(self) {
-        let Self { names: _ } = self;
-    }
 }
 
 impl<'n> NameSet<'n> {

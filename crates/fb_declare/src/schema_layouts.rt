@@ -13,12 +13,11 @@ use fb_layout::{Layout, LayoutFault, lay};
 use fb_schema::TypeId;
 use fb_syntax::{SyntaxFault, parse};
 use std::alloc::Global;
-use std::fmt;
 use thiserror::Error;
 
 /// The refusal of the first layer that refuses a schema text: its tokens and grammar, its
 /// declarations, or the sizes of its types.
-#[derive(Clone, Copy, Drop, Error)]
+#[derive(Clone, Copy, Debug, PartialEq, Eq, Drop, Error)]
 pub enum SchemaTextFault {
     #[error(transparent)]
     Syntax(SyntaxFault),
@@ -26,13 +25,6 @@ pub enum SchemaTextFault {
     Schema(SchemaFault),
     #[error(transparent)]
     Layout(LayoutFault),
-}
-
-// The sentence: a derived one takes the prover a step for each variant.
-impl fmt::Debug for SchemaTextFault {
-    fn fmt<W: fmt::Write>(&self, f: &mut fmt::Formatter<W>) -> fmt::Result {
-        fmt::Display::fmt(self, f)
-    }
 }
 
 impl SchemaTextFault {
@@ -95,16 +87,7 @@ pub fn schema_of(alloc: Global, text: &[u8]) -> Result<Layout, SchemaTextFault>
     ensures exact { IfErr result (λ f. ¬ (IsWant f) → (L : LaidSchema) → ¬ (IsAccepted text.now L)) }
 {
     schema_laws();
-    let decls = match parse(alloc, text) {
-        Ok(decls) => decls,
-        Err(fault) => return Err(SchemaTextFault::Syntax(fault)),
-    };
-    let schema = match declare(alloc, &decls) {
-        Ok(schema) => schema,
-        Err(fault) => return Err(SchemaTextFault::Schema(fault)),
-    };
-    match lay(alloc, schema) {
-        Ok(layout) => Ok(layout),
-        Err((fault, _schema)) => Err(SchemaTextFault::Layout(fault)),
-    }
+    let decls = parse(alloc, text).map_err(SchemaTextFault::Syntax)?;
+    let schema = declare(alloc, &decls).map_err(SchemaTextFault::Schema)?;
+    lay(alloc, schema).map_err(|(fault, _schema)| SchemaTextFault::Layout(fault))
 }

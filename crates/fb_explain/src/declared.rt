@@ -92,12 +92,9 @@ fn has_default_at(field: &Field<'_>, offset: u64) -> bool
 fn field_with_default<'d, 't>(declared: &'d TypeDecl<'t>, offset: u64) -> Option<&'d Field<'t>>
     ensures { option_copied result ≡ find (has_default_at offset) (fields_of declared.now) }
 {
-    for field in fields_of(declared) {
-        if has_default_at(field, offset) {
-            return Some(field);
-        }
-    }
-    None
+    fields_of(declared)
+        .iter()
+        .find(|field| has_default_at(field, offset))
 }
 
 /// The field whose default is at an offset.
@@ -131,24 +128,17 @@ fn is_struct_with(declaration: &Declaration<'_>, offset: u64) -> bool
 pub(crate) fn is_in_a_struct(decls: &Decls<'_>, offset: u64) -> bool
     ensures { result ≡ list_any (is_struct_with offset) decls.now.declarations }
 {
-    for declaration in decls.declarations() {
-        if is_struct_with(declaration, offset) {
-            return true;
-        }
-    }
-    false
+    decls
+        .declarations()
+        .iter()
+        .any(|declaration| is_struct_with(declaration, offset))
 }
 
 /// Whether one of some members has its type at an offset.
 fn has_member_at(members: &[UnionMember<'_>], offset: u64) -> bool
     ensures { result ≡ list_any (is_member_at offset) members.now }
 {
-    for member in members {
-        if member.table.at() == offset {
-            return true;
-        }
-    }
-    false
+    members.iter().any(|member| member.table.at() == offset)
 }
 
 /// Whether a declaration is a union, one of whose members has its type at an offset.
@@ -167,24 +157,20 @@ fn is_union_with(declaration: &Declaration<'_>, offset: u64) -> bool
 pub(crate) fn is_in_a_union(decls: &Decls<'_>, offset: u64) -> bool
     ensures { result ≡ list_any (is_union_with offset) decls.now.declarations }
 {
-    for declaration in decls.declarations() {
-        if is_union_with(declaration, offset) {
-            return true;
-        }
-    }
-    false
+    decls
+        .declarations()
+        .iter()
+        .any(|declaration| is_union_with(declaration, offset))
 }
 
 /// Whether an enum has its underlying type at an offset.
 pub(crate) fn is_under_an_enum(decls: &Decls<'_>, offset: u64) -> bool {
-    for declaration in decls.declarations() {
-        if let Declaration::Type(TypeDecl::Enum(declared)) = declaration
-            && declared.underlying.at() == offset
-        {
-            return true;
-        }
-    }
-    false
+    decls.declarations().iter().any(|declaration| {
+        matches!(
+            declaration,
+            Declaration::Type(TypeDecl::Enum(declared)) if declared.underlying.at() == offset
+        )
+    })
 }
 
 /// The names of the values of each enum of this name, whatever their namespaces.

@@ -82,10 +82,11 @@ impl Places {
     /// The line in which a table's or struct's field is named.
     pub(crate) fn line_of_field(&self, owner: TypeId, slot: u64) -> Option<usize> {
         let found = self.types.get(owner.0 as usize)?;
-        let at = match found.fields.get(slot as usize) {
-            Some(at) => *at,
-            None => found.name,
-        };
+        let at = found
+            .fields
+            .get(slot as usize)
+            .copied()
+            .unwrap_or(found.name);
         Some(self.starts.line_of(at as usize))
     }
 }

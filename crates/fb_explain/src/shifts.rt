@@ -33,16 +33,13 @@ impl Shift {
     }
 }
 
-/// How many fields have the same names in both lists, from the front on.
-fn front_len(fields: &[FieldInfo], others: &[FieldInfo]) -> usize {
-    let mut len = 0usize;
-    for (field, other) in fields.iter().zip(others) {
-        if field.name != other.name {
-            break;
-        }
-        len = len.saturating_add(1);
-    }
-    len
+/// Whether all fields of the first list are called like those that the second begins with.
+fn begin_alike(fields: &[FieldInfo], others: &[FieldInfo]) -> bool {
+    fields.len() <= others.len()
+        && fields
+            .iter()
+            .zip(others)
+            .all(|(field, other)| field.name == other.name)
 }
 
 fn rest_of(fields: &[FieldInfo], from: usize) -> &[FieldInfo] {
@@ -52,8 +49,7 @@ fn rest_of(fields: &[FieldInfo], from: usize) -> &[FieldInfo] {
 /// Which so many slots were removed or inserted, from the first that has another name on.
 fn shift_by(old: &[FieldInfo], new: &[FieldInfo], first: usize, count: usize) -> Option<Shift> {
     let behind = first.saturating_add(count);
-    let left = rest_of(old, behind);
-    if !left.is_empty() && front_len(left, rest_of(new, first)) == left.len() {
+    if behind < old.len() && begin_alike(rest_of(old, behind), rest_of(new, first)) {
         let end = old.len();
         return Some(Shift {
             change: Change::Removed,
@@ -62,8 +58,7 @@ fn shift_by(old: &[FieldInfo], new: &[FieldInfo], first: usize, count: usize) ->
             end,
         });
     }
-    let left = rest_of(old, first);
-    if front_len(left, rest_of(new, behind)) == left.len() {
+    if begin_alike(rest_of(old, first), rest_of(new, behind)) {
         let end = old.len().saturating_add(count);
         return Some(Shift {
             change: Change::Inserted,
@@ -77,17 +72,11 @@ fn shift_by(old: &[FieldInfo], new: &[FieldInfo], first: usize, count: usize) ->
 
 /// Which slots were removed or inserted, where that is the only change of order.
 fn shift_of(old: &[FieldInfo], new: &[FieldInfo]) -> Option<Shift> {
-    let first = front_len(old, new);
-    if first >= old.len().min(new.len()) {
-        return None;
-    }
-    for count in 1..=MOST {
-        let shift = shift_by(old, new, first, count);
-        if shift.is_some() {
-            return shift;
-        }
-    }
-    None
+    let first = old
+        .iter()
+        .zip(new)
+        .position(|(was, is)| was.name != is.name)?;
+    (1..=MOST).find_map(|count| shift_by(old, new, first, count))
 }
 
 /// The shift of the table that breaches are listed of, which is told once.
@@ -112,10 +101,7 @@ impl Shifts {
         {
             return shift;
         }
-        let shift = match sides.twin(old) {
-            Some(twin) => sides.shift(twin),
-            None => None,
-        };
+        let shift = sides.twin(old).and_then(|twin| sides.shift(twin));
         self.found = Some((old, shift));
         self.is_told = false;
         shift

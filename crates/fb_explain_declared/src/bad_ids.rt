@@ -80,22 +80,15 @@ impl<'s> Owners<'s> {
     }
 
     fn first_free(&self) -> Option<u64> {
-        for (slot, name) in self.names.iter().enumerate() {
-            if name.is_none() {
-                return Some(slot as u64);
-            }
-        }
-        None
+        let slot = self.names.iter().position(|name| name.is_none())?;
+        Some(slot as u64)
     }
 }
 
 /// How many slots a table's fields take.
 fn slot_count(fields: &[ResolvedField<'_, '_>]) -> usize {
-    let mut count = 0usize;
-    for field in fields {
-        count = count.saturating_add(if union_in(field).is_some() { 2 } else { 1 });
-    }
-    count
+    let unions = fields.iter().filter(|field| union_in(field).is_some());
+    fields.len().saturating_add(unions.count())
 }
 
 /// The field that has one of the slots of another already, with the slot; if none has, they are that one's.
@@ -129,17 +122,14 @@ fn least_behind<'f, 'd, 's>(
             least = Some((first, field));
         }
     }
-    Some(least?.1)
+    least.map(|(_, field)| field)
 }
 
 /// The first field whose id is wrong alone.
 fn first_alone<'s>(fields: &[ResolvedField<'_, 's>]) -> Option<WrongId<'s>> {
-    for field in fields {
-        if let Some(wrong) = wrong_alone(field) {
-            return Some(WrongId::of(field, wrong));
-        }
-    }
-    None
+    fields
+        .iter()
+        .find_map(|field| Some(WrongId::of(field, wrong_alone(field)?)))
 }
 
 /// The first field whose id is that of a slot which one before it has; if there is none, who has which.
@@ -147,12 +137,9 @@ fn first_taken<'s>(
     fields: &[ResolvedField<'_, 's>],
     owners: &mut Owners<'s>,
 ) -> Option<WrongId<'s>> {
-    for field in fields {
-        if let Some(wrong) = taken(owners, field) {
-            return Some(WrongId::of(field, wrong));
-        }
-    }
-    None
+    fields
+        .iter()
+        .find_map(|field| Some(WrongId::of(field, taken(owners, field)?)))
 }
 
 /// The field whose id is wrong beside the others'.
@@ -223,14 +210,12 @@ fn table_at<'r, 't, 'd, 's>(
     types: &'r [ResolvedType<'t, 'd, 's>],
     offset: u64,
 ) -> Option<&'r ResolvedTable<'d, 's>> {
-    for declared in types {
-        if let ResolvedDecl::Table(table) = &declared.declaration
-            && word_of(table).1 == offset
-        {
-            return Some(table);
-        }
-    }
-    None
+    types
+        .iter()
+        .find_map(|declared| match &declared.declaration {
+            ResolvedDecl::Table(table) if word_of(table).1 == offset => Some(table),
+            _ => None,
+        })
 }
 
 /// Adds the field whose id is wrong in a table, and why.

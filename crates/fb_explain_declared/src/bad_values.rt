@@ -23,12 +23,7 @@ fn named<'s>(value: &ResolvedValue<'_, 's>) -> ValueName<'s> {
 
 /// The place among some values of the one at an offset.
 fn place_of(values: &[ResolvedValue<'_, '_>], offset: u64) -> Option<usize> {
-    for (at, value) in values.iter().enumerate() {
-        if named(value).at == offset {
-            return Some(at);
-        }
-    }
-    None
+    values.iter().position(|value| named(value).at == offset)
 }
 
 /// The values of the enum that has one at an offset, and its place among them.
@@ -36,25 +31,21 @@ fn values_around<'r, 't, 'd, 's>(
     types: &'r [ResolvedType<'t, 'd, 's>],
     offset: u64,
 ) -> Option<(&'t EnumValues<'d, 's>, usize)> {
-    for declared in types {
-        if let ResolvedDecl::Enum(found) = &declared.declaration {
-            let values = found.values;
-            if let Some(at) = place_of(values.values.as_slice(), offset) {
-                return Some((values, at));
+    types
+        .iter()
+        .find_map(|declared| match &declared.declaration {
+            ResolvedDecl::Enum(found) => {
+                let values = found.values;
+                Some((values, place_of(values.values.as_slice(), offset)?))
             }
-        }
-    }
-    None
+            _ => None,
+        })
 }
 
 /// The name of the first of some values that has a number.
 fn first_name<'s>(values: &[ResolvedValue<'_, 's>], number: i128) -> &'s str {
-    for value in values {
-        if value.number == number {
-            return named(value).name;
-        }
-    }
-    "?"
+    let first = values.iter().find(|value| value.number == number);
+    first.map_or("?", |value| named(value).name)
 }
 
 /// The bits that flags over a type have.

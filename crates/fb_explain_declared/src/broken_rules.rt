@@ -13,7 +13,7 @@ use fb_syntax::Decls;
 use std::str;
 
 /// A rule on declarations.
-#[derive(Clone, Copy)]
+#[derive(Clone, Copy, Debug, PartialEq, Eq)]
 pub enum Rule {
     /// No name is declared twice.
     NamesOnce,

@@ -17,21 +17,15 @@ fn is_before(name: &Text<'_>, spelling: &str, offset: u64) -> bool {
 }
 
 fn first_field(fields: &[Field<'_>], spelling: &str, offset: u64) -> Option<u64> {
-    for field in fields {
-        if is_before(&field.name, spelling, offset) {
-            return Some(field.name.at);
-        }
-    }
-    None
+    let mut names = fields.iter().map(|field| &field.name);
+    let first = names.find(|name| is_before(name, spelling, offset))?;
+    Some(first.at)
 }
 
 fn first_value(values: &[EnumValue<'_>], spelling: &str, offset: u64) -> Option<u64> {
-    for value in values {
-        if is_before(&value.name, spelling, offset) {
-            return Some(value.name.at);
-        }
-    }
-    None
+    let mut names = values.iter().map(|value| &value.name);
+    let first = names.find(|name| is_before(name, spelling, offset))?;
+    Some(first.at)
 }
 
 /// The name of a union's member where it has one of its own, else its table's, and the name's offset.
@@ -43,13 +37,9 @@ fn member_name<'d>(member: &'d UnionMember<'_>) -> (&'d str, u64) {
 }
 
 fn first_member(members: &[UnionMember<'_>], spelling: &str, offset: u64) -> Option<u64> {
-    for member in members {
-        let (name, at) = member_name(member);
-        if name == spelling && at < offset {
-            return Some(at);
-        }
-    }
-    None
+    let mut names = members.iter().map(member_name);
+    let (_, at) = names.find(|(name, at)| *name == spelling && *at < offset)?;
+    Some(at)
 }
 
 /// The last type whose name isn't behind an offset.
@@ -57,13 +47,9 @@ fn type_around<'o, 'd, 's>(
     types: &'o [TypeRead<'d, 's>],
     offset: u64,
 ) -> Option<&'o TypeRead<'d, 's>> {
-    let mut around = None;
-    for read in types {
-        if word_of(read.declaration).at <= offset {
-            around = Some(read);
-        }
-    }
-    around
+    types
+        .iter()
+        .rfind(|read| word_of(read.declaration).at <= offset)
 }
 
 /// The offset of the first field, value or member of this name in a type, before an offset.
@@ -80,13 +66,10 @@ fn first_inside(declared: &TypeDecl<'_>, spelling: &str, offset: u64) -> Option<
 /// The offset of the first type with the full name of another.
 fn first_type(types: &[TypeRead<'_, '_>], again: &TypeRead<'_, '_>) -> Option<u64> {
     let word = word_of(again.declaration);
-    for read in types {
-        let found = word_of(read.declaration);
-        if read.scope == again.scope && is_before(found, word.text, word.at) {
-            return Some(found.at);
-        }
-    }
-    None
+    let first = types.iter().find(|read| {
+        read.scope == again.scope && is_before(word_of(read.declaration), word.text, word.at)
+    })?;
+    Some(word_of(first.declaration).at)
 }
 
 /// The offset of the first declaration of a name that is declared again at an offset.

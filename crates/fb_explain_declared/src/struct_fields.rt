@@ -102,24 +102,16 @@ fn is_named_at(resolved: &ResolvedField<'_, '_>, offset: u64) -> bool {
 
 /// The struct of the field of a struct whose type is named at an offset.
 fn struct_named_at(declared: &ResolvedStruct<'_, '_>, offset: u64) -> Option<usize> {
-    for field in declared.fields.iter() {
-        if is_named_at(field, offset) {
-            return struct_of(field);
-        }
-    }
-    None
+    let mut fields = declared.fields.iter();
+    struct_of(fields.find(|field| is_named_at(field, offset))?)
 }
 
 /// The numbers of a struct and of the struct that one of its fields is of, whose type is named at an offset.
 fn numbers_at(types: &[ResolvedType<'_, '_, '_>], offset: u64) -> Option<(usize, usize)> {
-    for number in 0..types.len() {
-        if let Some(declared) = struct_at(types, number)
-            && let Some(inner) = struct_named_at(declared, offset)
-        {
-            return Some((number, inner));
-        }
-    }
-    None
+    (0..types.len()).find_map(|number| {
+        let inner = struct_named_at(struct_at(types, number)?, offset)?;
+        Some((number, inner))
+    })
 }
 
 /// Why the struct that is named at an offset can't be the type of the struct's field there.

@@ -37,13 +37,10 @@ const FOREIGN: &[(&str, &str)] = &[
 
 /// The namespace in force at an offset among types.
 fn scope_at<'d>(types: &[TypeRead<'d, '_>], offset: u64) -> Option<&'d str> {
-    let mut scope = None;
-    for read in types {
-        if word_of(read.declaration).at <= offset {
-            scope = read.scope;
-        }
-    }
-    scope
+    let mut types = types.iter();
+    types
+        .rfind(|read| word_of(read.declaration).at <= offset)?
+        .scope
 }
 
 /// The namespace in force at the offset of a name of a type.
@@ -61,10 +58,9 @@ fn is_seen(home: Option<&str>, scope: Option<&str>) -> bool {
     match (home, scope) {
         (None, _) => true,
         (Some(_), None) => false,
-        (Some(home), Some(scope)) => match scope.strip_prefix(home) {
-            Some(rest) => rest.is_empty() || rest.starts_with('.'),
-            None => false,
-        },
+        (Some(home), Some(scope)) => scope
+            .strip_prefix(home)
+            .is_some_and(|rest| rest.is_empty() || rest.starts_with('.')),
     }
 }
 
@@ -128,7 +124,7 @@ fn meant<'n>(
     words: &[&'n str],
     wanted: &str,
 ) -> Option<&'n str> {
-    let by_name = if wanted.as_bytes().contains(&b'.') {
+    let by_name = if wanted.contains('.') {
         nearest(page, whole, wanted)
     } else {
         None
@@ -137,10 +133,7 @@ fn meant<'n>(
         Some(at) => at,
         None => nearest(page, words, last_word(wanted))?,
     };
-    match whole.get(at) {
-        Some(name) => Some(*name),
-        None => words.get(at).copied(),
-    }
+    whole.get(at).or(words.get(at)).copied()
 }
 
 /// Adds the type that was meant by a name, else the few that there are.

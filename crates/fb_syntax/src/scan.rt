@@ -156,9 +156,9 @@ pub(crate) fn tokens_in(alloc: Global, text: &str) -> Result<Vec<Token>, SyntaxF
     let mut found = Vec::new(alloc);
     let mut at = mark_len(bytes);
     while at < bytes.len() {
-        match next_piece(at as u64, &bytes[at..]) {
-            Ok(Piece::Gap(len)) => at += len,
-            Ok(Piece::Token(kind, len)) => {
+        match next_piece(at as u64, &bytes[at..])? {
+            Piece::Gap(len) => at += len,
+            Piece::Token(kind, len) => {
                 let token = Token {
                     kind,
                     at: at as u64,
@@ -167,7 +167,6 @@ pub(crate) fn tokens_in(alloc: Global, text: &str) -> Result<Vec<Token>, SyntaxF
                 found.push(token).or(Err(SyntaxFault::Memory))?;
                 at += len;
             }
-            Err(fault) => return Err(fault),
         }
     }
     Ok(found)
