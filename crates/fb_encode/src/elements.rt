@@ -9,7 +9,7 @@ ghost use Rattle.fb_json.specs.Outcome.{Fails};
 ghost use Rattle.fb_build.specs.Fields.{IsElement, is_reference};
 ghost use Rattle.fb_encode.specs.TreesNoted.{AddsInline, AreElementsAdded, IsElementAdded, IsNoted, vector_given};
 
-use fb_json::{JsonFault, Place, Source, number_of, struct_parts};
+use fb_json::{JsonFault, Place, Room, Source, number_of, struct_parts};
 use fb_schema::Kind;
 use fb_tape::Tape;
 use fb_value::Value;
@@ -124,7 +124,8 @@ fn push_next(
     let Kind::Struct(structure) = kind else {
         unreachable!();
     };
-    let left = struct_parts(source, element, structure, place, levels, left, parts)?;
+    let room = Room { levels, left };
+    let left = struct_parts(source, element, structure, place, room, parts)?;
     tape.push_struct(structure, parts.as_slice())?;
     Ok(left)
 }

@@ -19,7 +19,7 @@ ghost use Rattle.fb_encode.specs.TreesNoted.{IsEntryNoted, IsPart, IsSlot};
 use crate::elements::drop_number;
 use crate::parts::{note_object, note_part};
 use fb_build::{Noting, is_default};
-use fb_json::{JsonFault, Place, Source, is_null, number_of, struct_parts, without};
+use fb_json::{JsonFault, Place, Room, Source, is_null, number_of, struct_parts, without};
 use fb_schema::{FieldInfo, Kind, Shape, TypeId};
 use fb_tape::OpenFields;
 use fb_value::Value;
@@ -155,7 +155,8 @@ fn note_struct(
 {
     let mut parts = Vec::new(source.alloc);
     let place = slot.place();
-    let left = struct_parts(source, tree, structure, place, levels, left, &mut parts)?;
+    let room = Room { levels, left };
+    let left = struct_parts(source, tree, structure, place, room, &mut parts)?;
     opened.push_struct(source.layout, slot.number, structure, parts.as_slice())?;
     Ok(left)
 }

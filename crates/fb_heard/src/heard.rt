@@ -8,6 +8,7 @@ ghost use Rattle.fb_heard.specs.declared.heard.TakeFault.TheVariants.{TooLong};
 
 use std::alloc::{AllocError, Global};
 use std::io::{self, Read};
+use thiserror::Error;
 
 // For how many bytes room is made: as many as there are already, and at least and at most so many. What is read into is
 // set to zero first, which a short file shouldn't pay for.
@@ -16,13 +17,15 @@ const LEAST_ROOM: usize = 4_096;
 const MOST_ROOM: usize = 65_536;
 
 /// Why the bytes of a reader can't be had.
-#[derive(Drop)]
+#[derive(Debug, Drop, Error)]
 pub enum TakeFault {
     /// A read failed.
+    #[error("a read failed: {0}")]
     Failed(io::Error),
     /// There are more bytes than may come.
+    #[error("there are more bytes than may come")]
     TooLong,
-    /// Memory ran out.
+    #[error("out of memory")]
     Memory,
 }
 
@@ -80,7 +83,7 @@ impl<R: Read> Read for Heard<R> {
     }
 }
 
-/// Makes room behind the first `filled` bytes, which stay.
+/// Makes room after the first `filled` bytes, which stay.
 fn make_room(found: &mut Vec<u8>, filled: usize) -> Result<(), AllocError>
     requires within { filled ≤ length found.old.items }
     requires few { filled ≤ 4294967295 }
@@ -93,7 +96,7 @@ fn make_room(found: &mut Vec<u8>, filled: usize) -> Result<(), AllocError>
     Ok(())
 }
 
-/// One read, behind the first `filled` bytes, which stay.
+/// One read, after the first `filled` bytes, which stay.
 fn read_behind<R: Read>(
     from: &mut Heard<R>,
     found: &mut Vec<u8>,
@@ -130,9 +133,7 @@ pub fn take_all<R: Read>(
     let mut found = Vec::new(alloc);
     let mut filled = 0usize;
     for _ in 0..limit + 2 {
-        let Ok(()) = make_room(&mut found, filled) else {
-            return Err(TakeFault::Memory);
-        };
+        make_room(&mut found, filled).map_err(|_| TakeFault::Memory)?;
         match read_behind(from, &mut found, filled) {
             Ok(0) => {
                 found.truncate(filled);

@@ -99,8 +99,5 @@ pub fn without(
 pub fn is_null(tree: &Json) -> bool
     ensures { result ≡ is_null (tree_view tree.now) }
 {
-    match tree {
-        Json::Null => true,
-        _ => false,
-    }
+    matches!(tree, Json::Null)
 }

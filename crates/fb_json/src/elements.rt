@@ -19,6 +19,7 @@ use crate::scalars::{enum_of, scalar_of};
 use crate::source::Source;
 use crate::structs::struct_of;
 use crate::trail::Trail;
+use fb_layout::layout_is_well_made;
 use fb_schema::{Kind, TypeId};
 use fb_value::Value;
 use serde_json::Value as Json;
@@ -29,23 +30,21 @@ pub fn struct_parts(
     tree: &Json,
     owner: TypeId,
     place: Place,
-    levels: u8,
-    left: u32,
+    room: Room,
     parts: &mut Vec<Value>,
 ) -> Result<u32, JsonFault>
     ensures gives { Gives (λ rest. (a_struct (parts_view parts.new.items), rest)) result
         (meant source.entry.layout.now source.entry.unknown (tree_view tree.now) (One (Struct owner))
-        place levels left) }
+        place room.levels room.left) }
     ensures fits { let L = source.entry.layout.now in
         OnOk result (Fits L (stored_shape L.schema (One (Struct owner))) (a_struct (parts_view parts.new.items))) }
     ensures whole { OnOk result (is_whole (a_struct (parts_view parts.new.items)) ≡ true) }
 {
-    let _schema = source.layout.schema(); // its contract: what each enum names is in its range
+    layout_is_well_made(source.layout);
     parts.clear();
     let Some(members) = tree.as_object() else {
         return Err(JsonFault::WrongShape(place));
     };
-    let room = Room { levels, left };
     let left = struct_of(source, &mut Trail::unkept(), members, owner, room, parts)?;
     Ok(left)
 }
@@ -68,7 +67,7 @@ pub fn number_of(
         → front_of L source.entry.unknown (tree_spot (tree_view tree.now) (One kind) place levels left)
         ≡ rest_of (meant L source.entry.unknown (tree_view tree.now) (One kind) place levels left)) }
 {
-    let _schema = source.layout.schema(); // its contract: what each enum names is in its range
+    layout_is_well_made(source.layout);
     match kind {
         Kind::Scalar(base) => Some(scalar_of(base, tree, place)),
         Kind::Enum(enumeration) => Some(enum_of(source.layout, enumeration, tree, place)),

@@ -22,6 +22,14 @@ use fb_schema::{FieldInfo, Kind, Shape, TypeId};
 use fb_value::Value;
 use serde_json::Value as Json;
 
+/// A slot of a table, its place, and the code of the union whose value it has.
+#[derive(Clone, Copy)]
+pub(crate) struct TableSlot<'s> {
+    pub field: &'s FieldInfo,
+    pub place: Place,
+    pub code: u8,
+}
+
 /// The entry of a slot whose member is this tree, or which has none.
 #[inline(always)]
 #[cycle(tree)]
@@ -29,27 +37,25 @@ use serde_json::Value as Json;
 pub(crate) fn entry(
     source: Source,
     trail: &mut Trail,
-    slot: &FieldInfo,
+    slot: TableSlot<'_>,
     tree: Option<&Json>,
-    place: Place,
-    code: u8,
     room: Room,
 ) -> Result<(Option<Value>, u32), JsonFault>
-    ensures gives { (seen : Look) → let L = source.entry.layout.now in let f = field_seen slot.now in
+    ensures gives { (seen : Look) → let L = source.entry.layout.now in let f = field_seen slot.entry.field.now in
         seen f.name ≡ looked_up L source.entry.unknown tree.entry →
         Gives (λ x. (option_map view x.0, x.1)) result
-        (entry_meant L seen f place code room.levels room.left) }
-    ensures trail { (seen : Look) → let L = source.entry.layout.now in let f = field_seen slot.now in
+        (entry_meant L seen f slot.entry.place slot.entry.code room.levels room.left) }
+    ensures trail { (seen : Look) → let L = source.entry.layout.now in let f = field_seen slot.entry.field.now in
         seen f.name ≡ looked_up L source.entry.unknown tree.entry →
         Trails result trail.old trail.new (IsFirstAt L source.entry.unknown
-        (entry_spot L seen f place code room.levels room.left)) }
+        (entry_spot L seen f slot.entry.place slot.entry.code room.levels room.left)) }
 {
-    if slot.deprecated {
+    if slot.field.deprecated {
         return Ok((None, room.left));
     }
     match tree {
-        Some(tree) if !is_null(tree) => with_tree(source, trail, slot, tree, place, code, room),
-        _ => without(slot, place, code, room.left),
+        Some(tree) if !is_null(tree) => with_tree(source, trail, slot, tree, room),
+        _ => without(slot.field, slot.place, slot.code, room.left),
     }
 }
 
@@ -60,27 +66,25 @@ pub(crate) fn entry(
 fn with_tree(
     source: Source,
     trail: &mut Trail,
-    slot: &FieldInfo,
+    slot: TableSlot<'_>,
     tree: &Json,
-    place: Place,
-    code: u8,
     room: Room,
 ) -> Result<(Option<Value>, u32), JsonFault>
-    ensures gives { let L = source.entry.layout.now in let f = field_seen slot.now in
+    ensures gives { let L = source.entry.layout.now in let f = field_seen slot.entry.field.now in
         Gives (λ x. (option_map view x.0, x.1)) result
-        (used_meant L f code (Some (meant L source.entry.unknown (tree_view tree.now)))
-        place room.levels room.left f.shape) }
-    ensures trail { let L = source.entry.layout.now in let f = field_seen slot.now in
+        (used_meant L f slot.entry.code (Some (meant L source.entry.unknown (tree_view tree.now)))
+        slot.entry.place room.levels room.left f.shape) }
+    ensures trail { let L = source.entry.layout.now in let f = field_seen slot.entry.field.now in
         let t = tree_view tree.now in let m = meant L source.entry.unknown t in
         Trails result trail.old trail.new (IsFirstAt L source.entry.unknown
-        (shaped_spot t (read_shape L code f.shape) place room.levels room.left
-        (rest_of (used_meant L f code (Some m) place room.levels room.left f.shape)))) }
+        (shaped_spot t (read_shape L slot.entry.code f.shape) slot.entry.place room.levels room.left
+        (rest_of (used_meant L f slot.entry.code (Some m) slot.entry.place room.levels room.left f.shape)))) }
 {
-    match slot.shape {
+    match slot.field.shape {
         Shape::One(Kind::Code(_)) => Ok((None, room.left)),
-        Shape::One(Kind::Union(union)) => member(source, trail, union, tree, place, code, room),
+        Shape::One(Kind::Union(union)) => member(source, trail, union, slot, tree, room),
         shape => {
-            let (value, left) = value(source, trail, tree, shape, place, room)?;
+            let (value, left) = value(source, trail, tree, shape, slot.place, room)?;
             Ok((Some(value), left))
         }
     }
@@ -92,25 +96,26 @@ fn member(
     source: Source,
     trail: &mut Trail,
     union: TypeId,
+    slot: TableSlot<'_>,
     tree: &Json,
-    place: Place,
-    code: u8,
     room: Room,
 ) -> Result<(Option<Value>, u32), JsonFault>
     ensures gives { let L = source.entry.layout.now in
         Gives (λ x. (option_map view x.0, x.1)) result
-        (as_member code (member_by_code L union.0 code)
-        (meant L source.entry.unknown (tree_view tree.now)) place room.levels room.left) }
-    ensures trail { let L = source.entry.layout.now in let table = member_by_code L union.0 code in
+        (as_member slot.entry.code (member_by_code L union.0 slot.entry.code)
+        (meant L source.entry.unknown (tree_view tree.now)) slot.entry.place room.levels room.left) }
+    ensures trail { let L = source.entry.layout.now in let code = slot.entry.code in
+        let table = member_by_code L union.0 code in
         let t = tree_view tree.now in Trails result trail.old trail.new (IsFirstAt L source.entry.unknown
-        (shaped_spot t (option_map (λ t. One (Table (record { 0 = t }))) table) place room.levels room.left
-        (rest_of (as_member code table (meant L source.entry.unknown t) place room.levels room.left)))) }
+        (shaped_spot t (option_map (λ t. One (Table (record { 0 = t }))) table) slot.entry.place room.levels
+        room.left
+        (rest_of (as_member code table (meant L source.entry.unknown t) slot.entry.place room.levels room.left)))) }
 {
-    let Some(table) = source.layout.schema().member_by_code(union, code) else {
-        return Err(JsonFault::UnionMismatch(place));
+    let Some(table) = source.layout.schema().member_by_code(union, slot.code) else {
+        return Err(JsonFault::UnionMismatch(slot.place));
     };
     let shape = Shape::One(Kind::Table(table));
-    let (value, left) = value(source, trail, tree, shape, place, room)?;
-    let member = Value::Member(code, Box::new(source.alloc, value)?);
+    let (value, left) = value(source, trail, tree, shape, slot.place, room)?;
+    let member = Value::Member(slot.code, Box::new(source.alloc, value)?);
     Ok((Some(member), left))
 }

@@ -34,6 +34,7 @@ pub use laws::{
 };
 pub use leaves::text_of;
 pub use paths::fault_path;
+pub use room::Room;
 pub use root::value_of;
 pub use slot_members::{SlotMembers, members_by_slot};
 pub use source::Source;

@@ -23,23 +23,13 @@ const FEW: usize = 16;
 
 /// The members of a table by its slots, or of a struct by its fields. Those of few slots stand in places that take no
 /// memory.
+#[derive(Drop)]
 pub struct SlotMembers<'t> {
     slots: usize,
     // The places beyond the slots have no member.
     few: [Option<&'t Json>; 16],
     // Those of more slots.
     many: NumberedMembers<'t>,
-}
-
-// Written out, so that a proof has one step where a value falls out of scope, and not one for each of its parts.
-impl Drop for SlotMembers<'_> {
-    fn drop(self) {
-        let Self {
-            slots: _,
-            few: _,
-            many: _,
-        } = self;
-    }
 }
 
 impl<'t> Model for SlotMembers<'t> {

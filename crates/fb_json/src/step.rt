@@ -2,7 +2,7 @@
 use fb_schema::TypeId;
 
 /// A step of a path from the root of a JSON tree to a place in it.
-#[derive(Clone, Copy)]
+#[derive(Clone, Copy, Debug, PartialEq, Eq)]
 pub enum Step {
     /// From an object that is a table of this type to the member of this slot, which may be absent.
     Slot(TypeId, u16),

@@ -69,8 +69,16 @@ pub(crate) fn struct_of(
     let fields = source.layout.parts_of(owner);
     let mut trees = SlotMembers::new(source.alloc);
     members_by_slot(source, owner, fields, members, &mut trees)?;
-    let left = parts(source, trail, &trees, owner, fields, room, found)?;
+    let structure = StructType { owner, fields };
+    let left = parts(source, trail, &trees, structure, room, found)?;
     Ok(left)
+}
+
+/// A struct's type, and its fields.
+#[derive(Clone, Copy)]
+struct StructType<'s> {
+    owner: TypeId,
+    fields: &'s [FieldInfo],
 }
 
 /// The parts of a struct whose fields have these members.
@@ -79,22 +87,24 @@ fn parts(
     source: Source,
     trail: &mut Trail,
     trees: &SlotMembers<'_>,
-    owner: TypeId,
-    fields: &[FieldInfo],
+    structure: StructType<'_>,
     room: Room,
     found: &mut Vec<Value>,
 ) -> Result<u32, JsonFault>
-    requires few { length fields.now ≤ 65535 }
-    requires all { length trees.now ≡ length fields.now }
+    requires few { length structure.fields.now ≤ 65535 }
+    requires all { length trees.now ≡ length structure.fields.now }
     requires none { found.old.items ≡ [] }
-    ensures gives { (ms : Members) → AreMembersOf trees.now (map field_seen fields.now) ms →
+    ensures gives { (ms : Members) → AreMembersOf trees.now (map field_seen structure.entry.fields.now) ms →
         let L = source.entry.layout.now in Gives (λ left. (map view found.new.items, left)) result
-        (parts_meant (look L source.entry.unknown ms) owner.0 (map field_seen fields.now) 0 room.levels room.left) }
-    ensures trail { (ms : Members) → AreMembersOf trees.now (map field_seen fields.now) ms →
+        (parts_meant (look L source.entry.unknown ms) structure.entry.owner.0
+        (map field_seen structure.entry.fields.now) 0 room.levels room.left) }
+    ensures trail { (ms : Members) → AreMembersOf trees.now (map field_seen structure.entry.fields.now) ms →
         let L = source.entry.layout.now in Trails result trail.old trail.new
         (IsFirstIn L source.entry.unknown
-        (ToField (look L source.entry.unknown ms) owner (map field_seen fields.now) room.levels room.left)) }
+        (ToField (look L source.entry.unknown ms) structure.entry.owner
+        (map field_seen structure.entry.fields.now) room.levels room.left)) }
 {
+    let StructType { owner, fields } = structure;
     found.reserve(fields.len())?;
     let mut left = room.left;
     for (k, field) in fields.iter().enumerate() {

@@ -14,7 +14,7 @@ ghost use Rattle.fb_json.specs.SlotMembers.{AreMembersOf};
 
 use crate::absent::{default_of, is_absent};
 use crate::codes::code_of_slot;
-use crate::entries::entry;
+use crate::entries::{TableSlot, entry};
 use crate::faults::{JsonFault, Place};
 use crate::room::Room;
 use crate::slot_members::{SlotMembers, members_by_slot};
@@ -101,7 +101,12 @@ fn entries(
             Err(fault) => return Err(trail.behind(Step::Slot(owner, k as u16), fault)),
         }
         let room = Room { left, ..room };
-        match entry(source, trail, slot, tree, place, code, room) {
+        let slot = TableSlot {
+            field: slot,
+            place,
+            code,
+        };
+        match entry(source, trail, slot, tree, room) {
             Ok((entry, rest)) => {
                 found.push_reserved(entry);
                 left = rest;

@@ -4,6 +4,7 @@ pub mod InnerNames
 pub mod LookUps
 pub mod DeclaredNames
 pub mod FoundPlaces
+pub mod NamesIndexed
 pub mod Got
 pub mod NamedItems
 pub mod LastDot

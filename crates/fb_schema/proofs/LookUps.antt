@@ -1,5 +1,5 @@
 -- What a look-up through an index finds is what is there.
-use Rattle.std.proofs.Common.{◌≡◌, ◌≢◌, ◌<◌, ◌≤◌, ℕ, zero, suc, lit≤, length, Bool, false, List, [], ◌∷◌, map, AllPairs}
+use Rattle.std.proofs.Common.{◌≡◌, ◌≢◌, ◌≤◌, ℕ, zero, suc, lit≤, length, Bool, false, List, [], ◌∷◌, map, AllPairs}
 use Rattle.std.proofs.Common.{find, position, slice_get, Option, None, Some, bytes_eq, codes, ℤ, if◌then◌else◌, ap, sym}
 use Rattle.std.proofs.Common.{◌∙◌, arith}
 use Rattle.std.specs.Option.{option_map, option_and_then}
@@ -12,12 +12,13 @@ use Rattle.fb_schema.specs.Schema.{DeclaredSchema, body_in, values_in, members_i
 use Rattle.fb_schema.specs.Seen.{body_seen, type_seen, schema_of}
 use Rattle.fb_schema.specs.WellDeclared.{IsBody, IsDeclared}
 use Rattle.fb_schema.specs.declared.kinds.TypeId.{TypeId}
-use Rattle.fb_schema.specs.declared.name_index.NameIndex.{NameIndex}
-use Rattle.fb_schema.specs.Indexed.{inner_names, inner_numbers, few, HasNoRepeats, IndexesNames}
+use Rattle.fb_schema.specs.declared.name_index.Names.{Names}
+use Rattle.fb_schema.specs.Indexed.{inner_names, inner_numbers, HasNoRepeats, IndexesNames}
 use Rattle.fb_schema.specs.declared.kinds.Base.{Base}
 use Rattle.fb_schema.specs.Bodies.{as_enum, as_union}
 use Rattle.fb_schema.specs.Found.{fields_in, code_named}
 use Rattle.fb_schema.proofs.DeclaredNames.{no_repeats}
+use Rattle.fb_schema.proofs.NamesIndexed.{none_at}
 use Rattle.fb_schema.proofs.Positions.{position-map, find-position}
 
 -- the place of a key is that of the first item with the key
@@ -36,19 +37,16 @@ module _ {X Y K : Type 0} (seen : X → Y) (key : Y → K) (p : K → Bool) (ite
   found_through at place = ap (option_and_then (slice_get declared)) (place ∙ ap (position p) keys_seen)
       ∙ find-keys key p declared
 
-none_many : {A : Type 0} → few < 0 → A
-none_many many = absurd (omega (arith, many))
-
 none_twice : {K : Type 0} → AllPairs {X = K} (λ a b. a ≢ b) []
 none_twice i j d before within = absurd (omega arith)
 
 -- the index of a type's names is that of its fields' names, where it has fields
-pub fields_indexed : (body : DeclaredBody) (index : NameIndex) → IndexesNames index (inner_names body)
-    → IndexesNames index (map (λ f. f.name) (fields_in body))
-fields_indexed (table_body fs) index h = h
-fields_indexed (struct_body fs align) index h = h
-fields_indexed (enum_body base flags values) index h = none_many
-fields_indexed (union_body members) index h = none_many
+pub fields_indexed : (body : DeclaredBody) (names : Names) → IndexesNames names (inner_names body)
+    → IndexesNames names (map (λ f. f.name) (fields_in body))
+fields_indexed (table_body fs) names h = h
+fields_indexed (struct_body fs align) names h = h
+fields_indexed (enum_body base flags values) names h = none_at _ _ _
+fields_indexed (union_body members) names h = none_at _ _ _
 
 pub fields_differ : (body : DeclaredBody) → HasNoRepeats body
     → AllPairs (λ a b. a ≢ b) (map (λ f. f.name) (fields_in body))
@@ -58,12 +56,12 @@ fields_differ (enum_body base flags values) h = none_twice
 fields_differ (union_body members) h = none_twice
 
 -- and that of its values' names, where it has values
-pub values_indexed : (body : DeclaredBody) (index : NameIndex) → IndexesNames index (inner_names body)
-    → IndexesNames index (map (λ v. v.0) (values_in body))
-values_indexed (table_body fs) index h = none_many
-values_indexed (struct_body fs align) index h = none_many
-values_indexed (enum_body base flags values) index h = h
-values_indexed (union_body members) index h = none_many
+pub values_indexed : (body : DeclaredBody) (names : Names) → IndexesNames names (inner_names body)
+    → IndexesNames names (map (λ v. v.0) (values_in body))
+values_indexed (table_body fs) names h = none_at _ _ _
+values_indexed (struct_body fs align) names h = none_at _ _ _
+values_indexed (enum_body base flags values) names h = h
+values_indexed (union_body members) names h = none_at _ _ _
 
 pub values_differ : (body : DeclaredBody) → HasNoRepeats body
     → AllPairs (λ a b. a ≢ b) (map (λ v. v.0) (values_in body))

@@ -6,7 +6,7 @@ ghost use Rattle.fb_schema.specs.Indexed.{inner_names, inner_numbers, HasNoRepea
 ghost use Rattle.fb_schema.specs.Found.{fields_in, field_named, member_coded, name_numbered, number_named, code_named};
 
 use crate::kinds::TypeId;
-use crate::name_index::NameIndex;
+use crate::name_index::Names;
 use crate::number_index::NumberIndex;
 use crate::types::{Body, FieldInfo};
 
@@ -39,8 +39,8 @@ pub(crate) fn members_of(body: &Body) -> &[(String, TypeId)]
 }
 
 /// The field of a table or struct that has a name.
-pub(crate) fn field_in<'a>(body: &'a Body, names: &NameIndex, name: &str) -> Option<&'a FieldInfo>
-    requires indexed { IndexesNames names.now (inner_names (body_seen body.now)) }
+pub(crate) fn field_in<'a>(body: &'a Body, names: Names<'_>, name: &str) -> Option<&'a FieldInfo>
+    requires indexed { IndexesNames names (inner_names (body_seen body.now)) }
     requires distinct { HasNoRepeats (body_seen body.now) }
     ensures { option_map field_seen (option_copied result)
         ≡ field_named (body_seen body.now) name.now }
@@ -70,8 +70,8 @@ pub(crate) fn name_in<'a>(body: &'a Body, numbers: &NumberIndex, number: i128) -
 }
 
 /// The number of an enum's value that has a name.
-pub(crate) fn number_in(body: &Body, names: &NameIndex, name: &str) -> Option<i128>
-    requires indexed { IndexesNames names.now (inner_names (body_seen body.now)) }
+pub(crate) fn number_in(body: &Body, names: Names<'_>, name: &str) -> Option<i128>
+    requires indexed { IndexesNames names (inner_names (body_seen body.now)) }
     requires distinct { HasNoRepeats (body_seen body.now) }
     ensures { result ≡ number_named (body_seen body.now) name.now }
 {
@@ -81,8 +81,8 @@ pub(crate) fn number_in(body: &Body, names: &NameIndex, name: &str) -> Option<i1
 }
 
 /// The code of a union's member that has a name; of `NONE` it is 0.
-pub(crate) fn code_in(body: &Body, names: &NameIndex, name: &str) -> Option<u8>
-    requires indexed { IndexesNames names.now (inner_names (body_seen body.now)) }
+pub(crate) fn code_in(body: &Body, names: Names<'_>, name: &str) -> Option<u8>
+    requires indexed { IndexesNames names (inner_names (body_seen body.now)) }
     requires distinct { HasNoRepeats (body_seen body.now) }
     requires few { length (members_in (body_seen body.now)) ≤ 255 }
     ensures { result ≡ code_named (body_seen body.now) name.now }

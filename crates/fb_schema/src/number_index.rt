@@ -1,10 +1,12 @@
 //! Numbers that are found in few steps.
 ghost use Rattle.std.specs.Prelude.{◌≡◌, ◌≢◌, map, position, slice_get, get_or, pos, option_map};
 ghost use Rattle.std.specs.Prelude.{AllPairs, IfOk, Some, true};
-ghost use Rattle.std.specs.List.{range_with_len};
+ghost use Rattle.std.specs.List.{range_with_len, AllZip};
 ghost use Rattle.std.specs.Ordering.{int_eq};
-ghost use Rattle.fb_schema.specs.Indexed.{IndexesNumbers};
+ghost use Rattle.fb_schema.specs.Seen.{body_seen, type_seen};
+ghost use Rattle.fb_schema.specs.Indexed.{inner_numbers as numbers_of_body, IndexesNumbers};
 
+use crate::types::{Body, TypeInfo};
 use std::alloc::{AllocError, Global};
 
 /// Whether the value at a place has a number.
@@ -76,4 +78,29 @@ impl NumberIndex {
             Err(_) => None,
         }
     }
+}
+
+/// The index of the numbers of an enum's values.
+fn numbers_in(alloc: Global, body: &Body) -> Result<NumberIndex, AllocError>
+    ensures { IfOk result (λ index. IndexesNumbers index (numbers_of_body (body_seen body.now))) }
+{
+    match body.as_enum() {
+        Some((_, _, values)) => NumberIndex::of(alloc, values),
+        None => NumberIndex::of(alloc, &[]),
+    }
+}
+
+/// For each type, the index of the numbers of its values.
+pub(crate) fn inner_numbers(
+    alloc: Global,
+    types: &[TypeInfo],
+) -> Result<Vec<NumberIndex>, AllocError>
+    ensures { IfOk result (λ all. AllZip (λ index t. IndexesNumbers index (numbers_of_body t.body))
+        all.items (map type_seen types.now)) }
+{
+    let mut all = Vec::with_capacity(alloc, types.len())?;
+    for info in types {
+        all.push(numbers_in(alloc, &info.body)?)?;
+    }
+    Ok(all)
 }

@@ -13,7 +13,7 @@ use std::{io, mem};
 const LONGEST: u32 = 2_147_483_647;
 
 /// Why what was read of an input can't be had again.
-#[derive(Clone, Copy)]
+#[derive(Clone, Copy, Debug, PartialEq, Eq)]
 pub enum Gone {
     /// It came through a pipe or a device.
     Streamed,
@@ -99,10 +99,8 @@ impl<'j> Input<'j> {
 
     /// Whether as much was read as the file has.
     fn is_whole(&self) -> bool {
-        match self.state {
-            Some(state) => state.len == self.bytes.len() as u64,
-            None => false,
-        }
+        self.state
+            .is_some_and(|state| state.len == self.bytes.len() as u64)
     }
 
     fn read_all(
@@ -113,10 +111,7 @@ impl<'j> Input<'j> {
     ) -> Result<Input<'j>, TakeFault>
         ensures short { IfOk result (λ input. length input.bytes.items ≤ 2147483647) }
     {
-        let stream = match opened {
-            Ok(stream) => stream,
-            Err(error) => return Err(TakeFault::Failed(error)),
-        };
+        let stream = opened.map_err(TakeFault::Failed)?;
         // Taken before the first byte is read: what is written meanwhile changes it.
         let state = if is_read_again {
             state_of(stream.metadata(rt))

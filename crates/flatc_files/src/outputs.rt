@@ -64,10 +64,7 @@ fn in_folder(alloc: Global, path: &str, error: io::Error) -> io::Error {
 
 /// Whether a path leads to a file.
 fn leads_to(rt: &HostRuntime, path: &str, file: &Metadata) -> bool {
-    match metadata_of(rt, path) {
-        Ok(found) => found.dev() == file.dev() && found.ino() == file.ino(),
-        Err(_) => false,
-    }
+    metadata_of(rt, path).is_ok_and(|found| found.dev() == file.dev() && found.ino() == file.ino())
 }
 
 fn is_named_as_text(path: &str) -> bool {
@@ -113,7 +110,8 @@ fn take_over(rt: &HostRuntime, file: &File, path: &str, old: &Metadata) -> io::R
 
 fn fill_and_rename<C: Content>(
     rt: &HostRuntime,
-    (path, mut file): (&str, File),
+    path: &str,
+    mut file: File,
     out: &str,
     content: &mut C,
     old: Option<&Metadata>,
@@ -134,7 +132,7 @@ fn replace<C: Content>(
 ) -> io::Result<()> {
     let mode = if old.is_some() { PRIVATE } else { USUAL };
     let (path, file) = create_beside(rt, out, mode)?;
-    let done = fill_and_rename(rt, (path.as_str(), file), out, content, old);
+    let done = fill_and_rename(rt, path.as_str(), file, out, content, old);
     if done.is_err() {
         let _gone = fs::remove_file(rt, path.as_str());
     }

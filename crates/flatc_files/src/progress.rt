@@ -2,16 +2,16 @@
 use std::io::IsTerminal;
 use std::time::{Duration, Instant};
 
-// In milliseconds: shorter work isn't told, and how long a line stays at least.
+// In milliseconds: shorter work isn't shown, and how long a line stays at least.
 const QUIET: u64 = 1000;
 
 const STEP: u64 = 100;
 
-/// The files that are done, of all; told on standard error where that is a terminal.
+/// The files that are done, of all; shown on standard error where that is a terminal.
 #[derive(Drop)]
 pub struct Progress {
     total: usize,
-    /// When the next line may come; none where nothing is told.
+    /// When the next line may come; none where nothing is shown.
     next: Option<Instant>,
     shown: bool,
 }
@@ -36,12 +36,11 @@ impl Progress {
         let Some(next) = self.next else {
             return;
         };
-        match Instant::now(rt) {
-            Ok(now) if now >= next => {}
-            _ => return,
+        if !Instant::now(rt).is_ok_and(|now| now >= next) {
+            return;
         }
         let total = self.total;
-        let _told = eprint!(rt; "\r{done} of {total}");
+        let _shown = eprint!(rt; "\r{done} of {total}");
         self.shown = true;
         self.next = later(rt, STEP);
     }
@@ -49,16 +48,15 @@ impl Progress {
     /// Clears the line that is shown.
     pub fn clear(&mut self, rt: &HostRuntime) {
         if self.shown {
-            let _told = eprint!(rt; "\r\u{1b}[K");
+            let _cleared = eprint!(rt; "\r\u{1b}[K");
             self.shown = false;
         }
     }
 }
 
-/// The time in so many milliseconds; none where the clock can't tell.
+/// The time in so many milliseconds; none where the clock can't be read.
 fn later(rt: &HostRuntime, by: u64) -> Option<Instant> {
-    match Instant::now(rt) {
-        Ok(now) => now.checked_add(Duration::from_millis(by)),
-        Err(_) => None,
-    }
+    Instant::now(rt)
+        .ok()?
+        .checked_add(Duration::from_millis(by))
 }

@@ -3,7 +3,7 @@ ghost use Rattle.std.specs.Prelude.{◌≡◌, ◌≢◌};
 ghost use Rattle.std.specs.Bool.{OnTrue, OnFalse};
 
 /// One of the four jobs, with its paths and flags.
-#[derive(Drop)]
+#[derive(Debug, PartialEq, Eq, Drop)]
 pub enum Job {
     /// Makes a buffer of a JSON text.
     Binary {
@@ -29,13 +29,13 @@ pub enum Job {
     Conform {
         old: String,
         new: String,
-        /// Whether names have to stand for what they stood for.
+        /// Whether each name must mean what it meant.
         names: bool,
     },
 }
 
 /// What is done with each file of a batch.
-#[derive(Drop)]
+#[derive(Debug, PartialEq, Eq, Drop)]
 pub enum Task {
     /// Makes a buffer of a JSON text, in a file of the directory `dir`.
     Binary {
@@ -55,7 +55,7 @@ pub enum Task {
 }
 
 /// A task over files, each for itself, under one schema.
-#[derive(Drop)]
+#[derive(Debug, PartialEq, Eq, Drop)]
 pub struct Batch {
     pub schema: String,
     /// The paths of the files, in the order of the line.
@@ -64,7 +64,7 @@ pub struct Batch {
 }
 
 /// What of a line's buffers and JSON texts is other than usual.
-#[derive(Clone, Copy, Drop)]
+#[derive(Clone, Copy, Debug, PartialEq, Eq, Drop)]
 pub struct Form {
     /// A buffer has its length in front: `--size-prefixed`.
     pub size_prefixed: bool,
@@ -85,7 +85,7 @@ impl Form {
 }
 
 /// What is done with each message of a stream.
-#[derive(Drop)]
+#[derive(Debug, PartialEq, Eq, Drop)]
 pub enum StreamTask {
     /// Makes a size-prefixed buffer of each JSON text, a text a line.
     Binary { out: String, unknown: bool },
@@ -96,7 +96,7 @@ pub enum StreamTask {
 }
 
 /// A task over the messages of one input, one after the other, under one schema.
-#[derive(Drop)]
+#[derive(Debug, PartialEq, Eq, Drop)]
 pub struct Stream {
     pub schema: String,
     pub input: String,
@@ -106,7 +106,7 @@ pub struct Stream {
 }
 
 /// What of a buffer is shown.
-#[derive(Drop)]
+#[derive(Debug, PartialEq, Eq, Drop)]
 pub enum Inspection {
     /// What its bytes are under a schema.
     Bytes {
@@ -122,7 +122,7 @@ pub enum Inspection {
 }
 
 /// When a refusal is explained.
-#[derive(Clone, Copy, Drop)]
+#[derive(Clone, Copy, Debug, PartialEq, Eq, Drop)]
 pub enum Explaining {
     /// Where standard error is a terminal.
     AtTerminal,
@@ -133,7 +133,7 @@ pub enum Explaining {
 }
 
 /// What a command line asks for.
-#[derive(Drop)]
+#[derive(Debug, PartialEq, Eq, Drop)]
 pub enum Request {
     /// A job over one file, and when a refusal is explained.
     Do(Job, Explaining),

@@ -3,7 +3,7 @@ ghost use Rattle.std.specs.Prelude.{◌≡◌, ◌++◌, ◌∷◌, [], Bool, Li
 ghost use Rattle.flatc_files.specs.Runs.{IsStatusOf, status_of};
 
 /// Whether one of the files so far was refused.
-#[derive(Clone, Copy, Drop)]
+#[derive(Clone, Copy, Debug, PartialEq, Eq, Drop)]
 pub struct RunStatus {
     refused: bool,
 }

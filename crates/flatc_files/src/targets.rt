@@ -11,22 +11,12 @@ use std::os::unix::fs::MetadataExt;
 use std::path::PathBuf;
 
 /// Why a line can't be done: what its usage error says.
-#[derive(Drop)]
+#[derive(Debug, PartialEq, Eq, Drop)]
 pub enum Misuse {
     /// Memory ran out.
     Memory,
     /// The sentence of a usage error.
     Said(String),
-}
-
-impl Misuse {
-    /// That of a sentence, if there was memory for it.
-    fn saying(said: Result<String, AllocError>) -> Misuse {
-        match said {
-            Ok(said) => Misuse::Said(said),
-            Err(AllocError) => Misuse::Memory,
-        }
-    }
 }
 
 impl From<AllocError> for Misuse {
@@ -73,10 +63,7 @@ fn identity_of(found: &Metadata) -> Identity {
 
 /// The file that a path leads to.
 fn identity_at(rt: &HostRuntime, path: &str) -> Option<Identity> {
-    match metadata_of(rt, path) {
-        Ok(found) => Some(identity_of(&found)),
-        Err(_) => None,
-    }
+    metadata_of(rt, path).ok().map(|found| identity_of(&found))
 }
 
 /// The directory and the extension of a task's outputs; none where it writes no files.
@@ -89,11 +76,9 @@ pub fn directory_of(task: &Task) -> Option<(&str, &'static str)> {
 }
 
 fn check_named(alloc: Global, files: &[String]) -> Result<(), Misuse> {
-    for file in files {
-        if is_standard_input(file.as_str()) {
-            let said = "standard input has no name for a file in DIR";
-            return Err(Misuse::saying(String::from_str(alloc, said)));
-        }
+    if files.iter().any(|file| is_standard_input(file.as_str())) {
+        let said = "standard input has no name for a file in DIR";
+        return Err(Misuse::Said(String::from_str(alloc, said)?));
     }
     Ok(())
 }
@@ -102,8 +87,8 @@ fn check_distinct(alloc: Global, paths: &[PathBuf]) -> Result<(), Misuse> {
     let mut met = BTreeSet::new(alloc);
     for path in paths {
         if !met.insert(path.as_str())? {
-            let said = format!(in alloc; "two files would be written to '{}'", path.as_str());
-            return Err(Misuse::saying(said));
+            let said = format!(in alloc; "two files would be written to '{}'", path.as_str())?;
+            return Err(Misuse::Said(said));
         }
     }
     Ok(())
@@ -123,30 +108,17 @@ fn inputs_of(rt: &HostRuntime, batch: &Batch) -> Result<BTreeSet<Identity>, Allo
     Ok(inputs)
 }
 
-/// Whether there is a file where one of the targets goes.
-fn is_any_there(targets: &[Target]) -> bool {
-    for target in targets {
-        if target.file.is_some() {
-            return true;
-        }
-    }
-    false
-}
-
 /// That no target that is there is one of the inputs.
 fn check_apart(rt: &HostRuntime, batch: &Batch, targets: &[Target]) -> Result<(), Misuse> {
-    if !is_any_there(targets) {
+    if targets.iter().all(|target| target.file.is_none()) {
         return Ok(());
     }
     let inputs = inputs_of(rt, batch)?;
     for target in targets {
-        match target.file {
-            Some(file) if inputs.contains(&file) => {
-                let path = target.path.as_str();
-                let said = format!(in rt.alloc(); "the output '{path}' is one of the inputs");
-                return Err(Misuse::saying(said));
-            }
-            _ => {}
+        if target.file.is_some_and(|file| inputs.contains(&file)) {
+            let path = target.path.as_str();
+            let said = format!(in rt.alloc(); "the output '{path}' is one of the inputs")?;
+            return Err(Misuse::Said(said));
         }
     }
     Ok(())

@@ -5,6 +5,7 @@ use std::alloc::AllocError;
 use std::io;
 
 /// What a job has read so far, and why a file couldn't be read or written.
+#[derive(Drop)]
 pub struct Texts<'j> {
     /// The schema text; of `conform` the old one.
     pub schema: Input<'j>,
@@ -16,20 +17,8 @@ pub struct Texts<'j> {
     is_explained: bool,
 }
 
-// Written out, so that a proof has one step where a value falls out of scope, and not one for each of its parts.
-impl Drop for Texts<'_> {
-    fn drop(self) {
-        let Self {
-            schema: _,
-            input: _,
-            failure: _,
-            is_explained: _,
-        } = self;
-    }
-}
-
 /// A file that couldn't be read or written.
-#[derive(Drop)]
+#[derive(Debug, PartialEq, Eq, Drop)]
 pub struct Failure<'j> {
     /// As the line has it.
     pub path: &'j str,
@@ -56,10 +45,8 @@ impl<'j> Texts<'j> {
 
     /// Remembers why a file failed, where there is memory for that.
     pub fn fail(&mut self, rt: &HostRuntime, path: &'j str, error: &io::Error) {
-        self.failure = match format!(in rt.alloc(); "{error}") {
-            Ok(reason) => Some(Failure { path, reason }),
-            Err(_) => None,
-        };
+        let reason = format!(in rt.alloc(); "{error}");
+        self.failure = reason.ok().map(|reason| Failure { path, reason });
     }
 
     fn read(&mut self, rt: &HostRuntime, path: &'j str) -> Result<Input<'j>, TakeFault> {

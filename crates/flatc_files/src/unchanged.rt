@@ -37,8 +37,5 @@ pub(crate) fn holds<C: Content>(rt: &HostRuntime, path: &str, content: &mut C) -
 
 /// Sets the time when a file was modified to now, as a write does; returns whether that is done.
 pub(crate) fn touch(rt: &HostRuntime, file: &File) -> bool {
-    match SystemTime::now(rt) {
-        Ok(now) => file.set_modified(now).is_ok(),
-        Err(_) => false,
-    }
+    SystemTime::now(rt).is_ok_and(|now| file.set_modified(now).is_ok())
 }

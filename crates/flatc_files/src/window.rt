@@ -14,6 +14,7 @@ const LONGEST: usize = 2_147_483_647;
 const ROOM: usize = 65_536;
 
 /// The bytes of an input that were read and not yet taken, in order.
+#[derive(Drop)]
 pub struct Window {
     stream: Opened,
     /// What was read, up to `end`. Bytes before `start` were taken.
@@ -26,20 +27,6 @@ pub struct Window {
     ghost taken: { start ≤ end },
     ghost read: { end ≤ length bytes.items },
     ghost sought: { searched ≤ end },
-}
-
-// Written out, so that a proof has one step where a value falls out of scope, and not one for each of its parts.
-impl Drop for Window {
-    fn drop(self) {
-        let Self {
-            stream: _,
-            bytes: _,
-            start: _,
-            end: _,
-            searched: _,
-            is_ended: _,
-        } = self;
-    }
 }
 
 impl Window {
@@ -79,13 +66,16 @@ impl Window {
     /// The length of the first line, with its line feed; none where that isn't read yet.
     pub fn line_len(&mut self) -> Option<usize> {
         let from = self.searched.max(self.start);
-        for at in from..self.end {
-            if self.bytes[at] == b'\n' {
-                return Some(at - self.start + 1);
+        let feed = self.bytes[from..self.end]
+            .iter()
+            .position(|byte| *byte == b'\n');
+        match feed {
+            Some(at) => Some(from - self.start + at + 1),
+            None => {
+                self.searched = self.end;
+                None
             }
         }
-        self.searched = self.end;
-        None
     }
 
     /// Moves what isn't taken to the front.
@@ -114,9 +104,7 @@ impl Window {
         if self.end - self.start > LONGEST {
             return Err(TakeFault::TooLong);
         }
-        let Ok(()) = self.make_room() else {
-            return Err(TakeFault::Memory);
-        };
+        self.make_room().map_err(|_| TakeFault::Memory)?;
         match self.stream.read(&mut self.bytes[self.end..]) {
             Ok(0) => self.is_ended = true,
             Ok(count) => self.end += count,

@@ -311,10 +311,10 @@ entries::member-returns-in_err-value-clause-gives t c =
     let L = c.args.source.layout.now in
     let m = meant L c.args.source.unknown (tree_view c.args.tree.now) in
     let p = err_from_is_err_and c.from_residual.result c.from_residual.ensures.1 in
-    let is : Some c.in-Some.table.0 ≡ member_by_code L c.args.union.0 c.args.code =
+    let is : Some c.in-Some.table.0 ≡ member_by_code L c.args.union.0 c.args.slot.code =
     rw c.schema.ensures.schema at c.in-Some.ensures in
     rw (p.1, p.2) (rw (← is) (fails_by c.in_err-value.field-0.0
-    (m (One (Table c.in-Some.table)) c.args.place c.args.room.levels
+    (m (One (Table c.in-Some.table)) c.args.slot.place c.args.room.levels
     c.args.room.left) _ (λ h. rw h refl) c.in_err-value.ensures.gives))
 
 -- ---- structs

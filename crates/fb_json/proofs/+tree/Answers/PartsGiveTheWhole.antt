@@ -88,6 +88,6 @@ table_given t c =
 
 pub member_given : goal.entries::member-returns-clause-gives
 member_given t c =
-    let is : Some c.in-Some.table.0 ≡ member_by_code c.args.source.layout.now c.args.union.0 c.args.code =
+    let is : Some c.in-Some.table.0 ≡ member_by_code c.args.source.layout.now c.args.union.0 c.args.slot.code =
     rw c.schema.ensures.schema at c.in-Some.ensures in
-    rw (← is, c.in_ok-value.ensures.gives, view-Member c.args.code c.in_ok-new.field-0, c.in_ok-new.ensures.ok) refl
+    rw (← is, c.in_ok-value.ensures.gives, view-Member c.args.slot.code c.in_ok-new.field-0, c.in_ok-new.ensures.ok) refl

@@ -64,29 +64,29 @@ refused_part_given t c ms are =
     let L = c.args.source.layout.now in
     let unknown = c.args.source.unknown in
     let seen = look L unknown ms in
-    let found = looked_up_in c.args.trees.now c.args.fields.now ms are c.loop-k.k c.index-fields-k.result
+    let found = looked_up_in c.args.trees.now c.args.structure.fields.now ms are c.loop-k.k c.index-fields-k.result
     c.loop-k-test.true c.index-fields-k.is c.get.result c.get.ensures.is L unknown in
     fails_behind c.in-Err.fault c.behind.result
     (part_meant (looked_up L unknown c.get.result) c.index-fields-k.result.shape
-    (slot_place c.args.owner.0 c.loop-k.k) c.args.room.levels c.loop-k.left) _ c.behind.ensures.step
-    (λ h. (c.loop-k.invariant.read ms are).0 ∙ parts_ungiven L seen c.args.owner.0 c.args.fields.now c.loop-k.k
+    (slot_place c.args.structure.owner.0 c.loop-k.k) c.args.room.levels c.loop-k.left) _ c.behind.ensures.step
+    (λ h. (c.loop-k.invariant.read ms are).0 ∙ parts_ungiven L seen c.args.structure.owner.0 c.args.structure.fields.now c.loop-k.k
     c.index-fields-k.result c.loop-k-test.true c.index-fields-k.is (map view c.loop-k.found.items) c.args.room.levels
-    c.loop-k.left (slot_place c.args.owner.0 c.loop-k.k) refl _ (rw found h)) c.in-Err.ensures.gives
+    c.loop-k.left (slot_place c.args.structure.owner.0 c.loop-k.k) refl _ (rw found h)) c.in-Err.ensures.gives
 
 pub trail_to_refused_part : goal.structs::parts-returns-in-Err-clause-trail
 trail_to_refused_part t c ms are =
     let L = c.args.source.layout.now in
     let unknown = c.args.source.unknown in
     let seen = look L unknown ms in
-    let found = looked_up_in c.args.trees.now c.args.fields.now ms are c.loop-k.k c.index-fields-k.result
+    let found = looked_up_in c.args.trees.now c.args.structure.fields.now ms are c.loop-k.k c.index-fields-k.result
     c.loop-k-test.true c.index-fields-k.is c.get.result c.get.ensures.is L unknown in
     goes c.args.trail.now c.loop-k.trail c.part.new.trail c.behind.new.self
     (IsFirstAt L unknown (field_spot (seen (field_seen c.index-fields-k.result).name) c.index-fields-k.result.shape
-    (slot_place c.args.owner.0 c.loop-k.k) c.args.room.levels c.loop-k.left))
-    (IsFirstIn L unknown (ToField seen c.args.owner (map field_seen c.args.fields.now) c.args.room.levels
-    c.args.room.left)) (Field c.args.owner c.loop-k.k) c.in-Err.fault c.behind.result c.loop-k.invariant.trail
+    (slot_place c.args.structure.owner.0 c.loop-k.k) c.args.room.levels c.loop-k.left))
+    (IsFirstIn L unknown (ToField seen c.args.structure.owner (map field_seen c.args.structure.fields.now) c.args.room.levels
+    c.args.room.left)) (Field c.args.structure.owner c.loop-k.k) c.in-Err.fault c.behind.result c.loop-k.invariant.trail
     c.behind.ensures.step (rw found c.in-Err.ensures.trail)
-    (λ steps. to_field L unknown seen c.args.owner c.args.fields.now c.loop-k.k c.index-fields-k.result
+    (λ steps. to_field L unknown seen c.args.structure.owner c.args.structure.fields.now c.loop-k.k c.index-fields-k.result
     c.loop-k-test.true c.index-fields-k.is c.args.room.levels c.args.room.left c.loop-k.left
     (c.loop-k.invariant.read ms are).1 c.in-Err.fault steps)
 
@@ -99,17 +99,17 @@ one_part_more t c =
     record {
       read = λ ms are.
           let seen = look L unknown ms in
-          let found = looked_up_in c.args.trees.now c.args.fields.now ms are c.loop-k.k c.index-fields-k.result
+          let found = looked_up_in c.args.trees.now c.args.structure.fields.now ms are c.loop-k.k c.index-fields-k.result
           c.loop-k-test.true c.index-fields-k.is c.get.result c.get.ensures.is L unknown in
           let given : part_meant (seen (field_seen c.index-fields-k.result).name) c.index-fields-k.result.shape
-          (slot_place c.args.owner.0 c.loop-k.k) c.args.room.levels c.loop-k.left
+          (slot_place c.args.structure.owner.0 c.loop-k.k) c.args.room.levels c.loop-k.left
           ≡ Ok (view c.in-Ok.part, c.in-Ok.rest) = rw found c.in-Ok.ensures.gives in
           let before = c.loop-k.invariant.read ms are in (
-            rw e (before.0 ∙ parts_next L seen c.args.owner.0 c.args.fields.now c.loop-k.k
+            rw e (before.0 ∙ parts_next L seen c.args.structure.owner.0 c.args.structure.fields.now c.loop-k.k
                 c.index-fields-k.result c.loop-k-test.true c.index-fields-k.is (map view c.loop-k.found.items)
-                c.args.room.levels c.loop-k.left (slot_place c.args.owner.0 c.loop-k.k) refl c.in-Ok.rest
+                c.args.room.levels c.loop-k.left (slot_place c.args.structure.owner.0 c.loop-k.k) refl c.in-Ok.rest
                 (view c.in-Ok.part) given),
-            field_next L unknown seen c.args.owner c.args.fields.now c.loop-k.k c.index-fields-k.result
+            field_next L unknown seen c.args.structure.owner c.args.structure.fields.now c.loop-k.k c.index-fields-k.result
                 c.loop-k-test.true c.index-fields-k.is c.args.room.levels c.args.room.left c.loop-k.left before.1
                 (view c.in-Ok.part) c.in-Ok.rest given,
           );
@@ -122,6 +122,6 @@ pub all_parts_given : goal.structs::parts-returns-clause-gives
 all_parts_given t c ms are =
     let L = c.args.source.layout.now in
     let seen = look L c.args.source.unknown ms in
-    let past : length c.args.fields.now ≤ c.loop-k.k = omega arith in
-    (c.loop-k.invariant.read ms are).0 ∙ parts_end seen c.args.owner.0 c.args.fields.now c.loop-k.k
+    let past : length c.args.structure.fields.now ≤ c.loop-k.k = omega arith in
+    (c.loop-k.invariant.read ms are).0 ∙ parts_end seen c.args.structure.owner.0 c.args.structure.fields.now c.loop-k.k
     (map view c.loop-k.found.items) c.args.room.levels c.loop-k.left past

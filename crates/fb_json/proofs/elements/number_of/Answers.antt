@@ -12,7 +12,7 @@ returns-in-Scalar-clause-gives c levels left =
 pub returns-in-Scalar-clause-fits : goal.returns-in-Scalar-clause-fits
 returns-in-Scalar-clause-fits c =
     rw c.in-Scalar.is (number_fits c.args.source.layout.now c.args.source.unknown c.args.place 0 0
-    c.schema-schema.ensures.made.declared (Scalar c.in-Scalar.base) (tree_view c.args.tree.now) c.scalar_of.result
+    c.layout_is_well_made.ensures.declared (Scalar c.in-Scalar.base) (tree_view c.args.tree.now) c.scalar_of.result
     (scalar_given c.args.source.layout.now c.args.source.unknown c.args.place 0 0 c.in-Scalar.base
     (tree_view c.args.tree.now) c.scalar_of.result c.scalar_of.ensures))
 
@@ -29,7 +29,7 @@ returns-in-Enum-clause-gives c levels left =
 pub returns-in-Enum-clause-fits : goal.returns-in-Enum-clause-fits
 returns-in-Enum-clause-fits c =
     rw c.in-Enum.is (number_fits c.args.source.layout.now c.args.source.unknown c.args.place 0 0
-    c.schema-schema.ensures.made.declared (Enum c.in-Enum.enumeration) (tree_view c.args.tree.now) c.enum_of.result
+    c.layout_is_well_made.ensures.declared (Enum c.in-Enum.enumeration) (tree_view c.args.tree.now) c.enum_of.result
     (enum_given c.args.source.layout.now c.args.source.unknown c.args.place 0 0 c.in-Enum.enumeration
     (tree_view c.args.tree.now) c.enum_of.result c.enum_of.ensures))
 

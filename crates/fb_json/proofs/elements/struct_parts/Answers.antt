@@ -10,7 +10,7 @@ use Rattle.fb_json.proofs.elements.struct_parts.Goals as goal
 
 pub returns-in_default-clause-gives : goal.returns-in_default-clause-gives
 returns-in_default-clause-gives c =
-    no_object c.args.source.layout.now c.args.source.unknown c.args.owner c.args.place c.args.levels c.args.left
+    no_object c.args.source.layout.now c.args.source.unknown c.args.owner c.args.place c.args.room.levels c.args.room.left
     (tree_view c.args.tree.now)
     (sym c.as_object.ensures ∙ ap (option_map (λ m. members_view m.now.entries)) c.in_default.is)
 
@@ -20,24 +20,24 @@ returns-in_err-left-clause-gives c =
     let seen : as_object (tree_view c.args.tree.now) ≡ Some (members_view c.in-Some.members.now.entries) =
     sym c.as_object.ensures ∙ ap (option_map (λ m. members_view m.now.entries)) c.in-Some.is in
     rw (p.1, p.2) (rw (of_object c.args.source.layout.now c.args.source.unknown c.args.owner c.args.place
-    c.args.levels c.args.left (tree_view c.args.tree.now) (members_view c.in-Some.members.now.entries) seen)
+    c.args.room.levels c.args.room.left (tree_view c.args.tree.now) (members_view c.in-Some.members.now.entries) seen)
     c.in_err-left.ensures.gives)
 
 pub returns-clause-gives : goal.returns-clause-gives
 returns-clause-gives c =
     let seen : as_object (tree_view c.args.tree.now) ≡ Some (members_view c.in-Some.members.now.entries) =
     sym c.as_object.ensures ∙ ap (option_map (λ m. members_view m.now.entries)) c.in-Some.is in
-    of_object c.args.source.layout.now c.args.source.unknown c.args.owner c.args.place c.args.levels c.args.left
+    of_object c.args.source.layout.now c.args.source.unknown c.args.owner c.args.place c.args.room.levels c.args.room.left
     (tree_view c.args.tree.now) (members_view c.in-Some.members.now.entries) seen ∙ c.in_ok-left.ensures.gives
 
 pub returns-clause-fits : goal.returns-clause-fits
 returns-clause-fits c =
     parts_fit c.args.source.layout.now c.args.source.unknown (tree_view c.args.tree.now) (One (Struct c.args.owner))
-    c.args.place c.args.levels c.args.left c.schema-schema.ensures.made.declared c.struct_of.new.found
+    c.args.place c.args.room.levels c.args.room.left c.layout_is_well_made.ensures.declared c.struct_of.new.found
     (Ok c.in_ok-left.left) (returns-clause-gives c)
 
 pub returns-clause-whole : goal.returns-clause-whole
 returns-clause-whole c =
     parts_whole c.args.source.layout.now c.args.source.unknown (tree_view c.args.tree.now)
-    (One (Struct c.args.owner)) c.args.place c.args.levels c.args.left c.struct_of.new.found
+    (One (Struct c.args.owner)) c.args.place c.args.room.levels c.args.room.left c.struct_of.new.found
     (Ok c.in_ok-left.left) (returns-clause-gives c)

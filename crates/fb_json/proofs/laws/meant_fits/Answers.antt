@@ -9,7 +9,7 @@ use Rattle.fb_json.proofs.laws.meant_fits.Goals as goal
 pub returns-clause-fits : goal.returns-clause-fits
 returns-clause-fits c most unknown d h =
     let L = c.args.layout.now in
-    root_fitted L c.schema-schema.ensures.made.declared most unknown (tree_view c.args.tree.now) d h
+    root_fitted L c.layout_is_well_made.ensures.declared most unknown (tree_view c.args.tree.now) d h
     (meant_utf8 L unknown (tree_view c.args.tree.now) (One (Table (record { 0 = L.schema.root }))) d
     (tree_utf8 c.args.tree.now) h.0)
 

@@ -1,7 +1,0 @@
-use Rattle.std.proofs.Common.{◌∙◌, codes}
-use Rattle.flatc_files.proofs.OneOfFour.{one_of_four}
-use Rattle.flatc_files.proofs.standard_paths.is_standard_output.Goals as goal
-
-pub returns : goal.returns
-returns c = c.contains.ensures.value
-    ∙ one_of_four c.args.path.now (codes "-") (codes "/dev/stdout") (codes "/dev/fd/1") (codes "/proc/self/fd/1")
