@@ -14,7 +14,7 @@ use crate::noting::note_root;
 use crate::plans::Plan;
 use crate::rooms::room;
 use fb_build::{BuildFault, TapePlan};
-use fb_layout::Layout;
+use fb_layout::{Layout, layout_is_well_made};
 use fb_value::Value;
 use std::alloc::Global;
 
@@ -29,7 +29,7 @@ pub fn plan<'v>(alloc: Global, layout: &'v Layout, value: &'v Value) -> Result<P
     ensures too_big { IfErr result (λ e. e ≡ TooBig → 2147483647 < room_of layout.now (view value.now)) }
     ensures memory { IfErr result (λ e. e ≡ Memory → room_of layout.now (view value.now) ≤ 2147483647) }
 {
-    let _schema = layout.schema(); // its contract: the layout is well made
+    layout_is_well_made(layout);
     let Value::Fields(table, entries) = value else {
         unreachable!();
     };

@@ -23,7 +23,7 @@ fn same_in(first: &Value, second: &Value) -> bool
         (Value::Text(a), Value::Text(b)) => a.as_str() == b.as_str(),
         (Value::Items(a), Value::Items(b)) => same_parts(a, b),
         (Value::Fixed(a), Value::Fixed(b)) => same_parts(a, b),
-        (Value::Fields(s, a), Value::Fields(t, b)) => s.0 == t.0 && same_entries(a, b),
+        (Value::Fields(s, a), Value::Fields(t, b)) => s == t && same_entries(a, b),
         (Value::Member(s, a), Value::Member(t, b)) => *s == *t && same_in(a, b),
         (Value::Other(a), Value::Other(b)) => *a == *b,
         _ => false,

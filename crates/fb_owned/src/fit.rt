@@ -22,20 +22,15 @@ pub fn fits(layout: &Layout, type_id: TypeId, value: &Value) -> bool
     requires { nesting (view value.now) ≤ 300 }
     ensures { IsTrue result ↔ FitsType layout.now type_id.0 (view value.now) }
 {
-    match kind_of(layout.schema(), type_id) {
-        Some(kind) => fits_in(layout, Shape::One(kind), value),
-        None => false,
-    }
+    kind_of(layout.schema(), type_id).is_some_and(|kind| fits_in(layout, Shape::One(kind), value))
 }
 
 // What a declared type is as a kind.
 fn kind_of(schema: &Schema, type_id: TypeId) -> Option<Kind>
     ensures { option_map (stored_kind schema.now) result ≡ kind_at schema.now type_id.0 }
 {
-    match schema.types().get(type_id.0 as usize) {
-        Some(info) => Some(kind_of_body(type_id, &info.body)),
-        None => None,
-    }
+    let info = schema.types().get(type_id.0 as usize)?;
+    Some(kind_of_body(type_id, &info.body))
 }
 
 fn kind_of_body(type_id: TypeId, body: &Body) -> Kind

@@ -6,7 +6,7 @@ ghost use Rattle.fb_value.specs.Places.{target_of};
 ghost use Rattle.fb_value.specs.View.{view, parts_view};
 ghost use Rattle.fb_owned.specs.Inlines.{IsInline, AreItems};
 
-use fb_layout::{Layout, kind_in};
+use fb_layout::{Layout, kind_in, layout_is_well_made};
 use fb_read::number_at;
 use fb_schema::{Kind, TypeId};
 use fb_value::Value;
@@ -47,7 +47,7 @@ fn read_struct(
     ensures { IfOk result (λ v. IsInline layout.now bytes.now
         (struct_kind structure.0) at (Some (view v))) }
 {
-    let _schema = layout.schema(); // its contract: the layout is well made
+    layout_is_well_made(layout);
     let fields = layout.parts_of(structure);
     let mut parts = Vec::with_capacity(alloc, fields.len())?;
     for index in 0..fields.len() {

@@ -20,7 +20,7 @@ ghost use Rattle.fb_build.specs.Noted.{AddsParts, AddsFields, AddsSlots};
 ghost use Rattle.fb_build.specs.Parts.{EntryWhole, TableKnown};
 
 use fb_build::{Noting, is_default, is_reference};
-use fb_layout::Layout;
+use fb_layout::{Layout, layout_is_well_made};
 use fb_schema::{FieldInfo, Kind, Shape, TypeId};
 use fb_tape::Tape;
 use fb_value::Value;
@@ -45,7 +45,7 @@ fn note_table(
         + entries_room layout.now (slots_of layout.now table.0) (entries_view entries.now))) }
     ensures opened { OnOk result (noting.new.opened ≡ noting.old.opened) }
 {
-    let _schema = layout.schema(); // its contract: the layout is well made
+    layout_is_well_made(layout);
     let first = noting.opened.len();
     note_entries(noting, layout, layout.slots_of(table), entries)?;
     noting.tape.close_table(table, &noting.opened, first)?;

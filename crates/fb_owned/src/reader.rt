@@ -8,7 +8,7 @@ ghost use Rattle.fb_value.specs.Holds.{HoldsFramed, RootKeepsFramed, RefusesFram
 ghost use Rattle.fb_owned.specs.Memory.{PartIsReached, PartIsReachedFramed};
 
 use crate::values::Values;
-use fb_layout::Layout;
+use fb_layout::{Layout, layout_is_well_made};
 use fb_read::{Buffer, Entries, visit_root};
 use fb_value::{Limits, ReadFault, Value};
 use std::alloc::Global;
@@ -73,7 +73,7 @@ pub fn read_framed<'a>(
     ensures counted { entries.new.count ≤ entries.old.count + (limits.cells + 1) }
     ensures each { IfOk result (λ v. entries.new.count ≡ entries.old.count + entered (view v)) }
 {
-    let _schema = layout.schema(); // its contract: the layout is well made
+    layout_is_well_made(layout);
     let buffer = Buffer::checked(layout, bytes, limits, raw, prefixed)?;
     visit_root(&buffer, Values { alloc }, prefixed, entries)
 }

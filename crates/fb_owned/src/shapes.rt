@@ -103,10 +103,7 @@ pub(crate) fn is_table(shape: Shape, table: TypeId) -> bool
     ensures { (schema : DeclaredSchema)
         → IsTrue result ↔ (table_wanted (stored_shape schema shape) ≡ Some table.0) }
 {
-    match table_wanted(shape) {
-        Some(wanted) => wanted.0 == table.0,
-        None => false,
-    }
+    table_wanted(shape) == Some(table)
 }
 
 /// The union that a shape is.

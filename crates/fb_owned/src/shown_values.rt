@@ -46,16 +46,6 @@ fn count_of(value: &Value) -> usize
     }
 }
 
-/// What an entry holds.
-fn lent(entry: &Option<Value>) -> Option<&Value>
-    ensures { option_map (λ v. view v.now) result ≡ option_map view entry.now }
-{
-    match entry {
-        Some(value) => Some(value),
-        None => None,
-    }
-}
-
 /// How many entries, elements or fields are in a value; a union has one member.
 fn children_of(value: &Value) -> usize
     ensures behind { (at : Place) → unnamed_from at (Some (view value.now)) result ≡ None }
@@ -78,10 +68,10 @@ fn child_of(value: &Value, i: usize) -> Option<&Value>
     match value {
         Value::Items(items) => items.as_slice().get(i),
         Value::Fixed(parts) => parts.as_slice().get(i),
-        Value::Fields(_, entries) => match entries.as_slice().get(i) {
-            Some(entry) => lent(entry),
-            None => None,
-        },
+        Value::Fields(_, entries) => {
+            let entry = entries.as_slice().get(i)?;
+            entry.as_ref()
+        }
         Value::Member(_, member) if i == 0 => Some(member),
         _ => None,
     }

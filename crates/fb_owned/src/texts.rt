@@ -9,7 +9,7 @@ ghost use Rattle.fb_text.specs.Unnamed.{IsRefused};
 use crate::shown_values::ValueEntry;
 use fb_json::Place;
 use fb_layout::Layout;
-use fb_text::{Noted, Spacing, Style, TextFault, first_unnamed, write_shown};
+use fb_text::{Noted, Spacing, Style, TextFault, first_unnamed, names_are_utf8, write_shown};
 use fb_value::Value;
 use std::alloc::Global;
 
@@ -50,7 +50,7 @@ pub fn spaced_text_of(
     if let Some(unnamed) = first_unnamed(place, ValueEntry(Some(value))) {
         return Err(TextFault::NoMemberName(unnamed));
     }
-    let _names = layout.schema().types(); // tells that names are UTF-8
+    names_are_utf8(layout);
     let style = Style { layout, defaults };
     let mut out = Noted::over(Vec::new(alloc));
     if write_shown(ValueEntry(Some(value)), style, spacing, &mut out).is_err() {

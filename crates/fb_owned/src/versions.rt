@@ -12,10 +12,7 @@ use std::alloc::{AllocError, Global};
 fn number_in_new(old: &Schema, new: &Schema, type_id: TypeId) -> TypeId
     ensures { result.0 ≡ unwrap_or (twin old.now new.now type_id.0) 0 }
 {
-    match twin_of(old, new, type_id) {
-        Some(number) => number,
-        None => TypeId(0),
-    }
+    twin_of(old, new, type_id).unwrap_or(TypeId(0))
 }
 
 /// For each old type its number in the new schema, looked up once.
@@ -50,9 +47,9 @@ impl Versions<'_> {
     pub(crate) fn new_number(self, type_id: TypeId) -> TypeId
         ensures { result.0 ≡ to_new self.entry.before.now self.entry.after.now type_id.0 }
     {
-        match self.numbers.get(type_id.0 as usize) {
-            Some(number) => *number,
-            None => TypeId(0),
-        }
+        self.numbers
+            .get(type_id.0 as usize)
+            .copied()
+            .unwrap_or(TypeId(0))
     }
 }

@@ -7,7 +7,7 @@ use Rattle.std.proofs.lemmas.List.Sums.{sum_by-cons}
 use Rattle.std.proofs.Math.Seq.{drop-append_seam, take-append_seam}
 use Rattle.fb_layout.specs.Laid.{LaidSchema}
 use Rattle.fb_value.specs.Datum.{Datum}
-use Rattle.fb_value.specs.Num.{Bytes, num, divides}
+use Rattle.fb_value.specs.Num.{Bytes, num}
 use Rattle.fb_value.specs.Places.{table_part, part_place}
 use Rattle.fb_build.specs.Vtables.{StandsEnd}
 use Rattle.fb_build.specs.Tails.{TailSeen, LaidInTail}

@@ -10,7 +10,7 @@ use Rattle.fb_schema.specs.declared.types.Body.{Body}
 use Rattle.fb_schema.specs.declared.types.Body.TheVariants as the_body
 use Rattle.fb_schema.specs.declared.types.TypeInfo.{TypeInfo}
 use Rattle.fb_schema.specs.Schema.{Name, DeclaredBody, table_body, struct_body, enum_body, union_body}
-use Rattle.fb_schema.specs.Schema.{DeclaredSchema, body_in, body_at, slots_in, parts_in, members_in}
+use Rattle.fb_schema.specs.Schema.{DeclaredSchema, body_in, slots_in, parts_in, members_in}
 use Rattle.fb_schema.specs.Schema.{values_in}
 use Rattle.fb_schema.specs.Found.{name_numbered}
 use Rattle.fb_schema.specs.Seen.{field_seen, body_seen, type_seen}

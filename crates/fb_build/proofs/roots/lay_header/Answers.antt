@@ -1,8 +1,8 @@
-use Rattle.std.proofs.Common.{◌≡◌, ℕ, ◌+◌, ◌-◌, ◌%◌, ◌++◌, ◌∙◌, true, Some, refl, ap, sym, subst, length, replicate}
+use Rattle.std.proofs.Common.{◌≡◌, ◌+◌, ◌%◌, ◌++◌, ◌∙◌, true, refl, ap, sym, length, replicate}
 use Rattle.std.proofs.Common.{arith, length-append}
 use Rattle.std.proofs.lemmas.Bool.{eq-eqb, eqb-true}
 use Rattle.fb_value.proofs.tails.TailsAreKeptInFront.{through}
-use Rattle.fb_value.specs.Num.{Bytes, divides}
+use Rattle.fb_value.specs.Num.{divides}
 use Rattle.fb_build.proofs.covered.LaidBufferIsCovered.{IsWhole, covered_buffer, greatest_buffer}
 use Rattle.fb_build.proofs.roots.TailWithItsRootIsABuffer.{identified_behind, root_laid, identifier_short}
 use Rattle.fb_build.proofs.tail.PaddingIsZero.{zeros_long}

@@ -16,12 +16,12 @@ told (Err e) P p = λ same. p
 
 pub room-requires-clause-nests : goal.room-requires-clause-nests
 room-requires-clause-nests c = nesting_of_depth_shown c.args.layout.now (view c.args.value.now)
-    c.schema-schema.ensures.made c.requires.fits c.requires.deep
+    c.layout_is_well_made.ensures c.requires.fits c.requires.deep
 
 pub note_root-requires-clause-fits : goal.note_root-requires-clause-fits
 note_root-requires-clause-fits c =
     let L = c.args.layout.now in
-    let fits = (root_fits L _ c.schema-schema.ensures.made).0 c.requires.fits in
+    let fits = (root_fits L _ c.layout_is_well_made.ensures).0 c.requires.fits in
     let own = rw (c.in-Fields.is, view-Fields c.in-Fields.table c.in-Fields.entries) at fits in
     rw (c.deref.ensures.value, own.0) own.1
 
@@ -41,7 +41,7 @@ for_tape-requires-clause-means c =
     let L = c.args.layout.now in
     let value = c.args.value.now in
     let es = c.in-Fields.entries in
-    let fits = (root_fits L (view value) c.schema-schema.ensures.made).0 c.requires.fits in
+    let fits = (root_fits L (view value) c.layout_is_well_made.ensures).0 c.requires.fits in
     let low = c.in-Some.ensures.0 in
     let noted = root_noted L value c.in-Fields.table es c.in_ok-tape.tape c.in-Fields.is fits
     c.in_ok-tape.ensures.layout low (rw c.deref.ensures.value at c.in_ok-tape.ensures.waits)
@@ -53,7 +53,7 @@ for_tape-requires-clause-room c =
     let L = c.args.layout.now in
     let value = c.args.value.now in
     let es = c.in-Fields.entries in
-    let fits = (root_fits L (view value) c.schema-schema.ensures.made).0 c.requires.fits in
+    let fits = (root_fits L (view value) c.layout_is_well_made.ensures).0 c.requires.fits in
     let low = c.in-Some.ensures.0 in
     let noted = root_noted L value c.in-Fields.table es c.in_ok-tape.tape c.in-Fields.is fits
     c.in_ok-tape.ensures.layout low (rw c.deref.ensures.value at c.in_ok-tape.ensures.waits)
@@ -65,7 +65,7 @@ invariant_of-result c =
     let L = c.args.layout.now in
     let value = c.args.value.now in
     let es = c.in-Fields.entries in
-    let fits = (root_fits L (view value) c.schema-schema.ensures.made).0 c.requires.fits in
+    let fits = (root_fits L (view value) c.layout_is_well_made.ensures).0 c.requires.fits in
     let low = c.in-Some.ensures.0 in
     let noted = root_noted L value c.in-Fields.table es c.in_ok-tape.tape c.in-Fields.is fits
     c.in_ok-tape.ensures.layout low (rw c.deref.ensures.value at c.in_ok-tape.ensures.waits)

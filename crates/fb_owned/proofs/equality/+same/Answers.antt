@@ -1,18 +1,21 @@
-use Rattle.std.proofs.Common.{◌<◌, length, arith}
+use Rattle.std.proofs.Common.{◌≡◌, ◌<◌, length, ap, arith}
 use Rattle.std.proofs.lemmas.Bool.{false≢true}
+use Rattle.std.proofs.lemmas.Bool.Decides.{nat_tests}
+use Rattle.fb_value.specs.Datum.{a_table}
 use Rattle.fb_value.proofs.types.EachVariantHasItsView.{view-Fields}
 use Rattle.fb_owned.proofs.equality.EqualViewsHaveEqualParts.{parts_alike, entries_alike, parts_long, entries_long}
 use Rattle.fb_owned.proofs.equality.+same.Goals as goal
 
-pub same_in-returns-then-s-t : goal.same_in-returns-then-s-t
-same_in-returns-then-s-t t c =
-    rw (
-      c.in-Fields-Fields.is-0,
-      c.in-Fields-Fields.is-1,
-      view-Fields c.in-Fields-Fields.s c.in-Fields-Fields.a,
-      view-Fields c.in-Fields-Fields.t c.in-Fields-Fields.b,
+pub same_in-returns-then-eq : goal.same_in-returns-then-eq
+same_in-returns-then-eq t c =
+    let both = c.in-Fields-Fields in
+    let same : both.s.0 ≡ both.t.0 = grind (arith, nat_tests, c.if-eq.ensures) in
+    rw (both.is-0, both.is-1, view-Fields both.s both.a, view-Fields both.t both.b) (
+      (λ yes. let e = c.same_entries.ensures.0 yes in
+          rw (same, ← c.deref-then-eq.ensures.value, ← c.deref-then-eq-2.ensures.value)
+          (ap (λ es. a_table both.t.0 es) e)),
+      λ e. c.same_entries.ensures.1 cc,
     )
-    ((λ yes. let e = c.same_entries.ensures.0 yes in cc), λ e. c.same_entries.ensures.1 cc)
 
 pub same_parts-returns-then-first-second : goal.same_parts-returns-then-first-second
 same_parts-returns-then-first-second t c = (

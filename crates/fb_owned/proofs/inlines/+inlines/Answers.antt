@@ -20,9 +20,9 @@ read_struct-read_inline-requires t c =
     let kind : stored_kind L.schema c.kind_in-kind.result ≡ field_kind L x =
     c.kind_in-kind.ensures L.schema ∙ ap (λ (f : FieldInfo). field_kind L f) (sym c.index-fields-index.is) in
     let ranked : rank (stored_kind L.schema c.kind_in-kind.result) ≤ s =
-    rw kind (field_rank L c.schema-schema.ensures.made s xs c.parts_of-fields.ensures.parts c.loop-index.index x
+    rw kind (field_rank L c.layout_is_well_made.ensures s xs c.parts_of-fields.ensures.parts c.loop-index.index x
     less c.index-fields-index.is) in
-    let within = field_within L s xs c.parts_of-fields.ensures.parts c.schema-schema.ensures.made c.args.at _
+    let within = field_within L s xs c.parts_of-fields.ensures.parts c.layout_is_well_made.ensures c.args.at _
     c.loop-index.index x less c.index-fields-index.is c.requires.within in
     (omega (arith, ranked, c.decreases), (rw (c.offset_of-offset.ensures, kind) within, c.requires.short))
 
@@ -38,14 +38,14 @@ read_struct-loop-index-preserved t c =
     c.kind_in-kind.ensures L.schema ∙ ap (λ (f : FieldInfo). field_kind L f) (sym c.index-fields-index.is) in
     elim c.match-branch-3.branch [
       | read_struct-in-Some+in_ok-push w ↦ λ ds lies.
-          (let found = field_there L s xs c.parts_of-fields.ensures.parts c.schema-schema.ensures.made b c.args.at ds
+          (let found = field_there L s xs c.parts_of-fields.ensures.parts c.layout_is_well_made.ensures b c.args.at ds
           c.loop-index.index x less c.index-fields-index.is lies in
           let same = c.in_ok-part.ensures found.0 (rw (kind, c.offset_of-offset.ensures) found.2) in
           rw (w.parts-is, w.in_ok-push.ensures.items) (parts_grown c.loop-index.parts.items w.in-Some.part
           c.loop-index.index ds found.0 (c.loop-index.invariant ds lies) (parts_here _ ds found.0 found.1)
           (found_same _ w.in-Some.part found.0 w.in-Some.is same)))
       | read_struct-in_default w ↦ λ ds lies.
-          (let found = field_there L s xs c.parts_of-fields.ensures.parts c.schema-schema.ensures.made b c.args.at ds
+          (let found = field_there L s xs c.parts_of-fields.ensures.parts c.layout_is_well_made.ensures b c.args.at ds
           c.loop-index.index x less c.index-fields-index.is lies in
           let same = c.in_ok-part.ensures found.0 (rw (kind, c.offset_of-offset.ensures) found.2) in
           absurd (found_none _ found.0 w.in_default.is same))

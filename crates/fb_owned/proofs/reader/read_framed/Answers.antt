@@ -11,7 +11,7 @@ returns-clause-value c =
     let L = c.args.layout.now in
     let same = c.in_ok-buffer.ensures.buffer in
     let found = rw (same.layout, same.bytes, same.depth, same.cells) at c.visit_root.ensures.finds in
-    answer_held (front_of c.args.prefixed) _ L c.args.limits c.args.bytes.now c.schema-schema.ensures.made
+    answer_held (front_of c.args.prefixed) _ L c.args.limits c.args.bytes.now c.layout_is_well_made.ensures
     c.visit_root.result c.in_ok-buffer.ensures.front found (kept_of_bytes (λ v d. view v ≡ d) L c.args.bytes.now
     c.args.limits c.in_ok-buffer.buffer (front_of c.args.prefixed) same c.visit_root.result c.visit_root.ensures.kept)
 
@@ -20,7 +20,7 @@ returns-clause-fits c =
     let small : All (λ x. x < 256) c.args.bytes.now = All-from_get_or (λ x. x < 256) c.args.bytes.now 0
     (λ i less. (let fits = c.type_inv.bytes i in omega arith)) in
     answer_fits (front_of c.args.prefixed) _ c.args.layout.now c.args.limits c.args.bytes.now
-    c.schema-schema.ensures.made small c.visit_root.result (returns-clause-value c)
+    c.layout_is_well_made.ensures small c.visit_root.result (returns-clause-value c)
 
 pub returns-clause-deep : goal.returns-clause-deep
 returns-clause-deep c =
@@ -33,7 +33,7 @@ pub returns-clause-nests : goal.returns-clause-nests
 returns-clause-nests c =
     answer_nests (front_of c.args.prefixed)
     (front_fault c.args.prefixed c.args.bytes.now (checked_identifier c.args.layout.now c.args.raw)) c.args.layout.now
-    c.args.limits c.args.bytes.now c.schema-schema.ensures.made
+    c.args.limits c.args.bytes.now c.layout_is_well_made.ensures
     c.visit_root.result (returns-clause-fits c) (returns-clause-deep c)
 
 pub returns-clause-fault : goal.returns-clause-fault
@@ -41,7 +41,7 @@ returns-clause-fault c =
     let same = c.in_ok-buffer.ensures.buffer in
     let found = rw (same.layout, same.bytes, same.depth, same.cells) at c.visit_root.ensures.finds in
     answer_refused (front_of c.args.prefixed) _ c.args.layout.now c.args.limits c.args.bytes.now
-    c.schema-schema.ensures.made c.visit_root.result c.in_ok-buffer.ensures.front found
+    c.layout_is_well_made.ensures c.visit_root.result c.in_ok-buffer.ensures.front found
 
 pub returns-clause-reached : goal.returns-clause-reached
 returns-clause-reached c memory =

@@ -1,4 +1,4 @@
-use Rattle.std.proofs.Common.{None, Some, sym, ap, ◌∙◌, arith}
+use Rattle.std.proofs.Common.{None, Some, option_map, sym, ap, ◌∙◌, arith}
 use Rattle.std.specs.Option.{option_copied}
 use Rattle.fb_schema.proofs.Got.{got_of}
 use Rattle.fb_value.specs.View.{view, parts_view, entries_view}
@@ -47,28 +47,34 @@ returns-in-Fixed-clause-lighter c =
     let light = rw whole at (part_light (parts_view parts.items) c.args.i) in
     rw seen (omega (arith, light))
 
-pub returns-in-Some-clause-known : goal.returns-in-Some-clause-known
-returns-in-Some-clause-known c =
+pub returns-in_ok-entry-in-Fields-clause-known : goal.returns-in_ok-entry-in-Fields-clause-known
+returns-in_ok-entry-in-Fields-clause-known c =
     let entries = c.in-Fields.entries in
     let seen = ap view c.in-Fields.is ∙ view-Fields c.in-Fields.field-0 entries in
-    let there = got_of c.as_slice-in-Fields.result.now entries.items c.args.i (Some c.in-Some.entry)
-    c.as_slice-in-Fields.ensures.value c.in-Some.ensures.lookup.0 c.in-Some.ensures.lookup.1 in
-    rw seen (c.lent.ensures ∙ sym (entry_viewed entries.items c.args.i c.in-Some.entry.now there))
+    let entry = c.in_ok-entry-in-Fields.entry in
+    let there = got_of c.as_slice-in-Fields.result.now entries.items c.args.i (Some entry)
+    c.as_slice-in-Fields.ensures.value c.in_ok-entry-in-Fields.ensures.lookup.0
+    c.in_ok-entry-in-Fields.ensures.lookup.1 in
+    rw seen (sym (copied_view c.as_ref.result) ∙ ap (option_map view) c.as_ref.ensures.value
+    ∙ sym (entry_viewed entries.items c.args.i entry.now there))
 
-pub returns-in-Some-clause-lighter : goal.returns-in-Some-clause-lighter
-returns-in-Some-clause-lighter c =
+pub returns-in_ok-entry-in-Fields-clause-lighter : goal.returns-in_ok-entry-in-Fields-clause-lighter
+returns-in_ok-entry-in-Fields-clause-lighter c =
     let entries = c.in-Fields.entries in
     let seen = ap view c.in-Fields.is ∙ view-Fields c.in-Fields.field-0 entries in
-    let there = got_of c.as_slice-in-Fields.result.now entries.items c.args.i (Some c.in-Some.entry)
-    c.as_slice-in-Fields.ensures.value c.in-Some.ensures.lookup.0 c.in-Some.ensures.lookup.1 in
-    let light = rw (entry_viewed entries.items c.args.i c.in-Some.entry.now there ∙ sym c.lent.ensures)
+    let entry = c.in_ok-entry-in-Fields.entry in
+    let there = got_of c.as_slice-in-Fields.result.now entries.items c.args.i (Some entry)
+    c.as_slice-in-Fields.ensures.value c.in_ok-entry-in-Fields.ensures.lookup.0
+    c.in_ok-entry-in-Fields.ensures.lookup.1 in
+    let light = rw (entry_viewed entries.items c.args.i entry.now there
+    ∙ sym (sym (copied_view c.as_ref.result) ∙ ap (option_map view) c.as_ref.ensures.value))
     at (entry_light (entries_view entries.items) c.args.i) in
     rw seen (omega (arith, light))
 
-pub returns-in-None-clause-known : goal.returns-in-None-clause-known
-returns-in-None-clause-known c =
+pub returns-in_err-entry-in-Fields-clause-known : goal.returns-in_err-entry-in-Fields-clause-known
+returns-in_err-entry-in-Fields-clause-known c =
     let entries = c.in-Fields.entries in
     let seen = ap view c.in-Fields.is ∙ view-Fields c.in-Fields.field-0 entries in
     let there = got_of c.as_slice-in-Fields.result.now entries.items c.args.i None c.as_slice-in-Fields.ensures.value
-    c.in-None.ensures.lookup.0 c.in-None.ensures.lookup.1 in
-    rw seen (sym (entry_past entries.items c.args.i there))
+    c.in_err-entry-in-Fields.ensures.lookup.0 c.in_err-entry-in-Fields.ensures.lookup.1 in
+    rw (c.from_residual.ensures, seen) (sym (entry_past entries.items c.args.i there))

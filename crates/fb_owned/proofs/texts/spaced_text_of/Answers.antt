@@ -8,7 +8,6 @@ use Rattle.fb_text.specs.Texts.{spaced_text}
 use Rattle.fb_text.specs.Unnamed.{first_unnamed}
 use Rattle.fb_text.specs.Writes.{IsWritten}
 use Rattle.fb_text.specs.declared.faults.WriteFault.{WriteFault}
-use Rattle.fb_text.proofs.texts.NamesAreUtf8.{schema_utf8}
 use Rattle.fb_text.proofs.texts.TextIsUtf8.{text_utf8}
 use Rattle.fb_text.proofs.texts.WholeWhereEachUnionIsNamed.{named_whole, unnamed_part}
 use Rattle.fb_owned.proofs.texts.spaced_text_of.Goals as goal
@@ -41,9 +40,7 @@ unreachable-requires c =
     let made = written_items c.write_shown.result _ _ (spaced_text c.args.spacing L c.args.defaults d)
     (sym c.is_err.ensures.value ∙ c.if-is_err.false) (rw c.over-out.ensures.same c.new.ensures.items)
     (c.write_shown.ensures.written d refl) in
-    let names = c.types-names.ensures.types ∙ ap (λ (s : DeclaredSchema). s.types) c.schema-2.ensures.schema in
-    let text = text_utf8 L (schema_utf8 L.schema c.types-names.result.now names) c.args.defaults c.args.spacing d
-    (value_utf8 c.args.value.now) in
+    let text = text_utf8 L c.names_are_utf8.ensures c.args.defaults c.args.spacing d (value_utf8 c.args.value.now) in
     let utf8 : IsUtf8 c.into_inner.result.items = rw (c.into_inner.ensures, made) text in
     let fine : false ≡ true = rw c.in-Err.is at (c.from_utf8.ensures.succeeds utf8) in
     cc

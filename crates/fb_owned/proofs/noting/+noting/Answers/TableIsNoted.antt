@@ -105,7 +105,8 @@ all_slots_noted t c =
 pub entries_known : goal.note_table-note_entries-requires
 entries_known t c =
     let L = c.args.layout.now in
-    let known = known_in L c.args.table.0 (entries_seen c.args.entries.now) c.schema-schema.ensures.made c.requires.fits
+    let known = known_in L c.args.table.0 (entries_seen c.args.entries.now) c.layout_is_well_made.ensures
+    c.requires.fits
     c.requires.known in
     let seen = slots_are L c.args.table.0 c.slots_of.result.now c.slots_of.ensures.slots in (
       search (rules, the_lemmas),
@@ -129,7 +130,7 @@ fields_are_stored t c =
     let seen = slots_are L c.args.table.0 c.slots_of.result.now c.slots_of.ensures.slots in
     let same = c.in_ok-note_entries.ensures.adds.layout ∙ c.requires.layout in (
       entries_seen es,
-      rw (same, c.len-first.ensures.exact) (open_table L c.args.table.0 es _ _ c.schema-schema.ensures.made
+      rw (same, c.len-first.ensures.exact) (open_table L c.args.table.0 es _ _ c.layout_is_well_made.ensures
           c.requires.fits c.requires.known (rw seen at c.in_ok-note_entries.ensures.slots)),
     )
 
@@ -142,7 +143,7 @@ table_adds_itself t c =
     let same = adds.layout ∙ c.requires.layout in
     let closed = rw same at c.in_ok-close_table.ensures.waits in
     let sum = rw same at c.in_ok-close_table.ensures.room in
-    let stored = open_table L c.args.table.0 es _ _ c.schema-schema.ensures.made c.requires.fits c.requires.known
+    let stored = open_table L c.args.table.0 es _ _ c.layout_is_well_made.ensures c.requires.fits c.requires.known
     (rw seen at c.in_ok-note_entries.ensures.slots) in
     record {
       waits = λ others w. closed others (entries_seen es) (rw c.len-first.ensures.exact stored)

@@ -1,7 +1,6 @@
-use Rattle.std.proofs.Common.{◌≡◌, ◌<◌, ◌≤◌, ◌∙◌, length, slice_index_or, Some, None, option_map, refl, sym, ap, arith}
+use Rattle.std.proofs.Common.{◌≡◌, ◌<◌, ◌≤◌, ◌∙◌, length, slice_index_or, Some, None, refl, sym, ap, arith}
 use Rattle.fb_layout.specs.Laid.{stored_kind}
 use Rattle.fb_schema.specs.declared.types.FieldInfo.{FieldInfo}
-use Rattle.fb_schema.specs.declared.kinds.TypeId.{TypeId}
 use Rattle.fb_read.specs.Kinds.{structure_wanted}
 use Rattle.fb_read.proofs.placed.PartsLieInTheirPlaces.{field_kind, field_within, field_struct, field_no_struct}
 use Rattle.fb_read.proofs.placed.PartsLieInTheirPlaces.{field_past, structure_fits}

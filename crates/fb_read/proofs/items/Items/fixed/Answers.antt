@@ -1,5 +1,4 @@
-use Rattle.std.proofs.Common.{◌∙◌, sym, ap, option_map}
-use Rattle.fb_schema.specs.declared.kinds.TypeId.{TypeId}
+use Rattle.std.proofs.Common.{sym}
 use Rattle.fb_layout.specs.Laid.{stored_kind, size_of}
 use Rattle.fb_read.proofs.placed.PartsLieInTheirPlaces.{item_within, item_struct, item_no_struct, structure_fits}
 use Rattle.fb_read.proofs.items.Items.fixed.Goals as goal

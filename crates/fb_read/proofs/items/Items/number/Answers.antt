@@ -1,5 +1,5 @@
 use mir.Facts.{to_z-of_z}
-use Rattle.std.proofs.Common.{◌∙◌, sym, rules}
+use Rattle.std.proofs.Common.{sym, rules}
 use Rattle.std.specs.Prelude.{FitsSigned}
 use Rattle.std.specs.Int.{w128}
 use Rattle.fb_layout.specs.Laid.{stored_kind, size_of}

@@ -1,5 +1,4 @@
-use Rattle.std.proofs.Common.{◌∙◌, sym, ap, option_map, arith}
-use Rattle.fb_schema.specs.declared.kinds.TypeId.{TypeId}
+use Rattle.std.proofs.Common.{sym, arith}
 use Rattle.fb_layout.specs.Laid.{stored_kind}
 use Rattle.fb_read.proofs.placed.PartsLieInTheirPlaces.{item_table_sure, item_table_lies, item_table, item_no_table}
 use Rattle.fb_read.proofs.items.Items.table.Goals as goal

@@ -1,4 +1,4 @@
-use Rattle.std.proofs.Common.{sym, ◌∙◌}
+use Rattle.std.proofs.Common.{sym}
 use Rattle.fb_read.specs.Views.{entry_of}
 use Rattle.fb_read.proofs.view.AccessorsReadTheEntry.{struct_found, struct_none}
 use Rattle.fb_read.proofs.view.ViewsAreWithinTheBuffer.{struct_sure}

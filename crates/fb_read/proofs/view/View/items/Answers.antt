@@ -1,4 +1,4 @@
-use Rattle.std.proofs.Common.{sym, ◌∙◌, arith}
+use Rattle.std.proofs.Common.{sym, arith}
 use Rattle.fb_read.specs.Views.{entry_of}
 use Rattle.fb_read.proofs.view.AccessorsReadTheEntry.{vector_found, vector_none}
 use Rattle.fb_read.proofs.view.ViewsAreWithinTheBuffer.{vector_sure, count_sure, items_sure, items_lie}

@@ -1,4 +1,4 @@
-use Rattle.std.proofs.Common.{sym, ◌∙◌, arith}
+use Rattle.std.proofs.Common.{sym, arith}
 use Rattle.fb_read.specs.Views.{entry_of}
 use Rattle.fb_read.proofs.view.AccessorsReadTheEntry.{member_found, member_none}
 use Rattle.fb_read.proofs.view.ViewsAreWithinTheBuffer.{member_sure, member_lies}
