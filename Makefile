@@ -10,7 +10,8 @@
 # make check CRATE=NAME  proves one crate over the libraries below it
 # make rows       tries the rows of crates/test_rows, with nothing proved
 # make fmt        formats all crates
-# make mutations  further edits that the prover has to refuse, outside the gate; CRATE=NAME tries those of one crate
+# make mutations  tries the edits that the prover has to refuse, outside the gate: those that read something else when
+#                 they were last tried; CRATE=NAME those of one crate, ALL=1 all of them
 # make costs      tells what a check of CRATE=NAME spends its time on
 # make soak       a million damaged buffers of schemas made from SEED, and files of gigabytes, outside the gate
 # make bench      times the program on generated documents, beside Google's flatc where that is installed
@@ -88,7 +89,7 @@ fmt:
 	@for crate in crates/*/; do (cd $$crate && rt fmt) || exit 1; done
 
 mutations:
-	@python3 tools/mutations.py $(CRATE)
+	@python3 tools/mutations.py $(if $(ALL),,--stale) $(CRATE)
 
 costs:
 	@python3 tools/costs.py $(CRATE)

@@ -77,7 +77,9 @@ typedef struct flatc_fault {
  * Fields that end behind the first `size` bytes have their defaults; all of the struct is readable nonetheless. */
 typedef struct flatc_options {
     uint32_t size;      /* sizeof(flatc_options); at least 4 */
-    uint32_t max_cells; /* the most tables, vectors and strings; 100000000 by default */
+    uint32_t max_cells; /* the most cells; 100000000 by default. A table, a vector and a
+                         * string are one each, and so is each byte of a string and each
+                         * element of a vector */
     uint8_t max_depth;  /* how deep tables may be nested, 1 to 127; 64 by default */
     bool unknown_json;  /* flatc_encode: ignores unknown JSON fields */
     bool raw_binary;    /* flatc_decode, flatc_verify: skips the file identifier check */

@@ -2,13 +2,17 @@
 """Tries the edits of crates/*/mutations: each turns the meaning of a function, and the prover has to refuse it.
 
 usage: tools/mutations.py [CRATE..]      tries the edits of all crates, or of these
-       tools/mutations.py --applies      only checks that each edit can still be applied
+       tools/mutations.py --stale [CRATE..]  tries only those that read something else when they were last refused
+       tools/mutations.py --applies      only checks that each edit can still be applied, and counts the stale ones
        tools/mutations.py --not-compiled tries the edits of crates/*/not-compiled instead
 
 An edit has the form that rt gives those in must-fail/: lines 'file: src/lib.rt', and then pairs of lines 'old: TEXT'
 and 'new: TEXT', where the old text is in that file exactly once. The crates below are proved first, as tools/build.py
 does. Each crate is proved once, and over what that leaves each of its edits is tried: in the modules that it changes,
 and in the whole crate where these are still proved. The last line is 'N refused, M not refused'.
+
+What was refused is noted in tools/mutations.tried, with a sum of what the trial read: the toolchain, the edit, the
+crate, and what the crates below it state (their specs, and their sources without the bodies of functions).
 
 An edit in crates/*/not-compiled writes what can't even be compiled, and has a line 'error: NAME' more: the compiler has
 to refuse it with that error, and no other. The crates below have to be proved. The last line is
@@ -17,7 +21,9 @@ to refuse it with that error, and no other. The crates below have to be proved. 
 import argparse
 import concurrent.futures
 import contextlib
+import functools
 import glob
+import hashlib
 import os
 import re
 import shutil
@@ -25,7 +31,9 @@ import subprocess
 import sys
 import tempfile
 
-from build import MOST_JOBS_OF_A_CRATE, ROOT, below, jobs_here, prove, read_crates, words_of
+from build import MOST_JOBS_OF_A_CRATE, ROOT, below, files_of, jobs_here, kit, prove, read_crates, words_of
+
+TRIED = f"{ROOT}/tools/mutations.tried"
 
 
 def edited(edit, folder):
@@ -56,15 +64,85 @@ def edits_of(name, kind="mutations"):
     return sorted(glob.glob(f"{ROOT}/crates/{name}/{kind}/*.edit"))
 
 
+def without_bodies(text):
+    """A source without the bodies of its functions, in the layout of rt fmt."""
+    kept, closing = [], None
+    for line in text.split("\n"):
+        if closing is not None:
+            closing = None if line == closing else closing
+            continue
+        kept.append(line)
+        opening = re.fullmatch(r"( *)\{|( *)\S.*\bfn .*\{", line)
+        if opening:
+            closing = f"{opening[1] or opening[2] or ''}}}"
+    return "\n".join(kept)
+
+
+@functools.cache
+def text_of(path):
+    with open(path, encoding="utf-8") as it:
+        return it.read()
+
+
+@functools.cache
+def statements_sum(name):
+    """A sum of what a crate states for those above it."""
+    total = hashlib.sha256()
+    for path in files_of(name):
+        where = os.path.relpath(path, f"{ROOT}/crates/{name}")
+        if where.startswith("specs/"):
+            total.update(repr((where, text_of(path))).encode())
+        elif where.startswith("src/"):
+            total.update(repr((where, without_bodies(text_of(path)))).encode())
+    return total.hexdigest()
+
+
+@functools.cache
+def crate_sum(name):
+    """A sum of what a trial of one of a crate's edits reads, without the edit."""
+    crates = read_crates()
+    total = hashlib.sha256(repr((text_of(f"{kit()}/KIT-ID"), crates[name][0])).encode())
+    for path in files_of(name):
+        total.update(repr((os.path.relpath(path, ROOT), text_of(path))).encode())
+    for other in below(crates, name):
+        total.update(repr((other, statements_sum(other))).encode())
+    return total.hexdigest()
+
+
+def sum_of_trial(edit, name):
+    return hashlib.sha256((crate_sum(name) + text_of(edit)).encode()).hexdigest()[:16]
+
+
+def read_tried():
+    """The edits that were refused, each with the sum of what was read then."""
+    with contextlib.suppress(FileNotFoundError), open(TRIED, encoding="ascii") as it:
+        return dict(line.split() for line in it)
+    return {}
+
+
+def is_stale(edit, name, tried):
+    return tried.get(os.path.relpath(edit, ROOT)) != sum_of_trial(edit, name)
+
+
+def note_tried(name, refused):
+    """Notes which edits of a crate were refused now; those that are gone are forgotten."""
+    tried = {path: total for path, total in read_tried().items() if os.path.exists(f"{ROOT}/{path}")}
+    tried.update({os.path.relpath(it, ROOT): sum_of_trial(it, name) for it in refused})
+    with open(TRIED, "w", encoding="ascii") as it:
+        it.writelines(f"{path} {total}\n" for path, total in sorted(tried.items()))
+
+
 def do_all_apply(crates):
     failed = 0
+    tried = read_tried()
     edits = [(it, name) for name in crates for it in edits_of(name)]
     for edit, name in edits:
         _, why = edited(edit, f"{ROOT}/crates/{name}")
         if why:
             failed += 1
             print(f"mutation {os.path.relpath(edit, ROOT)}: can't be applied: {why}")
-    print("mutations that can be applied:")
+    stale = sum(is_stale(it, name, tried) for it, name in edits)
+    print(f"of {len(edits)} mutations {len(edits) - stale} were refused as they are; those that can be applied:")
     print(f"{len(edits) - failed} passed, {failed} failed")
     return failed
 
@@ -167,8 +245,8 @@ def try_edit(edit, name, words, seed):
     return False, "NOT REFUSED: the crate is still proved with it"
 
 
-def try_crate(crates, name):
-    """Tries the edits of a crate over the libraries below; returns how many were refused."""
+def try_crate(crates, name, edits):
+    """Tries edits of a crate over the libraries below; returns how many were refused."""
     words, jobs = words_of(crates, name, "check"), jobs_here()
     with tempfile.TemporaryDirectory(prefix=f"seed-{name}-") as seed:
         more = ["--jobs", str(min(jobs, MOST_JOBS_OF_A_CRATE)), "--incremental", seed]
@@ -177,22 +255,24 @@ def try_crate(crates, name):
             print(f"{name} isn't proved:", *lines[-6:], sep="\n")
             return 0
         with concurrent.futures.ThreadPoolExecutor(jobs) as pool:
-            edits = edits_of(name)
-            refused = 0
+            refused = []
             for edit, (well, said) in zip(edits, pool.map(lambda it: try_edit(it, name, words, seed), edits)):
-                refused += well
+                refused += [edit] * well
                 print(f"{os.path.relpath(edit, ROOT)}: {said}", flush=True)
-    return refused
+    note_tried(name, refused)
+    return len(refused)
 
 
-def try_all(crates, names):
-    """Tries the edits of some crates; returns how many weren't refused."""
-    names = [it for it in names if edits_of(it)]
+def try_all(crates, names, only_stale):
+    """Tries the edits of some crates, or the stale ones alone; returns how many weren't refused."""
+    tried = read_tried()
+    edits = {name: [it for it in edits_of(name) if not only_stale or is_stale(it, name, tried)] for name in names}
+    names = [it for it in names if edits[it]]
     wanted = [it for it in crates if any(it in below(crates, name) for name in names)]
     if not prove(crates, wanted):
         return 1
-    refused = sum(try_crate(crates, name) for name in names)
-    left = sum(len(edits_of(it)) for it in names) - refused
+    refused = sum(try_crate(crates, name, edits[name]) for name in names)
+    left = sum(len(edits[it]) for it in names) - refused
     print(f"{refused} refused, {left} not refused")
     return left
 
@@ -202,6 +282,7 @@ def main():
     parser.add_argument("crates", nargs="*")
     parser.add_argument("--applies", action="store_true")
     parser.add_argument("--not-compiled", action="store_true")
+    parser.add_argument("--stale", action="store_true")
     given = parser.parse_args()
     crates = read_crates()
     if given.applies:
@@ -209,7 +290,7 @@ def main():
     if given.not_compiled:
         return 1 if do_none_compile(crates) else 0
     names = [it for it in crates if it in given.crates or not given.crates]
-    return 1 if try_all(crates, names) else 0
+    return 1 if try_all(crates, names, given.stale) else 0
 
 
 if __name__ == "__main__":

@@ -1,10 +1,9 @@
 //! Why no buffer is built.
 use std::alloc::{AllocError, AllocFailed};
-use std::fmt;
 use thiserror::Error;
 
 /// Why no buffer is built.
-#[derive(Clone, Copy, Drop, Error)]
+#[derive(Clone, Copy, Debug, PartialEq, Eq, Drop, Error)]
 pub enum BuildFault {
     /// The value's room is over 2,147,483,647 bytes.
     #[error("the buffer may take more than 2147483647 bytes")]
@@ -12,13 +11,6 @@ pub enum BuildFault {
     /// A refused allocation.
     #[error("out of memory")]
     Memory,
-}
-
-// The sentence: a derived one takes the prover a step for each variant.
-impl fmt::Debug for BuildFault {
-    fn fmt<W: fmt::Write>(&self, f: &mut fmt::Formatter<W>) -> fmt::Result {
-        fmt::Display::fmt(self, f)
-    }
 }
 
 impl BuildFault {

@@ -8,7 +8,7 @@ ghost use Rattle.fb_build.specs.NotesLaid.{notes_references, notes_size};
 ghost use Rattle.fb_build.specs.Steps.{MayLayNext, Steps};
 ghost use Rattle.fb_build.specs.TapeLaid.{IsFresh};
 
-use crate::tail::Tail;
+use crate::tail::{Tail, laid_is_short};
 use crate::taped_fields::lay_fields;
 use crate::taped_vtables::{NumberedVtable, close_table};
 use crate::{taped_data, taped_references};
@@ -44,6 +44,14 @@ impl Laying {
             places: Vec::with_capacity(alloc, vtables)?,
         })
     }
+}
+
+/// The fields of a table that is laid: their notes, their bytes, and how many of them are references.
+#[derive(Clone, Copy)]
+pub(crate) struct TableFields<'t> {
+    pub(crate) notes: &'t [NotedField],
+    pub(crate) bytes: &'t [u8],
+    pub(crate) references: usize,
 }
 
 /// A part waits in the place of those that were laid last, to which it refers.
@@ -94,25 +102,31 @@ pub(crate) fn lay_table(
     align: Alignment,
     number: usize,
     vtable: &NumberedVtable<'_, '_>,
-    notes: &[NotedField],
-    bytes: &[u8],
-    taken: usize,
+    fields: TableFields<'_>,
 )
-    requires taken { taken ≡ notes_references notes.now }
-    requires ready { MayLayNext (Table align (length notes.now) number) vtable.now notes.now bytes.now laying.old }
+    requires taken { fields.references ≡ notes_references fields.notes.now }
+    requires ready { MayLayNext (Table align (length fields.notes.now) number) vtable.now fields.notes.now
+        fields.bytes.now laying.old }
     requires reserved { length laying.old.waiting.items < vec_capacity laying.old.waiting }
     requires places { number ≡ length laying.old.places.items
         → length laying.old.places.items < vec_capacity laying.old.places }
-    ensures laid { Steps (Table align (length notes.now) number) vtable.now notes.now bytes.now laying.old laying.new }
+    ensures laid { Steps (Table align (length fields.entry.notes.now) number) vtable.now fields.entry.notes.now
+        fields.entry.bytes.now laying.old laying.new }
     ensures long { length laying.new.tail.bytes
         ≡ table_end (length vtable.now) number (length laying.old.places.items)
-        (fields_end (aligned_to align) (notes_size notes.now) (length laying.old.tail.bytes)) }
+        (fields_end (aligned_to align) (notes_size fields.entry.notes.now) (length laying.old.tail.bytes)) }
     ensures most { laying.new.tail.most ≡ max (max laying.old.tail.most (aligned_to align)) 4 }
 {
-    let first = laying.waiting.len() - taken;
+    let first = laying.waiting.len() - fields.references;
     let waiting = &laying.waiting[first..];
-    let _start = lay_fields(&mut laying.tail, align.bytes(), notes, bytes, waiting);
+    let _start = lay_fields(
+        &mut laying.tail,
+        align.bytes(),
+        fields.notes,
+        fields.bytes,
+        waiting,
+    );
     let end = close_table(&mut laying.tail, &mut laying.places, number, vtable);
-    let _end = laying.tail.count(); // its contract: what is laid is short
-    wait(&mut laying.waiting, taken, end);
+    laid_is_short(&laying.tail);
+    wait(&mut laying.waiting, fields.references, end);
 }

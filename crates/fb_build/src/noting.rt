@@ -42,9 +42,8 @@ impl<'l> Noting<'l> {
         ensures opened { IfOk result (λ noting. noting.opened ≡ []) }
     {
         let mut noting = Noting::new(alloc, layout);
-        if noting.tape.reserve().is_err() || noting.opened.reserve().is_err() {
-            return Err(AllocError);
-        }
+        noting.tape.reserve()?;
+        noting.opened.reserve()?;
         Ok(noting)
     }
 }
@@ -53,8 +52,8 @@ impl<'l> Noting<'l> {
 pub fn is_reference(shape: Shape) -> bool
     ensures { (L : LaidSchema) → result ≡ is_reference (shape_seen L shape) }
 {
-    match shape {
-        Shape::One(Kind::Text | Kind::Table(_) | Kind::Union(_)) | Shape::Many(_) => true,
-        Shape::One(_) => false,
-    }
+    matches!(
+        shape,
+        Shape::One(Kind::Text | Kind::Table(_) | Kind::Union(_)) | Shape::Many(_)
+    )
 }

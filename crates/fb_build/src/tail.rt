@@ -169,3 +169,10 @@ impl Tail {
         end_of(self.block, self.free)
     }
 }
+
+/// What is laid and what is free are short together: a block is shorter than 2 GiB.
+pub(crate) fn laid_is_short(tail: &Tail)
+    ensures { tail.now.free + length tail.now.bytes ≤ 2147483647 }
+{
+    let _count = tail.count();
+}

@@ -10,7 +10,7 @@ ghost use Rattle.fb_build.specs.Lengths.{data_end};
 ghost use Rattle.fb_build.specs.Made.{Adds};
 ghost use Rattle.fb_build.specs.Tails.{Grows, LaidInTail};
 
-use crate::tail::Tail;
+use crate::tail::{Tail, laid_is_short};
 
 /// Lays bytes that refer to nothing, aligned behind their count, which they begin with.
 pub(crate) fn lay_data(out: &mut Tail, align: usize, bytes: &[u8])
@@ -27,7 +27,7 @@ pub(crate) fn lay_data(out: &mut Tail, align: usize, bytes: &[u8])
     ensures most { out.new.most ≡ max out.old.most align }
     ensures grows { Grows out.old out.new }
 {
-    let _laid = out.count(); // its contract: what is laid and what is free are short
+    laid_is_short(out);
     out.fit(align, bytes.len() - 4);
     out.lay(bytes);
 }

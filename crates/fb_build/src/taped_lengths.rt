@@ -12,7 +12,7 @@ ghost use Rattle.fb_build.specs.TapeLaid.{SomeOp, SomeLay, op_end, op_most, tape
 
 use crate::padding::zeros_to;
 use byteorder::{ByteOrder, LittleEndian};
-use fb_layout::Layout;
+use fb_layout::{Layout, layout_is_well_made};
 use fb_tape::{Op, Tape};
 
 /// What is counted of the operations so far: how many bytes are laid, what they are padded to at most, and how many
@@ -95,7 +95,7 @@ fn count_tape(layout: &Layout, tape: &Tape) -> Counted
     ensures most { result.most ≡ tape_most tape.now }
     ensures power { IsAlignment result.most }
 {
-    let _schema = layout.schema(); // its contract: the layout is well made
+    layout_is_well_made(layout);
     let ops = tape.ops();
     let mut counted = Counted {
         laid: 0,
@@ -117,7 +117,7 @@ pub(crate) fn buffer_end(layout: &Layout, tape: &Tape, front: usize) -> usize
     ensures exact { result ≡ buffer_end front layout.now tape.now }
     ensures bound { result ≤ front + (tape.now.room + (8 + (greatest layout.now - 1))) }
 {
-    let _schema = layout.schema(); // its contract: the layout is well made
+    layout_is_well_made(layout);
     let Counted { laid, most, .. } = count_tape(layout, tape);
     let header = match layout.schema().identifier() {
         Some(_) => 8 + front,

@@ -11,10 +11,10 @@ ghost use Rattle.fb_build.specs.TapeLaid.{SomeLay, IsFresh, tape_end};
 ghost use Rattle.fb_build.specs.Tails.{Grows};
 ghost use Rattle.fb_build.specs.Waiting.{AreWaiting};
 
-use crate::laying::{Laying, lay_data, lay_references, lay_table};
+use crate::laying::{Laying, TableFields, lay_data, lay_references, lay_table};
 use crate::taped_fields::taken_by;
 use crate::taped_vtables::NumberedVtable;
-use fb_layout::Layout;
+use fb_layout::{Layout, layout_is_well_made};
 use fb_tape::{NotedField, Op, Tape};
 
 /// The fields from an index on.
@@ -84,7 +84,12 @@ fn lay_op(laying: &mut Laying, tape: &Tape, op: Op, fields: &[NotedField], bytes
             let taken = taken_by(notes);
             let own = &bytes[..taken.bytes];
             let vtable = NumberedVtable::new(tape, number);
-            lay_table(laying, align, number, &vtable, notes, own, taken.references);
+            let fields = TableFields {
+                notes,
+                bytes: own,
+                references: taken.references,
+            };
+            lay_table(laying, align, number, &vtable, fields);
             PassedBy {
                 fields: notes.len(),
                 bytes: taken.bytes,
@@ -110,7 +115,7 @@ pub(crate) fn lay_tape(laying: &mut Laying, layout: &Layout, tape: &Tape)
     ensures most { laying.new.tail.most ≡ tape_most tape.now }
     ensures grows { Grows laying.old.tail laying.new.tail }
 {
-    let _schema = layout.schema(); // its contract: the layout is well made
+    layout_is_well_made(layout);
     let ops = tape.ops();
     let fields = tape.fields();
     let bytes = tape.bytes();

@@ -13,7 +13,7 @@ ghost use Rattle.fb_build.specs.Referred.{AreReferred};
 ghost use Rattle.fb_build.specs.Tails.{Grows, LaidInTail};
 
 use crate::references::lay_reference;
-use crate::tail::Tail;
+use crate::tail::{Tail, laid_is_short};
 
 /// Lays references to what was laid at some end-counts, from the last to the first.
 fn lay_elements(out: &mut Tail, ends: &[u32])
@@ -54,7 +54,7 @@ pub(crate) fn lay_references(out: &mut Tail, ends: &[u32])
     ensures most { out.new.most ≡ max out.old.most 4 }
     ensures grows { Grows out.old out.new }
 {
-    let _laid = out.count(); // its contract: what is laid and what is free are short
+    laid_is_short(out);
     out.fit(4, ends.len() * 4);
     lay_elements(out, ends);
     out.lay_u32(ends.len() as u32);

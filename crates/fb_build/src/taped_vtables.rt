@@ -10,7 +10,7 @@ ghost use Rattle.fb_build.specs.Lengths.{vtable_end, table_end};
 ghost use Rattle.fb_build.specs.NumberedVtables.{IsVtableInTurn, IsVtableLaid, IsTableOpen, IsTableClosed};
 ghost use Rattle.fb_build.specs.Tails.{Grows};
 
-use crate::tail::Tail;
+use crate::tail::{Tail, laid_is_short};
 use fb_tape::Tape;
 use std::marker::Model;
 
@@ -135,7 +135,7 @@ pub(crate) fn close_table(
     ensures most { out.new.most ≡ max out.old.most 4 }
     ensures grows { Grows out.old out.new }
 {
-    let _laid = out.count(); // its contract: what is laid and what is free are short
+    laid_is_short(out);
     out.fit(4, 0);
     lay_vtable(out, places, number, vtable)
 }

@@ -1,5 +1,6 @@
 //! Bytes of a buffer in hexadecimal, with a place marked.
 use crate::pages::Page;
+use itoa::Buffer;
 
 // How many bytes a row has, and where there are few columns.
 const ROW: usize = 16;
@@ -15,16 +16,10 @@ const CELL: usize = 3;
 
 /// Adds an offset, in decimal as all offsets are, on the right of its column.
 fn push_offset(page: &mut Page, offset: usize) {
-    let mut digits = 1usize;
-    let mut left = offset / 10;
-    for _ in 0..OFFSET_DIGITS {
-        if left > 0 {
-            digits = digits.saturating_add(1);
-            left /= 10;
-        }
-    }
-    page.push_spaces(OFFSET_DIGITS.saturating_sub(digits));
-    page.push_number(offset as u64);
+    let mut buffer = Buffer::new();
+    let digits = buffer.format(offset);
+    page.push_spaces(OFFSET_DIGITS.saturating_sub(digits.len()));
+    page.push_str(digits);
 }
 
 fn row_len(page: &Page) -> usize {

@@ -39,11 +39,11 @@ fn nearest_at(alloc: Global, names: &[&str], wanted: &str) -> Result<Option<usiz
     let mut nearest = None;
     let mut least = usize::MAX;
     for (at, name) in names.iter().take(MOST_NAMES).enumerate() {
-        if let Some(distance) = distance(alloc, name, wanted)? {
-            if distance < least {
-                nearest = Some(at);
-                least = distance;
-            }
+        if let Some(distance) = distance(alloc, name, wanted)?
+            && distance < least
+        {
+            nearest = Some(at);
+            least = distance;
         }
     }
     Ok(nearest)
@@ -86,8 +86,8 @@ pub fn push_few(page: &mut Page, owner: &str, names: &[&str]) {
 
 /// Adds the nearest of some names as a question; where none is near and they are few, all of them.
 pub fn push_nearest(page: &mut Page, owner: &str, names: &[&str], wanted: &str) {
-    match nearest(page, names, wanted) {
-        Some(at) if at < names.len() => push_meant(page, names[at]),
-        _ => push_few(page, owner, names),
+    match nearest(page, names, wanted).and_then(|at| names.get(at)) {
+        Some(name) => push_meant(page, *name),
+        None => push_few(page, owner, names),
     }
 }

@@ -17,6 +17,7 @@ const FEWEST_COLUMNS: usize = 48;
 /// Lines that are wrapped at spaces; of what they are made, each byte that isn't UTF-8 is escaped.
 ///
 /// Once memory ran out nothing is added any more.
+#[derive(Drop)]
 pub struct Page {
     alloc: Global,
     /// Where lines are wrapped.
@@ -28,27 +29,13 @@ pub struct Page {
     failed: Option<AllocError>,
 }
 
-// Written out, so that a proof has one step where a value falls out of scope, and not one for each of its parts.
-impl Drop for Page {
-    fn drop(self) {
-        let Self {
-            alloc: _,
-            columns: _,
-            lines: _,
-            line: _,
-            failed: _,
-        } = self;
-    }
-}
-
 /// How many columns a character takes as it is shown, or so many bytes that are none.
 pub(crate) fn shown_width(character: Option<char>, size: usize) -> usize {
     match character {
         Some('\t') => TAB,
-        Some(character) => match plain_width(character) {
-            Some(width) => width,
-            None => character.escape_unicode().count(),
-        },
+        Some(character) => {
+            plain_width(character).unwrap_or_else(|| character.escape_unicode().count())
+        }
         None => 4usize.saturating_mul(size),
     }
 }
@@ -71,10 +58,10 @@ fn cut_len(line: &str, columns: usize) -> usize {
     if fitting == line.len() {
         return fitting;
     }
-    if matches!(line.as_bytes().get(fitting), Some(b' ')) {
+    if line.as_bytes().get(fitting) == Some(&b' ') {
         return fitting.saturating_add(1);
     }
-    match line.get(..fitting).unwrap_or("").rfind(' ') {
+    match line.get(..fitting).and_then(|front| front.rfind(' ')) {
         Some(space) if space >= columns / 2 => space.saturating_add(1),
         _ => fitting,
     }

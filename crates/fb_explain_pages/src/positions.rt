@@ -9,7 +9,7 @@ const BYTE_ORDER_MARK: &[u8] = b"\xef\xbb\xbf";
 ///
 /// A line ends with a line feed. A column counts characters, of which a byte order mark at the text's
 /// start is none.
-#[derive(Clone, Copy, Drop)]
+#[derive(Clone, Copy, Debug, PartialEq, Eq, Drop)]
 pub struct Position {
     pub line: usize,
     pub column: usize,
@@ -60,21 +60,13 @@ fn before(text: &[u8], offset: usize) -> &[u8]
 fn feed_count(text: &[u8]) -> usize
     ensures { result ≡ count_by is_feed text.now }
 {
-    let mut count = 0;
-    for byte in text {
-        count += usize::from(is_feed(*byte));
-    }
-    count
+    text.iter().filter(|byte| is_feed(**byte)).count()
 }
 
 fn character_count(text: &[u8]) -> usize
     ensures { result ≡ count_by begins_character text.now }
 {
-    let mut count = 0;
-    for byte in text {
-        count += usize::from(begins_character(*byte));
-    }
-    count
+    text.iter().filter(|byte| begins_character(**byte)).count()
 }
 
 /// Where the last line begins.

@@ -3,7 +3,7 @@ use crate::pages::Page;
 use crate::positions::Position;
 
 /// A file's path, and the bytes that were read from it.
-#[derive(Clone, Copy)]
+#[derive(Clone, Copy, Debug, PartialEq, Eq)]
 pub struct Source<'a> {
     pub path: &'a str,
     pub bytes: &'a [u8],

@@ -3,7 +3,7 @@ use crate::schema_tokens::Tokens;
 use crate::words::is_one_of;
 
 /// A kind of file.
-#[derive(Clone, Copy)]
+#[derive(Clone, Copy, Debug, PartialEq, Eq)]
 pub enum FileKind {
     Schema,
     Json,

@@ -25,10 +25,9 @@ fn is_word_byte(byte: u8) -> bool {
 
 /// Whether a token is a word, and no number, text or sign.
 pub(crate) fn is_word(token: &[u8]) -> bool {
-    match token.first() {
-        Some(first) => is_word_byte(*first) && !first.is_ascii_digit(),
-        None => false,
-    }
+    token
+        .first()
+        .is_some_and(|first| is_word_byte(*first) && !first.is_ascii_digit())
 }
 
 fn rest_from(text: &[u8], at: usize) -> &[u8] {

@@ -11,28 +11,16 @@ pub fn front_len(text: &[u8], bytes: &[u8]) -> usize {
 
 /// What a table has beside a word.
 pub fn value_of<T: Copy>(table: &[(&str, T)], word: &[u8]) -> Option<T> {
-    for (name, value) in table {
-        if name.as_bytes() == word {
-            return Some(*value);
-        }
-    }
-    None
+    let found = table.iter().find(|(name, _)| name.as_bytes() == word);
+    found.map(|(_, value)| *value)
 }
 
 /// Whether a word is one of these.
 pub fn is_one_of(words: &[&str], word: &[u8]) -> bool {
-    for name in words {
-        if name.as_bytes() == word {
-            return true;
-        }
-    }
-    false
+    words.iter().any(|name| name.as_bytes() == word)
 }
 
 /// What is behind the last dot of a name.
 pub fn last_word(name: &str) -> &str {
-    match name.rsplit_once('.') {
-        Some((_, word)) => word,
-        None => name,
-    }
+    name.rsplit_once('.').map_or(name, |(_, word)| word)
 }

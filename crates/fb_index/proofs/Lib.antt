@@ -1,5 +1,7 @@
+mod Positions
 mod FreeKeys
 mod Keyed
+pub mod LastEntry
 pub mod WordsOf
 pub mod PathsNamed
 pub mod PathsGrown

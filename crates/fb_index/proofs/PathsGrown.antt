@@ -1,9 +1,8 @@
 -- One path more in a tree.
 use Rattle.std.proofs.Common.{Bor, ◌⊎◌, inl, inr, ◌≡◌, ◌≢◌, ◌+◌, ◌<◌, ◌==◌, ◌&&◌, ◌||◌, ℕ, zero, suc, Bool, true, false}
 use Rattle.std.proofs.Common.{true≢false, List, [], ◌∷◌, ◌++◌, length, get_or, slice_get, position, Some, refl, sym, ap}
-use Rattle.std.proofs.Common.{subst, ◌∙◌, arith, ⊎_elim, length-append, if◌then◌else◌}
+use Rattle.std.proofs.Common.{subst, ◌∙◌, arith, length-append, if◌then◌else◌}
 use Rattle.std.specs.List.{list_any, position_or_len}
-use Rattle.std.specs.Map.{keys_of}
 use Rattle.std.specs.Option.{option_map}
 use Rattle.std.specs.Str.{bytes_eq}
 use Rattle.std.proofs.lemmas.Bool.Decides.{Decides-and, Decides-eqb}
@@ -11,8 +10,8 @@ use Rattle.std.proofs.lemmas.List.{length-map, map-append}
 use Rattle.std.proofs.lemmas.List.Quantifiers.{position-Some}
 use Rattle.std.proofs.lemmas.Option.{slice_get-map, get_or_from_slice_get, slice_get-get_or, slice_get_within}
 use Rattle.std.proofs.lemmas.Slice.Eq.{bytes_eq-Decides}
-use Rattle.indexmap.specs.IndexMap.{insert_entry}
 use Rattle.fb_index.specs.Words.{Name, Path}
+use Rattle.fb_index.proofs.LastEntry.{entry_of, entry_kept, entry_last}
 use Rattle.fb_index.proofs.PathsNamed.{append_inj}
 use Rattle.fb_index.specs.PathTree.{child_of, paths_from, paths_of, named_by, links_in, AreLinks}
 
@@ -26,24 +25,6 @@ paths-grown : (links : List (ℕ × Name)) (l : ℕ × Name)
     → paths_of (links ++ l ∷ []) ≡ paths_of links ++ child_of (paths_of links) l.0 l.1 ∷ []
 unfolding paths_of
 paths-grown links l = paths_from-end ([] ∷ []) links l
-
--- an entry of a list that is one longer
-entry_of : {X : Type 0} (xs : List X) (x y : X) (n : ℕ) → slice_get (xs ++ x ∷ []) n ≡ Some y
-    → (slice_get xs n ≡ Some y) ⊎ ((n ≡ length xs) × (x ≡ y))
-entry_of [] x y zero e = inr (refl, cc)
-entry_of [] x y (suc n) e = cc
-entry_of (z ∷ xs) x y zero e = inl e
-entry_of (z ∷ xs) x y (suc n) e = ⊎_elim (λ h. inl h) (λ h. inr (ap suc h.0, h.1)) (entry_of xs x y n e)
-
-entry_kept : {X : Type 0} (xs : List X) (x y : X) (n : ℕ) → slice_get xs n ≡ Some y
-    → slice_get (xs ++ x ∷ []) n ≡ Some y
-entry_kept [] x y n e = cc
-entry_kept (z ∷ xs) x y zero e = e
-entry_kept (z ∷ xs) x y (suc n) e = entry_kept xs x y n e
-
-entry_last : {X : Type 0} (xs : List X) (x : X) → slice_get (xs ++ x ∷ []) (length xs) ≡ Some x
-entry_last [] x = refl
-entry_last (z ∷ xs) x = entry_last xs x
 
 -- each path keeps its number
 pub kept : (links : List (ℕ × Name)) (l : ℕ × Name) (n : ℕ) (p : Path) → slice_get (paths_of links) n ≡ Some p
@@ -242,20 +223,6 @@ with_key-behind k keys path word = elim (list_any (is_key path word.now) keys) a
     (λ b. (if b then k ∷ keys else (k ∷ keys) ++ (path, word) ∷ [])
     ≡ k ∷ (if b then keys else keys ++ (path, word) ∷ []))
     [ true ↦ refl | false ↦ refl ]
-
--- the keys of a map after one is inserted
-pub keys-inserted : (es : List ((ℕ × Bor Name) × Unit {0})) (path : ℕ) (word : Bor Name)
-    → keys_of (insert_entry (λ k. is_key k.0 k.1.now) es (path, word) tt) ≡ with_key (keys_of es) path word
-keys-inserted [] path word = refl
-keys-inserted (e ∷ es) path word = by (is_key path word.now e.0) refl (keys-inserted es path word)
-  where
-    inserted : List ((ℕ × Bor Name) × Unit {0}) → List (ℕ × Bor Name)
-    inserted es = keys_of (insert_entry (λ k. is_key k.0 k.1.now) es (path, word) tt)
-
-    by : (b : Bool) → is_key path word.now e.0 ≡ b → inserted es ≡ with_key (keys_of es) path word
-        → inserted (e ∷ es) ≡ with_key (keys_of (e ∷ es)) path word
-    by true same rest = rw same refl
-    by false other rest = rw other (ap (λ ks. e.0 ∷ ks) rest ∙ sym (with_key-behind e.0 (keys_of es) path word))
 
 -- after a key is inserted its link stands where `insert_full` says
 link-inserted : (keys : List (ℕ × Bor Name)) (path : ℕ) (word : Bor Name)

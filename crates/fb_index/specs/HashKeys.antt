@@ -18,6 +18,10 @@ written t piece = record { hasher = sip.write t.hasher piece }
 abbrev pub key_by : KeyDigest → HashKey
 key_by t = record { initial = fold folding.write folding.initial (u64 (sip.finish t.hasher)) }
 
+-- the key of what is inside something that has a number
+abbrev pub key_inside : HashKey → ℕ → HashKey
+key_inside key number = record { initial = fold folding.write key.initial (u64 number) }
+
 abbrev pub key_of : List ℕ → HashKey
 key_of text = key_by (written nothing_written text)
 

@@ -1,7 +1,6 @@
 -- Paths of words, each with a number.
 use Rattle.std.specs.Prelude.{ℕ, ◌≡◌, ◌<◌, ◌+◌, ◌++◌, List, [], ◌∷◌, length, map, Some, get_or, slice_get}
 use Rattle.std.specs.Borrow.{Bor}
-use Rattle.indexmap.specs.IndexMap.{keys}
 use Rattle.fb_index.specs.Words.{Name, Path}
 use Rattle.fb_index.specs.declared.path_tree.PathTree.{PathTree}
 
@@ -35,7 +34,7 @@ abbrev pub links_in : List (ℕ × Bor Name) → List (ℕ × Name)
 links_in keys = map named_by keys
 
 abbrev pub links_of : PathTree → List (ℕ × Name)
-links_of tree = links_in (keys tree.links)
+links_of tree = links_in tree.links.keys
 
 abbrev pub paths : PathTree → List Path
 paths tree = paths_of (links_of tree)

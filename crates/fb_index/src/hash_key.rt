@@ -1,6 +1,6 @@
 //! Keys for the hash of names.
 ghost use Rattle.std.specs.Prelude.{◌≡◌};
-ghost use Rattle.fb_index.specs.HashKeys.{key_of, key_by, written, digest_by, nothing_written};
+ghost use Rattle.fb_index.specs.HashKeys.{key_of, key_by, key_inside, written, digest_by, nothing_written};
 
 use std::hash::{BuildHasher, DefaultHasher, FoldHasher, Hasher};
 
@@ -21,6 +21,15 @@ impl HashKey {
         let mut digest = KeyDigest::new();
         digest.write(text);
         digest.key()
+    }
+
+    /// The key of what is inside something that has a number: equal names inside two things have two hashes.
+    pub fn inside(self, number: u64) -> HashKey
+        ensures { result ≡ key_inside self number }
+    {
+        let mut initial = self.initial;
+        initial.write_u64(number);
+        HashKey { initial }
     }
 
     /// The hash of some bytes under the key.

@@ -1,7 +1,6 @@
 //! Names: found by a keyed hash of their bytes, and as paths of words, of which each means a type inside a namespace.
 #![tactic(auto)]
 
-mod byte_strings;
 mod digest_index;
 mod hash_key;
 mod innermost;

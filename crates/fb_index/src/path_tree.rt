@@ -5,22 +5,15 @@ ghost use Rattle.fb_index.specs.Words.{words};
 ghost use Rattle.fb_index.specs.PathTree.{paths, child_of, IsTree, KeepsPaths};
 
 use crate::hash_key::HashKey;
-use indexmap::IndexMap;
+use indexmap::IndexSet;
 use std::alloc::{AllocError, Global};
 
 /// Paths of words, each with a number; the empty path's is 0, and that of a path without its last
 /// word is the smaller one.
+#[derive(Drop)]
 pub struct PathTree<'t> {
     /// Of each path but the empty one the number of the path without its last word, and that word.
-    // An `IndexSet` would have each crate that makes paths public read half as much of `indexmap` again.
-    links: IndexMap<(usize, &'t str), (), HashKey>,
-}
-
-// Written out, so that a proof has one step where a value falls out of scope, and not one for each of its parts.
-impl Drop for PathTree<'_> {
-    fn drop(self) {
-        let Self { links: _ } = self;
-    }
+    links: IndexSet<(usize, &'t str), HashKey>,
 }
 
 impl<'t> PathTree<'t> {
@@ -29,7 +22,7 @@ impl<'t> PathTree<'t> {
         ensures tree { IsTree result }
         ensures empty { paths result ≡ [] ∷ [] }
     {
-        let links = IndexMap::with_hasher(alloc, key);
+        let links = IndexSet::with_hasher(alloc, key);
         PathTree { links }
     }
 
@@ -64,7 +57,7 @@ impl<'t> PathTree<'t> {
             (λ l. slice_get (paths self.now) path ≡ Some (child_of (paths self.now) l.0 l.1.now)) }
         ensures empty { IfNone result (path ≡ 0) }
     {
-        Some(self.links.keys().as_slice()[path.checked_sub(1)?])
+        Some(self.links.as_slice()[path.checked_sub(1)?])
     }
 
     /// The number of a path with a word behind it, which gets the next one if it has none. The only
@@ -77,7 +70,7 @@ impl<'t> PathTree<'t> {
         ensures child { IfOk result
             (λ n. slice_get (paths self.new) n ≡ Some (child_of (paths self.old) path word.now)) }
     {
-        let (index, _) = self.links.insert_full((path, word), ())?;
+        let (index, _) = self.links.insert_full((path, word))?;
         prove!(index < self.links.len());
         Ok(index + 1)
     }

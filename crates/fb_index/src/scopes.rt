@@ -11,21 +11,11 @@ use crate::path_tree::PathTree;
 use std::alloc::{AllocError, Global};
 
 /// The types of a text, found by the names that mean them in each namespace.
+#[derive(Drop)]
 pub struct Scopes<'d> {
     tree: PathTree<'d>,
     used: PathTree<'d>,
     noted: NamedTypes,
-}
-
-// Written out, so that a proof has one step where a value falls out of scope, and not one for each of its parts.
-impl Drop for Scopes<'_> {
-    fn drop(self) {
-        let Self {
-            tree: _,
-            used: _,
-            noted: _,
-        } = self;
-    }
 }
 
 impl<'d> Scopes<'d> {

@@ -3,7 +3,7 @@ ghost use Rattle.std.specs.Prelude.{◌≡◌};
 
 use crate::known_visits::KnownVisits;
 use crate::notes::Notes;
-use fb_read::{Buffer, Hearer, Part, Step, Visited};
+use fb_read::{Buffer, Hearer, PartAt, Step, Visited};
 use std::alloc::Global;
 use std::marker::Model;
 
@@ -52,19 +52,20 @@ impl<'a> Hearer for Lister<'a> {
     fn come_to(
         &mut self,
         _buffer: &Buffer,
-        part: Part,
+        target: PartAt,
         reference_at: usize,
-        at: usize,
         tables: u8,
         spent: u64,
     ) -> Option<Visited> {
+        let PartAt { part, at } = target;
         let visit = self.notes.come_to(part, reference_at, at)?;
         let visited = self.known.find(visit, part, at, tables, spent)?;
         self.notes.pass_over();
         Some(visited)
     }
 
-    fn leave(&mut self, _buffer: &Buffer, part: Part, at: usize, visited: Visited) {
+    fn leave(&mut self, _buffer: &Buffer, target: PartAt, visited: Visited) {
+        let PartAt { part, at } = target;
         let earlier = self.notes.visit();
         match self.known.note(earlier, part, at, visited) {
             Ok(visit) => self.notes.leave(visit),

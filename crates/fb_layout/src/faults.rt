@@ -1,14 +1,13 @@
 //! Why a schema has no layout.
 use fb_schema::TypeId;
 use std::alloc::{AllocError, AllocFailed};
-use std::fmt;
 use thiserror::Error;
 
 /// The rule on sizes that fails, and the type.
 ///
 /// A struct takes 65,535 bytes at most; a table is 65,535 bytes wide at most, all its fields stored
 /// that aren't deprecated, and has 32,765 slots at most. `Memory` is a refused allocation and no rule.
-#[derive(Clone, Copy, Drop, Error)]
+#[derive(Clone, Copy, Debug, PartialEq, Eq, Drop, Error)]
 pub enum LayoutFault {
     #[error("the struct, type {}, takes more than 65535 bytes", .0.0)]
     StructTooBig(TypeId),
@@ -65,13 +64,6 @@ impl LayoutFault {
         ensures { result ≡ None }
     {
         None
-    }
-}
-
-// The sentence: a derived one takes the prover a step for each variant.
-impl fmt::Debug for LayoutFault {
-    fn fmt<W: fmt::Write>(&self, f: &mut fmt::Formatter<W>) -> fmt::Result {
-        fmt::Display::fmt(self, f)
     }
 }
 

@@ -22,6 +22,7 @@ use std::marker::Model;
 
 /// A schema with the size and alignment of each struct, where its fields are, and the largest
 /// inline size and the required slots of each table.
+#[derive(Drop)]
 pub struct Layout {
     schema: Schema,
     structs: Vec<Option<StructSizes>>,
@@ -29,20 +30,6 @@ pub struct Layout {
     required: Vec<Vec<u16>>,
     greatest: u16,
     most_slots: usize,
-}
-
-// Written out, so that a proof has one step where a value falls out of scope, and not one for each of its parts.
-impl Drop for Layout {
-    fn drop(self) {
-        let Self {
-            schema: _,
-            structs: _,
-            tables: _,
-            required: _,
-            greatest: _,
-            most_slots: _,
-        } = self;
-    }
 }
 
 impl Model for Layout {

@@ -122,10 +122,8 @@ pub(crate) fn tables_of(
     let types = schema.types();
     let mut tables = Vec::with_capacity(alloc, types.len())?;
     for (number, info) in types.iter().enumerate() {
-        match type_sizes(schema, structs, TypeId(number as u64), &info.body) {
-            Ok(sizes) => tables.push(sizes)?,
-            Err(fault) => return Err(fault),
-        }
+        let sizes = type_sizes(schema, structs, TypeId(number as u64), &info.body)?;
+        tables.push(sizes)?;
     }
     Ok(tables)
 }

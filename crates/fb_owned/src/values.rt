@@ -1,7 +1,7 @@
 //! A visitor that makes values.
 use crate::inlines::{read_inline, read_inlines};
 use fb_layout::Layout;
-use fb_read::{Buffer, Part, Step, Visited, Visitor};
+use fb_read::{Buffer, PartAt, Step, Visited, Visitor};
 use fb_schema::{Kind, TypeId};
 use fb_value::Value;
 use std::alloc::{AllocError, Global};
@@ -40,9 +40,8 @@ impl Visitor for Values {
     fn come_to(
         &mut self,
         _buffer: &Buffer,
-        _part: Part,
+        _target: PartAt,
         _reference_at: usize,
-        _at: usize,
         _tables: u8,
         _spent: u64,
     ) -> Option<(Value, Visited)> {
@@ -50,7 +49,7 @@ impl Visitor for Values {
     }
 
     #[inline(always)]
-    fn leave(&mut self, _buffer: &Buffer, _part: Part, _at: usize, _visited: Visited) {}
+    fn leave(&mut self, _buffer: &Buffer, _target: PartAt, _visited: Visited) {}
 
     fn number(&self, number: i128) -> Value {
         Value::Number(number)

@@ -8,7 +8,7 @@ ghost use Rattle.fb_read.specs.Views.{number_in};
 use crate::entry::Entry;
 use crate::kinds::{base_of, structure_of};
 use crate::numbers::number_at;
-use fb_layout::{Layout, kind_in};
+use fb_layout::{Layout, kind_in, layout_is_well_made};
 use fb_schema::TypeId;
 
 /// A struct in a buffer, read in place.
@@ -44,7 +44,7 @@ impl<'a> FixedView<'a> {
     pub fn number(self, field: u16) -> Option<i128>
         ensures { (ds : Parts) → ShowsFields self.entry ds → result ≡ number_in (nth_part ds field) }
     {
-        let _schema = self.layout.schema(); // its contract: the layout is well made
+        layout_is_well_made(self.layout);
         let fields = self.layout.parts_of(self.structure);
         let index = usize::from(field);
         if index >= fields.len() {
@@ -52,10 +52,8 @@ impl<'a> FixedView<'a> {
         }
         let kind = kind_in(fields[index].shape);
         let at = self.at + self.layout.offset_of(self.structure, field) as usize;
-        match base_of(self.layout, kind) {
-            Some(base) => Some(number_at(self.bytes, at, base)),
-            None => None,
-        }
+        let base = base_of(self.layout, kind)?;
+        Some(number_at(self.bytes, at, base))
     }
 
     /// The struct in a field.
@@ -63,7 +61,7 @@ impl<'a> FixedView<'a> {
         ensures shows { (ds : Parts) → ShowsFields self.entry ds → ShowsStruct result (nth_part ds field) }
         ensures layout { IfSome result (λ view. view.layout.now ≡ self.entry.layout.now) }
     {
-        let _schema = self.layout.schema(); // its contract: the layout is well made
+        layout_is_well_made(self.layout);
         let fields = self.layout.parts_of(self.structure);
         let index = usize::from(field);
         if index >= fields.len() {
@@ -71,15 +69,13 @@ impl<'a> FixedView<'a> {
         }
         let kind = kind_in(fields[index].shape);
         let at = self.at + self.layout.offset_of(self.structure, field) as usize;
-        match structure_of(kind) {
-            Some(structure) => Some(FixedView {
-                layout: self.layout,
-                bytes: self.bytes,
-                structure,
-                at,
-            }),
-            None => None,
-        }
+        let structure = structure_of(kind)?;
+        Some(FixedView {
+            layout: self.layout,
+            bytes: self.bytes,
+            structure,
+            at,
+        })
     }
 
     /// What a field has; nothing where there is no such field.
@@ -88,7 +84,7 @@ impl<'a> FixedView<'a> {
             → ShowsEntry self.entry.layout.now result (nth_part ds field) }
         ensures lighter { weight_of result < struct_weight self.entry }
     {
-        let _schema = self.layout.schema(); // its contract: the layout is well made
+        layout_is_well_made(self.layout);
         let fields = self.layout.parts_of(self.structure);
         let index = usize::from(field);
         if index >= fields.len() {

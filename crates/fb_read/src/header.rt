@@ -7,7 +7,7 @@ ghost use Rattle.fb_read.specs.Walks.{IsBufferOf};
 
 use crate::buffer::Buffer;
 use crate::numbers::u32_at;
-use fb_layout::Layout;
+use fb_layout::{Layout, layout_is_well_made};
 use fb_value::{Limits, ReadFault};
 
 // The maximum length of a buffer.
@@ -93,10 +93,8 @@ pub fn check_front(
     if !prefixed {
         return check_header(bytes, 0, identifier);
     }
-    match check_count(bytes) {
-        Ok(()) => check_header(bytes, 4, identifier),
-        Err(fault) => Err(fault),
-    }
+    check_count(bytes)?;
+    check_header(bytes, 4, identifier)
 }
 
 /// The identifier that is checked.
@@ -130,7 +128,7 @@ impl<'a> Buffer<'a> {
         ensures long { IfOk result (λ _. front_of prefixed + 4 ≤ length bytes.now) }
         ensures rule { result ≡ Err ReadFault.Memory → ⊥ }
     {
-        let _schema = layout.schema(); // its contract: the layout is well made
+        layout_is_well_made(layout);
         check_front(bytes, identifier_of(layout, raw), prefixed)?;
         Ok(Buffer {
             layout,

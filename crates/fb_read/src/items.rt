@@ -59,10 +59,8 @@ impl<'a> Items<'a> {
         requires { i < self.len }
         ensures { (ds : Parts) → ShowsItems self.entry ds → result ≡ number_in (nth_part ds i) }
     {
-        match base_of(self.layout, self.kind) {
-            Some(base) => Some(number_at(self.bytes, self.position(i), base)),
-            None => None,
-        }
+        let base = base_of(self.layout, self.kind)?;
+        Some(number_at(self.bytes, self.position(i), base))
     }
 
     /// The string that an element is, borrowed from the buffer.
@@ -82,15 +80,13 @@ impl<'a> Items<'a> {
         ensures shows { (ds : Parts) → ShowsItems self.entry ds → ShowsStruct result (nth_part ds i) }
         ensures layout { IfSome result (λ view. view.layout.now ≡ self.entry.layout.now) }
     {
-        match structure_of(self.kind) {
-            Some(structure) => Some(FixedView {
-                layout: self.layout,
-                bytes: self.bytes,
-                structure,
-                at: self.position(i),
-            }),
-            None => None,
-        }
+        let structure = structure_of(self.kind)?;
+        Some(FixedView {
+            layout: self.layout,
+            bytes: self.bytes,
+            structure,
+            at: self.position(i),
+        })
     }
 
     /// The table that an element is.
@@ -99,18 +95,14 @@ impl<'a> Items<'a> {
         ensures shows { (ds : Parts) → ShowsItems self.entry ds → ShowsTable result (nth_part ds i) }
         ensures layout { IfSome result (λ view. view.layout.now ≡ self.entry.layout.now) }
     {
-        match table_of(self.kind) {
-            Some(table) => {
-                let at = self.position(i);
-                Some(View {
-                    layout: self.layout,
-                    bytes: self.bytes,
-                    table,
-                    at: at + u32_at(self.bytes, at) as usize,
-                })
-            }
-            None => None,
-        }
+        let table = table_of(self.kind)?;
+        let at = self.position(i);
+        Some(View {
+            layout: self.layout,
+            bytes: self.bytes,
+            table,
+            at: at + u32_at(self.bytes, at) as usize,
+        })
     }
 
     /// An element.

@@ -35,7 +35,7 @@ pub use fixed_view::FixedView;
 pub use items::Items;
 pub use messages::split_prefixed;
 pub use numbers::number_at;
-pub use part::Part;
+pub use part::{Part, PartAt};
 pub use parts::{EnteredTable, check_stored, enter_vector, number_within};
 pub use places::follow;
 pub use reader::paths::fault_path;

@@ -40,10 +40,7 @@ pub fn i32_at(bytes: &[u8], at: usize) -> i32
 pub fn byte_at(bytes: &[u8], at: usize) -> u8
     ensures { result ≡ num bytes.now at 1 }
 {
-    match bytes.get(at) {
-        Some(byte) => *byte,
-        None => 0,
-    }
+    bytes.get(at).copied().unwrap_or(0)
 }
 
 /// The number in the eight bytes from a position on.

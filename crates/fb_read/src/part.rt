@@ -11,3 +11,10 @@ pub enum Part {
     /// A vector with elements of this kind.
     Vector(Kind),
 }
+
+/// A part, and where it begins.
+#[derive(Clone, Copy, PartialEq, Eq, Drop)]
+pub struct PartAt {
+    pub part: Part,
+    pub at: usize,
+}

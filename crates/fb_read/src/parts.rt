@@ -18,7 +18,7 @@ use crate::places::slot_of;
 use crate::rules::{check_code, check_inline, check_number, enter_table, open_vector};
 use crate::stored::{Stored, stored_in};
 use crate::walk::TableAt;
-use fb_layout::Layout;
+use fb_layout::{Layout, layout_is_well_made};
 use fb_schema::{Base, Kind, TypeId};
 use fb_value::ReadFault;
 
@@ -109,7 +109,7 @@ fn check_fixed(layout: &Layout, bytes: &[u8], structure: TypeId, at: usize) -> R
     requires low { at < 2 ^ 33 }
     ensures rules { Judges layout.now bytes.now (inline_place (struct_kind structure.0)) at result }
 {
-    let _schema = layout.schema(); // its contract: the layout is well made
+    layout_is_well_made(layout);
     let kind = Kind::Struct(structure);
     check_inline(bytes, at, layout.size_of(kind), layout.align_of(kind))
 }
@@ -122,13 +122,7 @@ pub fn check_stored(layout: &Layout, bytes: &[u8], stored: Stored) -> Result<(),
     match stored {
         Stored::Number(base, at) => check_number(bytes, at, base),
         Stored::Fixed(structure, at) => check_fixed(layout, bytes, structure, at),
-        Stored::Code(code, at) => check_code(
-            bytes,
-            at,
-            code.value_slot,
-            code.required,
-            code.present,
-        ),
+        Stored::Code(code, at) => check_code(bytes, at, code),
         Stored::Absent(_)
         | Stored::Unknown(_, _)
         | Stored::Text(_)
@@ -148,7 +142,7 @@ pub fn enter_vector(layout: &Layout, bytes: &[u8], kind: Kind, at: usize) -> Res
     ensures within { IfOk result (λ n. (at + 4) + n * size_of layout.now (stored_kind layout.now.schema kind)
         ≤ length bytes.now) }
 {
-    let _schema = layout.schema(); // its contract: the layout is well made
+    layout_is_well_made(layout);
     open_vector(bytes, at, size_in(layout, kind), align_in(layout, kind))
 }
 

@@ -2,7 +2,7 @@
 use fb_schema::TypeId;
 
 /// What an element leads to that is a reference.
-#[derive(Clone, Copy)]
+#[derive(Clone, Copy, Debug, PartialEq, Eq)]
 pub enum Reference {
     ToText,
     ToTable(TypeId),

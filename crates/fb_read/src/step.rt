@@ -2,7 +2,7 @@
 use fb_schema::TypeId;
 
 /// A step of a path from the root of a buffer to a place in it.
-#[derive(Clone, Copy)]
+#[derive(Clone, Copy, Debug, PartialEq, Eq)]
 pub enum Step {
     /// From a reference to the table, text or vector that it leads to.
     Reference,

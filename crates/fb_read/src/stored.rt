@@ -17,7 +17,7 @@ use fb_layout::Layout;
 use fb_schema::{Base, FieldInfo, Kind, Shape, TypeId};
 
 /// A union's code: its value's slot, and whether the value is required and present.
-#[derive(Clone, Copy)]
+#[derive(Clone, Copy, Debug, PartialEq, Eq)]
 pub struct UnionCode {
     pub union: TypeId,
     pub value_slot: u16,
@@ -26,7 +26,7 @@ pub struct UnionCode {
 }
 
 /// What a slot has, or where it is in the bytes.
-#[derive(Clone, Copy)]
+#[derive(Clone, Copy, PartialEq, Eq)]
 pub enum Stored {
     /// Nothing is stored: the default, if there is one.
     Absent(Option<i128>),

@@ -2,7 +2,7 @@
 ghost use Rattle.std.specs.Prelude.{◌≡◌, [], false, reverse, IfOk};
 
 use crate::buffer::Buffer;
-use crate::part::Part;
+use crate::part::PartAt;
 use crate::step::Step;
 use crate::visited::Visited;
 use crate::visitor::Hearer;
@@ -53,9 +53,8 @@ impl Hearer for Trail {
     fn come_to(
         &mut self,
         _buffer: &Buffer,
-        _part: Part,
+        _target: PartAt,
         _reference_at: usize,
-        _at: usize,
         _tables: u8,
         _spent: u64,
     ) -> Option<Visited> {
@@ -63,7 +62,7 @@ impl Hearer for Trail {
     }
 
     #[inline(always)]
-    fn leave(&mut self, _buffer: &Buffer, _part: Part, _at: usize, _visited: Visited) {}
+    fn leave(&mut self, _buffer: &Buffer, _target: PartAt, _visited: Visited) {}
 
     fn hear(&mut self, step: Step) {
         if self.steps.push(step).is_err() {

@@ -1,6 +1,6 @@
 //! A visitor that keeps no value.
 use crate::buffer::Buffer;
-use crate::part::Part;
+use crate::part::PartAt;
 use crate::step::Step;
 use crate::visited::Visited;
 use crate::visitor::{Hearer, Visitor};
@@ -15,7 +15,7 @@ pub struct Verdict<H> {
 }
 
 /// Hears of nothing.
-#[derive(Clone, Copy)]
+#[derive(Clone, Copy, Debug, PartialEq, Eq)]
 pub struct Nobody;
 
 impl Hearer for Nobody {
@@ -27,9 +27,8 @@ impl Hearer for Nobody {
     fn come_to(
         &mut self,
         _buffer: &Buffer,
-        _part: Part,
+        _target: PartAt,
         _reference_at: usize,
-        _at: usize,
         _tables: u8,
         _spent: u64,
     ) -> Option<Visited> {
@@ -37,7 +36,7 @@ impl Hearer for Nobody {
     }
 
     #[inline(always)]
-    fn leave(&mut self, _buffer: &Buffer, _part: Part, _at: usize, _visited: Visited) {}
+    fn leave(&mut self, _buffer: &Buffer, _target: PartAt, _visited: Visited) {}
 
     #[inline(always)]
     fn hear(&mut self, _step: Step) {}
@@ -68,21 +67,20 @@ impl<H: Hearer> Visitor for Verdict<H> {
     fn come_to(
         &mut self,
         buffer: &Buffer,
-        part: Part,
+        target: PartAt,
         reference_at: usize,
-        at: usize,
         tables: u8,
         spent: u64,
     ) -> Option<((), Visited)> {
         let visited = self
             .hearer
-            .come_to(buffer, part, reference_at, at, tables, spent)?;
+            .come_to(buffer, target, reference_at, tables, spent)?;
         Some(((), visited))
     }
 
     #[inline(always)]
-    fn leave(&mut self, buffer: &Buffer, part: Part, at: usize, visited: Visited) {
-        self.hearer.leave(buffer, part, at, visited);
+    fn leave(&mut self, buffer: &Buffer, target: PartAt, visited: Visited) {
+        self.hearer.leave(buffer, target, visited);
     }
 
     #[inline(always)]

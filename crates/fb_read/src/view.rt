@@ -92,10 +92,8 @@ impl<'a> View<'a> {
     pub fn text(self, slot: u16) -> Option<&'a str>
         ensures { (d : Datum) → Shows self.entry d → option_copied result ≡ text_in (entry_of d slot) }
     {
-        match self.stored(slot).text() {
-            Some(at) => Some(text_behind(self.bytes, at)),
-            None => None,
-        }
+        let at = self.stored(slot).text()?;
+        Some(text_behind(self.bytes, at))
     }
 
     /// A union's code in a slot that no member has.
@@ -110,15 +108,13 @@ impl<'a> View<'a> {
         ensures shows { (d : Datum) → Shows self.entry d → ShowsTable result (entry_of d slot) }
         ensures layout { IfSome result (λ view. view.layout.now ≡ self.entry.layout.now) }
     {
-        match self.stored(slot).table() {
-            Some((table, at)) => Some(View {
-                layout: self.layout,
-                bytes: self.bytes,
-                table,
-                at: at + u32_at(self.bytes, at) as usize,
-            }),
-            None => None,
-        }
+        let (table, at) = self.stored(slot).table()?;
+        Some(View {
+            layout: self.layout,
+            bytes: self.bytes,
+            table,
+            at: at + u32_at(self.bytes, at) as usize,
+        })
     }
 
     /// The member in a union's slot, under its code.
@@ -126,18 +122,14 @@ impl<'a> View<'a> {
         ensures shows { (d : Datum) → Shows self.entry d → ShowsMember result (entry_of d slot) }
         ensures layout { IfSome result (λ member. member.1.layout.now ≡ self.entry.layout.now) }
     {
-        match self.stored(slot).member() {
-            Some((code, table, at)) => Some((
-                code,
-                View {
-                    layout: self.layout,
-                    bytes: self.bytes,
-                    table,
-                    at: at + u32_at(self.bytes, at) as usize,
-                },
-            )),
-            None => None,
-        }
+        let (code, table, at) = self.stored(slot).member()?;
+        let view = View {
+            layout: self.layout,
+            bytes: self.bytes,
+            table,
+            at: at + u32_at(self.bytes, at) as usize,
+        };
+        Some((code, view))
     }
 
     /// The struct in a slot.
@@ -145,15 +137,13 @@ impl<'a> View<'a> {
         ensures shows { (d : Datum) → Shows self.entry d → ShowsStruct result (entry_of d slot) }
         ensures layout { IfSome result (λ view. view.layout.now ≡ self.entry.layout.now) }
     {
-        match self.stored(slot).structure() {
-            Some((structure, at)) => Some(FixedView {
-                layout: self.layout,
-                bytes: self.bytes,
-                structure,
-                at,
-            }),
-            None => None,
-        }
+        let (structure, at) = self.stored(slot).structure()?;
+        Some(FixedView {
+            layout: self.layout,
+            bytes: self.bytes,
+            structure,
+            at,
+        })
     }
 
     /// The vector in a slot.
@@ -161,19 +151,15 @@ impl<'a> View<'a> {
         ensures shows { (d : Datum) → Shows self.entry d → ShowsVector result (entry_of d slot) }
         ensures layout { IfSome result (λ items. items.layout.now ≡ self.entry.layout.now) }
     {
-        match self.stored(slot).vector() {
-            Some((kind, at)) => {
-                let target = at + u32_at(self.bytes, at) as usize;
-                Some(Items {
-                    layout: self.layout,
-                    bytes: self.bytes,
-                    kind,
-                    at: target + 4,
-                    len: u32_at(self.bytes, target),
-                })
-            }
-            None => None,
-        }
+        let (kind, at) = self.stored(slot).vector()?;
+        let target = at + u32_at(self.bytes, at) as usize;
+        Some(Items {
+            layout: self.layout,
+            bytes: self.bytes,
+            kind,
+            at: target + 4,
+            len: u32_at(self.bytes, target),
+        })
     }
 
     /// What a slot has.

@@ -16,14 +16,14 @@ ghost use Rattle.fb_read.specs.Ends.{EndsAt};
 
 use crate::buffer::Buffer;
 use crate::kinds::base_of;
-use crate::part::Part;
+use crate::part::{Part, PartAt};
 use crate::places::{follow, held_slot};
 use crate::rules::{check_code, check_inline, check_number, is_next_stored, open_text};
-use crate::stored::default_of;
+use crate::stored::{UnionCode, default_of};
 use crate::visitor::Visitor;
 use crate::walk::{TableAt, Walk, leave, pass_over};
 use fb_layout::Layout;
-use fb_schema::{FieldInfo, Kind, Shape};
+use fb_schema::{FieldInfo, Kind, Shape, TypeId};
 use fb_value::ReadFault;
 use std::alloc::AllocError;
 
@@ -65,12 +65,16 @@ pub fn visit_text_behind<V: Visitor>(
         walk.old walk.new result }
 {
     let target = follow(buffer.bytes, at)?;
-    if let Some(kept) = pass_over(buffer, walk, Part::Text, at, target, tables) {
+    let part_at = PartAt {
+        part: Part::Text,
+        at: target,
+    };
+    if let Some(kept) = pass_over(buffer, walk, part_at, at, tables) {
         return Ok(kept);
     }
     let mark = walk.mark();
     let visited = visit_text(buffer, walk, target);
-    leave(buffer, walk, Part::Text, target, tables, mark, &visited);
+    leave(buffer, walk, part_at, tables, mark, &visited);
     visited
 }
 
@@ -98,11 +102,12 @@ pub fn visit_inline<V: Visitor>(
     Ok(visitor.inline(buffer.layout, buffer.bytes, kind, at)?)
 }
 
-/// Visits the code of a union, at a position, in a slot of a table.
+/// Visits the code of a union of this type, at a position, in a slot of a table.
 #[inline(always)]
 #[tactic(auto, using(crate::proofs::visit_tables::VisitsOnePlaceAfterAnother::code_visits))]
 pub fn visit_code(
     buffer: &Buffer,
+    union: TypeId,
     later: &[FieldInfo],
     table: TableAt,
     slot: usize,
@@ -117,7 +122,13 @@ pub fn visit_code(
 {
     let present = is_next_stored(buffer.bytes, table.at, table.vtable_at, slot);
     let required = is_first_required(later);
-    check_code(buffer.bytes, at, slot as u16 + 1, required, present)?;
+    let code = UnionCode {
+        union,
+        value_slot: slot as u16 + 1,
+        required,
+        present,
+    };
+    check_code(buffer.bytes, at, code)?;
     Ok(())
 }
 
@@ -156,10 +167,9 @@ pub fn is_settled(buffer: &Buffer, field: &FieldInfo, table: TableAt, slot: usiz
 pub fn is_first_required(slots: &[FieldInfo]) -> bool
     ensures { (L : LaidSchema) → result ≡ next_required (slots_seen L slots.now) }
 {
-    match slots.first() {
-        Some(slot) => slot.required && !slot.deprecated,
-        None => false,
-    }
+    slots
+        .first()
+        .is_some_and(|slot| slot.required && !slot.deprecated)
 }
 
 /// Whether a visitor passes by a slot: nothing is to visit there.
@@ -209,10 +219,8 @@ pub fn add_entry<V: Visitor>(
 pub fn default_kept<V: Visitor>(visitor: &V, layout: &Layout, field: &FieldInfo) -> Option<V::Kept>
     ensures { KeepsEntry V.keeps result (number_entry (slot_seen layout.now field.now).if_absent) }
 {
-    match default_of(layout, field) {
-        Some(number) => Some(visitor.number(number)),
-        None => None,
-    }
+    let number = default_of(layout, field)?;
+    Some(visitor.number(number))
 }
 
 /// Has a visitor keep the entries of slots that have nothing stored.

@@ -14,7 +14,7 @@ ghost use Rattle.fb_read.specs.Ends.{EndsAt, EndsAtEntry, EndsAtEach, slot_at, s
 
 use crate::buffer::Buffer;
 use crate::kinds::{align_in, reference_of, size_in};
-use crate::part::Part;
+use crate::part::{Part, PartAt};
 use crate::places::{follow, held_slot, stored_slots};
 use crate::reference::Reference;
 use crate::rules::{enter_table, open_vector, union_code};
@@ -24,7 +24,7 @@ use crate::visit_leaves::{
     visit_text_behind,
 };
 use crate::visitor::Visitor;
-use crate::walk::{TableAt, Walk, leave, pass_over, tell};
+use crate::walk::{NumberedSlot, TableAt, Walk, leave, pass_over, tell};
 use fb_schema::{FieldInfo, Kind, Shape, TypeId};
 use fb_value::ReadFault;
 
@@ -45,13 +45,16 @@ pub fn visit_table_behind<V: Visitor>(
     ensures open { result ≡ Err ReadFault.Memory → IsOpenBehind buffer.now table.0 at tables walk.old.spent }
 {
     let target = follow(buffer.bytes, at)?;
-    let part = Part::Table(table);
-    if let Some(kept) = pass_over(buffer, walk, part, at, target, tables) {
+    let part_at = PartAt {
+        part: Part::Table(table),
+        at: target,
+    };
+    if let Some(kept) = pass_over(buffer, walk, part_at, at, tables) {
         return Ok(kept);
     }
     let mark = walk.mark();
     let visited = visit_table(buffer, walk, table, target, tables);
-    leave(buffer, walk, part, target, tables, mark, &visited);
+    leave(buffer, walk, part_at, tables, mark, &visited);
     visited
 }
 
@@ -112,7 +115,12 @@ fn visit_slots<V: Visitor>(
             continue;
         }
         let (_before, later) = slots.split_at(slot + 1);
-        let visited = visit_slot(buffer, walk, field, later, table, slot, tables);
+        let numbered = NumberedSlot {
+            number: slot,
+            field,
+            later,
+        };
+        let visited = visit_slot(buffer, walk, numbered, table, tables);
         tell(walk, Step::Slot(owner, slot as u16), &visited);
         add_entry(&walk.visitor, &mut entries, visited?)?;
     }
@@ -127,41 +135,40 @@ fn visit_slots<V: Visitor>(
 fn visit_slot<V: Visitor>(
     buffer: &Buffer,
     walk: &mut Walk<V>,
-    field: &FieldInfo,
-    later: &[FieldInfo],
+    slot: NumberedSlot<'_>,
     table: TableAt,
-    slot: usize,
     tables: u8,
 ) -> Result<Option<V::Kept>, ReadFault>
     requires vtable { HasVtable buffer.now.bytes.now table }
-    requires held { 6 + 2 * slot ≤ num buffer.now.bytes.now table.vtable_at 2 }
-    requires slots { slot < 2 ^ 15 }
+    requires held { 6 + 2 * slot.number ≤ num buffer.now.bytes.now table.vtable_at 2 }
+    requires slots { slot.number < 2 ^ 15 }
     requires limits { IsWithin V.knows buffer.now tables walk.old }
     ensures { EndsAtEntry V.takes_memory V.told
-        (λ kept. KeepsInSlot V.keeps buffer.now (slot_seen buffer.now.layout.now field.now)
-        (slot_at buffer.now table.at slot later.now field.now) kept) buffer.now
-        (slot_at buffer.now table.at slot later.now field.now) tables walk.old walk.new result }
+        (λ kept. KeepsInSlot V.keeps buffer.now (slot_seen buffer.now.layout.now slot.entry.field.now)
+        (slot_at buffer.now table.at slot.entry.number slot.entry.later.now slot.entry.field.now) kept) buffer.now
+        (slot_at buffer.now table.at slot.entry.number slot.entry.later.now slot.entry.field.now) tables
+        walk.old walk.new result }
 {
-    if field.deprecated {
+    if slot.field.deprecated {
         return Ok(None);
     }
-    let offset = held_slot(buffer.bytes, table.at, table.vtable_at, slot);
+    let offset = held_slot(buffer.bytes, table.at, table.vtable_at, slot.number);
     if offset == 0 {
-        return Ok(default_kept(&walk.visitor, buffer.layout, field));
+        return Ok(default_kept(&walk.visitor, buffer.layout, slot.field));
     }
     let found = table.at + offset;
-    match field.shape {
+    match slot.field.shape {
         Shape::Many(kind) => Ok(Some(visit_vector_behind(buffer, walk, kind, found, tables)?)),
         Shape::One(Kind::Text) => Ok(Some(visit_text_behind(buffer, walk, found, tables)?)),
         Shape::One(Kind::Table(type_id)) => Ok(Some(visit_table_behind(
             buffer, walk, type_id, found, tables,
         )?)),
         Shape::One(Kind::Union(union)) => {
-            let code = union_code(buffer.bytes, table.at, table.vtable_at, slot);
+            let code = union_code(buffer.bytes, table.at, table.vtable_at, slot.number);
             visit_union(buffer, walk, union, code, found, tables)
         }
-        Shape::One(Kind::Code(_)) => {
-            visit_code(buffer, later, table, slot, found)?;
+        Shape::One(Kind::Code(union)) => {
+            visit_code(buffer, union, slot.later, table, slot.number, found)?;
             Ok(None)
         }
         Shape::One(Kind::Scalar(base)) => {
@@ -220,13 +227,16 @@ pub fn visit_vector_behind<V: Visitor>(
         tables walk.old walk.new result }
 {
     let target = follow(buffer.bytes, at)?;
-    let part = Part::Vector(kind);
-    if let Some(kept) = pass_over(buffer, walk, part, at, target, tables) {
+    let part_at = PartAt {
+        part: Part::Vector(kind),
+        at: target,
+    };
+    if let Some(kept) = pass_over(buffer, walk, part_at, at, tables) {
         return Ok(kept);
     }
     let mark = walk.mark();
     let visited = visit_vector(buffer, walk, kind, target, tables);
-    leave(buffer, walk, part, target, tables, mark, &visited);
+    leave(buffer, walk, part_at, tables, mark, &visited);
     visited
 }
 

@@ -13,7 +13,7 @@ ghost use Rattle.fb_read.specs.Visited.{part_at, Takes, IsVisited};
 ghost use Rattle.fb_read.specs.Tails.{entries_from, parts_from};
 
 use crate::buffer::Buffer;
-use crate::part::Part;
+use crate::part::PartAt;
 use crate::step::Step;
 use crate::visited::Visited;
 use fb_layout::Layout;
@@ -28,28 +28,28 @@ pub trait Hearer {
     // What it knows of parts is of this buffer.
     ghost knows: { Self → Buffer → Type 0 };
 
-    /// Called when the walk comes to the part behind the reference at `reference_at`, with so many tables above it and
-    /// cells spent before it. Returns what a visit of it takes, if that is known: then the walk passes over the part.
+    /// Called when the walk comes to the target of the reference at `reference_at`, with `tables` tables above it and
+    /// `spent` cells spent before it. Returns what a visit of it takes, if that is known: then the walk passes over the
+    /// part.
     ///
-    /// A part that isn't passed over is left once: by `leave`, or by `hear` of `Step::Reference` behind a fault in it.
+    /// A part that isn't passed over is left once: by `leave`, or by `hear` of `Step::Reference` after a fault in it.
     fn come_to(
         &mut self,
         buffer: &Buffer,
-        part: Part,
+        target: PartAt,
         reference_at: usize,
-        at: usize,
         tables: u8,
         spent: u64,
     ) -> Option<Visited>
         requires knows { knows self.old buffer.now }
-        requires low { at < 2 ^ 33 }
+        requires low { target.at < 2 ^ 33 }
         ensures same { self.new ≡ self.old }
-        ensures visit { IfSome result (Takes buffer.now (part_at buffer.now part at) tables spent) };
+        ensures visit { IfSome result (Takes buffer.now (part_at buffer.now target.part target.at) tables spent) };
 
     /// Called when the visit of a part has found no fault, with what it took.
-    fn leave(&mut self, buffer: &Buffer, part: Part, at: usize, visited: Visited)
+    fn leave(&mut self, buffer: &Buffer, target: PartAt, visited: Visited)
         requires knows { knows self.old buffer.now }
-        requires visited { IsVisited buffer.now (part_at buffer.now part at) visited }
+        requires visited { IsVisited buffer.now (part_at buffer.now target.part target.at) visited }
         ensures same { self.new ≡ self.old };
 
     /// Hears of the step before those that it was told so far.
@@ -84,28 +84,29 @@ pub trait Visitor {
     // What it knows of parts is of this buffer.
     ghost knows: { Self → Buffer → Type 0 };
 
-    /// Called when the walk comes to the part behind the reference at `reference_at`, with so many tables above it and
-    /// cells spent before it. Returns what is kept of it and what a visit takes, if that is known: then the walk passes
-    /// over the part.
+    /// Called when the walk comes to the target of the reference at `reference_at`, with `tables` tables above it and
+    /// `spent` cells spent before it. Returns what is kept of it and what a visit takes, if that is known: then the walk
+    /// passes over the part.
     fn come_to(
         &mut self,
         buffer: &Buffer,
-        part: Part,
+        target: PartAt,
         reference_at: usize,
-        at: usize,
         tables: u8,
         spent: u64,
     ) -> Option<(Self::Kept, Visited)>
         requires knows { knows self.old buffer.now }
-        requires low { at < 2 ^ 33 }
+        requires low { target.at < 2 ^ 33 }
         ensures same { self.new ≡ self.old }
-        ensures visit { IfSome result (λ known. Takes buffer.now (part_at buffer.now part at) tables spent known.1) }
-        ensures kept { IfSome result (λ known. KeepsAt keeps buffer.now (part_at buffer.now part at) known.0) };
+        ensures visit { IfSome result (λ known. Takes buffer.now (part_at buffer.now target.part target.at) tables spent
+            known.1) }
+        ensures kept { IfSome result (λ known. KeepsAt keeps buffer.now (part_at buffer.now target.part target.at)
+            known.0) };
 
     /// Called when the visit of a part has found no fault, with what it took.
-    fn leave(&mut self, buffer: &Buffer, part: Part, at: usize, visited: Visited)
+    fn leave(&mut self, buffer: &Buffer, target: PartAt, visited: Visited)
         requires knows { knows self.old buffer.now }
-        requires visited { IsVisited buffer.now (part_at buffer.now part at) visited }
+        requires visited { IsVisited buffer.now (part_at buffer.now target.part target.at) visited }
         ensures same { self.new ≡ self.old };
 
     /// What is kept of a number.

@@ -5,11 +5,12 @@ ghost use Rattle.fb_read.specs.Visited.{part_at, HasVisited};
 ghost use Rattle.fb_read.specs.Ends.{PassesAt};
 
 use crate::buffer::Buffer;
-use crate::part::Part;
+use crate::part::PartAt;
 use crate::reader::ticks::{Counted, Ticks};
 use crate::step::Step;
 use crate::visited::Visited;
 use crate::visitor::Visitor;
+use fb_schema::FieldInfo;
 use fb_value::ReadFault;
 
 /// What rises along a walk, the cells spent so far and the parts entered, and its visitor.
@@ -55,26 +56,24 @@ impl<V> Walk<V> {
     }
 }
 
-/// Comes to a part behind the reference at a position, and passes over it where the visitor knows what its visit
-/// takes.
+/// Comes to the target of the reference at a position, and passes over it where the visitor knows what its visit takes.
 #[inline(always)]
 pub fn pass_over<V: Visitor>(
     buffer: &Buffer,
     walk: &mut Walk<V>,
-    part: Part,
+    target: PartAt,
     reference_at: usize,
-    at: usize,
     tables: u8,
 ) -> Option<V::Kept>
     requires knows { V.knows walk.old.visitor buffer.now }
-    requires low { at < 2 ^ 33 }
+    requires low { target.at < 2 ^ 33 }
     ensures before { result ≡ None → walk.new ≡ walk.old }
-    ensures known { IfSome result (λ kept. PassesAt V.keeps buffer.now (part_at buffer.now part at) tables walk.old
-        walk.new kept) }
+    ensures known { IfSome result (λ kept. PassesAt V.keeps buffer.now (part_at buffer.now target.part target.at) tables
+        walk.old walk.new kept) }
 {
     let known = walk
         .visitor
-        .come_to(buffer, part, reference_at, at, tables, walk.spent);
+        .come_to(buffer, target, reference_at, tables, walk.spent);
     let (kept, visited) = known?;
     walk.spent += visited.cells;
     walk.ticks.count_again(&visited.parts);
@@ -86,13 +85,13 @@ pub fn pass_over<V: Visitor>(
 pub fn leave<V: Visitor, T>(
     buffer: &Buffer,
     walk: &mut Walk<V>,
-    part: Part,
-    at: usize,
+    target: PartAt,
     tables: u8,
     mark: Mark,
     visited: &Result<T, ReadFault>,
 )
-    requires { OnOk visited.now (HasVisited V.knows buffer.now (part_at buffer.now part at) tables mark walk.old) }
+    requires { OnOk visited.now (HasVisited V.knows buffer.now (part_at buffer.now target.part target.at) tables mark
+        walk.old) }
     ensures spent { walk.new.spent ≡ walk.old.spent }
     ensures ticks { walk.new.ticks ≡ walk.old.ticks }
     ensures told { MatchResult visited.now (λ _. walk.new.visitor ≡ walk.old.visitor)
@@ -106,15 +105,23 @@ pub fn leave<V: Visitor, T>(
                 cells: walk.spent - mark.spent,
                 parts: walk.ticks.counted_since(&mark.parts),
             };
-            walk.visitor.leave(buffer, part, at, taken);
+            walk.visitor.leave(buffer, target, taken);
         }
         Err(_) => walk.visitor.hear(Step::Reference),
     }
 }
 
 /// A table that a walk has entered, and its vtable.
-#[derive(Clone, Copy)]
+#[derive(Clone, Copy, Debug, PartialEq, Eq)]
 pub struct TableAt {
     pub at: usize,
     pub vtable_at: usize,
+}
+
+/// A slot of a table's type: its number, its field, and the fields of the slots after it.
+#[derive(Clone, Copy)]
+pub struct NumberedSlot<'s> {
+    pub number: usize,
+    pub field: &'s FieldInfo,
+    pub later: &'s [FieldInfo],
 }

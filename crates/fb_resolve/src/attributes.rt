@@ -16,7 +16,7 @@ pub fn is_alignment(least: u16, number: i128) -> bool
 }
 
 /// What the attributes of a field say of its slots.
-#[derive(Clone, Copy, Drop)]
+#[derive(Clone, Copy, Debug, PartialEq, Eq, Drop)]
 pub struct FieldAttributes {
     /// The number that its first `id` has, if that is from 0 on.
     pub id: Option<u64>,
@@ -32,12 +32,9 @@ fn attribute_called<'a, 's>(
 ) -> Option<&'a Attribute<'s>>
     ensures { option_copied result ≡ attribute_called built_in attributes.now }
 {
-    for attribute in attributes {
-        if matches!(attribute.built_in, Some(named) if named == built_in) {
-            return Some(attribute);
-        }
-    }
-    None
+    attributes.iter().find(
+        |attribute| matches!(attribute.built_in, Some(named) if named == built_in),
+    )
 }
 
 /// Whether one of the attributes is this built-in one.

@@ -1,6 +1,6 @@
 //! The names of basic types.
 ghost use Rattle.std.specs.Prelude.{◌≡◌, Some};
-ghost use Rattle.fb_resolve.specs.BasicTypes.{basic_type, either, is_reserved};
+ghost use Rattle.fb_resolve.specs.BasicTypes.{basic_type, is_reserved};
 ghost use Rattle.fb_resolve.specs.Meaning.{basic_or};
 ghost use Rattle.fb_resolve.specs.declared.meanings.Meaning.{Meaning as Meant};
 
@@ -28,13 +28,6 @@ impl BasicType {
     }
 }
 
-/// Whether a name is one of two.
-fn is_either(name: &str, first: &str, second: &str) -> bool
-    ensures { result ≡ either first.now second.now name.now }
-{
-    name == first || name == second
-}
-
 /// The basic type of a name.
 #[tactic(auto, unfolding(crate::specs::BasicTypes::basic_type))]
 pub(crate) fn basic_type(name: &str) -> Option<BasicType>
@@ -42,18 +35,16 @@ pub(crate) fn basic_type(name: &str) -> Option<BasicType>
 {
     match name {
         "string" => Some(BasicType::Text),
-        _ if is_either(name, "int", "int32") => Some(BasicType::Scalar(Base::I32)),
+        "int" | "int32" => Some(BasicType::Scalar(Base::I32)),
         "bool" => Some(BasicType::Scalar(Base::Bool)),
-        _ if is_either(name, "byte", "int8") => Some(BasicType::Scalar(Base::I8)),
-        _ if is_either(name, "ubyte", "uint8") => Some(BasicType::Scalar(Base::U8)),
-        _ if is_either(name, "short", "int16") => Some(BasicType::Scalar(Base::I16)),
-        _ if is_either(name, "ushort", "uint16") => Some(BasicType::Scalar(Base::U16)),
-        _ if is_either(name, "uint", "uint32") => Some(BasicType::Scalar(Base::U32)),
-        _ if is_either(name, "long", "int64") => Some(BasicType::Scalar(Base::I64)),
-        _ if is_either(name, "ulong", "uint64") => Some(BasicType::Scalar(Base::U64)),
-        _ if is_either(name, "float", "float32") || is_either(name, "double", "float64") => {
-            Some(BasicType::Float)
-        }
+        "byte" | "int8" => Some(BasicType::Scalar(Base::I8)),
+        "ubyte" | "uint8" => Some(BasicType::Scalar(Base::U8)),
+        "short" | "int16" => Some(BasicType::Scalar(Base::I16)),
+        "ushort" | "uint16" => Some(BasicType::Scalar(Base::U16)),
+        "uint" | "uint32" => Some(BasicType::Scalar(Base::U32)),
+        "long" | "int64" => Some(BasicType::Scalar(Base::I64)),
+        "ulong" | "uint64" => Some(BasicType::Scalar(Base::U64)),
+        "float" | "float32" | "double" | "float64" => Some(BasicType::Float),
         _ => None,
     }
 }

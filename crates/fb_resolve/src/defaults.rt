@@ -10,7 +10,7 @@ use fb_schema::{Base, Kind};
 use fb_syntax::{DefaultValue, FieldType};
 
 /// What a default gives: a number, no number but the mark that the field is optional, or nothing.
-#[derive(Clone, Copy, Drop)]
+#[derive(Clone, Copy, Debug, PartialEq, Eq, Drop)]
 pub enum Given {
     Number(i128),
     Null,
@@ -30,9 +30,10 @@ fn number_within(base: Base, number: i128) -> Given
 fn null_or_wrong(name: &str) -> Given
     ensures { result ≡ null_or_wrong name.now }
 {
-    match name {
-        "null" => Given::Null,
-        _ => Given::Wrong,
+    if name == "null" {
+        Given::Null
+    } else {
+        Given::Wrong
     }
 }
 

@@ -67,18 +67,13 @@ fn are_places(alloc: Global, numbers: &[u64]) -> Result<bool, AllocError>
             taken[number] = true;
         }
     }
-    Ok(!taken.contains(&false))
+    Ok(taken.iter().all(|taken| *taken))
 }
 
 fn have_ids(fields: &[ResolvedField<'_, '_>]) -> bool
     ensures { result ≡ have_ids fields.now }
 {
-    for field in fields {
-        if field.attributes.has_id {
-            return true;
-        }
-    }
-    false
+    fields.iter().any(|field| field.attributes.has_id)
 }
 
 impl Slots {

@@ -6,7 +6,7 @@ use fb_schema::Kind;
 use fb_syntax::{DottedName, FieldType};
 
 /// A type of the language or of the text, a float type, which is left out, or nothing that is known.
-#[derive(Clone, Copy, Drop)]
+#[derive(Clone, Copy, PartialEq, Eq, Drop)]
 pub enum Meaning {
     Known(Kind),
     Float,

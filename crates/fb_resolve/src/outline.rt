@@ -77,6 +77,7 @@ pub(crate) struct Names<'d, 's> {
 }
 
 /// What a schema text declares, sorted by kind.
+#[derive(Drop)]
 pub struct Outline<'d, 's> {
     pub types: Vec<TypeRead<'d, 's>>,
     pub attributes: Vec<&'s str>,
@@ -86,21 +87,6 @@ pub struct Outline<'d, 's> {
     /// The key of the text, for a hash of names in it.
     pub key: HashKey,
     pub(crate) names: Names<'d, 's>,
-}
-
-// Written out, so that a proof has one step where a value falls out of scope, and not one for each of its parts.
-impl Drop for Outline<'_, '_> {
-    fn drop(self) {
-        let Self {
-            types: _,
-            attributes: _,
-            root: _,
-            identifier: _,
-            text_len: _,
-            key: _,
-            names: _,
-        } = self;
-    }
 }
 
 impl<'d, 's> Model for Outline<'d, 's> {

@@ -66,7 +66,7 @@ pub(crate) fn code_of(
 pub fn union_in(resolved: &ResolvedField<'_, '_>) -> Option<TypeId>
     ensures { result ≡ union_in resolved.now }
 {
-    Some(resolved.code.as_ref()?.union)
+    resolved.code.as_ref().map(|code| code.union)
 }
 
 /// The slot of the code of a union's field.

@@ -12,7 +12,7 @@ use crate::attributes::is_alignment;
 use crate::meanings::Meaning;
 use crate::outline::Outline;
 use crate::resolved::{ResolvedDecl, ResolvedField, ResolvedType};
-use fb_schema::{FieldInfo, Kind, Shape, TypeId};
+use fb_schema::{Base, FieldInfo, Kind, Shape, TypeId};
 use fb_syntax::FieldType;
 use std::alloc::{AllocError, Global};
 
@@ -39,10 +39,8 @@ fn align_in(outline: &Outline<'_, '_>, lower: &[u16], resolved: &ResolvedField<'
     match (&field.kind, resolved.meaning) {
         (FieldType::One(_), Meaning::Known(Kind::Scalar(base))) => base.size(),
         (FieldType::One(_), Meaning::Known(Kind::Enum(TypeId(number)))) => {
-            match outline.names.underlying_at(number as usize) {
-                Some(base) => base.size(),
-                None => 0,
-            }
+            let base = outline.names.underlying_at(number as usize);
+            base.map_or(0, Base::size)
         }
         (FieldType::One(_), Meaning::Known(Kind::Struct(TypeId(number)))) => {
             lower.get(number as usize).copied().unwrap_or(0)

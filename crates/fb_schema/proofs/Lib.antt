@@ -4,9 +4,10 @@ pub mod InnerNames
 pub mod LookUps
 pub mod DeclaredNames
 pub mod FoundPlaces
+pub mod NamesIndexed
+pub mod NumbersIndexed
 pub mod Got
 pub mod NamedItems
 pub mod LastDot
 pub mod SearchedByHalves
-pub mod IndexesOfTypes
 pub mod Dots

@@ -1,23 +1,22 @@
 -- What a look-up through an index finds is what is there.
-use Rattle.std.proofs.Common.{◌≡◌, ◌≢◌, ◌<◌, ◌≤◌, ℕ, zero, suc, lit≤, length, Bool, false, List, [], ◌∷◌, map, AllPairs}
-use Rattle.std.proofs.Common.{find, position, slice_get, Option, None, Some, bytes_eq, codes, ℤ, if◌then◌else◌, ap, sym}
+use Rattle.std.proofs.Common.{◌≡◌, ◌≢◌, ◌≤◌, ℕ, suc, lit≤, length, Bool, false, List, [], map, AllPairs}
+use Rattle.std.proofs.Common.{find, position, slice_get, Option, None, Some, bytes_eq, codes, if◌then◌else◌, ap, sym}
 use Rattle.std.proofs.Common.{◌∙◌, arith}
 use Rattle.std.specs.Option.{option_map, option_and_then}
-use Rattle.std.specs.List.{AllZip}
 use Rattle.std.proofs.lemmas.Option.{slice_get-map}
 use Rattle.std.proofs.lemmas.Simd.{map-map}
 use Rattle.fb_schema.specs.declared.types.TypeInfo.{TypeInfo}
-use Rattle.fb_schema.specs.Schema.{Name, DeclaredBody, table_body, struct_body, enum_body, union_body, DeclaredType}
+use Rattle.fb_schema.specs.Schema.{Name, DeclaredBody, table_body, struct_body, enum_body, union_body}
 use Rattle.fb_schema.specs.Schema.{DeclaredSchema, body_in, values_in, members_in}
 use Rattle.fb_schema.specs.Seen.{body_seen, type_seen, schema_of}
 use Rattle.fb_schema.specs.WellDeclared.{IsBody, IsDeclared}
 use Rattle.fb_schema.specs.declared.kinds.TypeId.{TypeId}
-use Rattle.fb_schema.specs.declared.name_index.NameIndex.{NameIndex}
-use Rattle.fb_schema.specs.Indexed.{inner_names, inner_numbers, few, HasNoRepeats, IndexesNames}
-use Rattle.fb_schema.specs.declared.kinds.Base.{Base}
-use Rattle.fb_schema.specs.Bodies.{as_enum, as_union}
+use Rattle.fb_schema.specs.declared.name_index.Names.{Names}
+use Rattle.fb_schema.specs.Indexed.{inner_names, HasNoRepeats, IndexesNames}
+use Rattle.fb_schema.specs.Bodies.{as_union}
 use Rattle.fb_schema.specs.Found.{fields_in, code_named}
 use Rattle.fb_schema.proofs.DeclaredNames.{no_repeats}
+use Rattle.fb_schema.proofs.NamesIndexed.{none_at}
 use Rattle.fb_schema.proofs.Positions.{position-map, find-position}
 
 -- the place of a key is that of the first item with the key
@@ -36,19 +35,16 @@ module _ {X Y K : Type 0} (seen : X → Y) (key : Y → K) (p : K → Bool) (ite
   found_through at place = ap (option_and_then (slice_get declared)) (place ∙ ap (position p) keys_seen)
       ∙ find-keys key p declared
 
-none_many : {A : Type 0} → few < 0 → A
-none_many many = absurd (omega (arith, many))
-
 none_twice : {K : Type 0} → AllPairs {X = K} (λ a b. a ≢ b) []
 none_twice i j d before within = absurd (omega arith)
 
 -- the index of a type's names is that of its fields' names, where it has fields
-pub fields_indexed : (body : DeclaredBody) (index : NameIndex) → IndexesNames index (inner_names body)
-    → IndexesNames index (map (λ f. f.name) (fields_in body))
-fields_indexed (table_body fs) index h = h
-fields_indexed (struct_body fs align) index h = h
-fields_indexed (enum_body base flags values) index h = none_many
-fields_indexed (union_body members) index h = none_many
+pub fields_indexed : (body : DeclaredBody) (names : Names) → IndexesNames names (inner_names body)
+    → IndexesNames names (map (λ f. f.name) (fields_in body))
+fields_indexed (table_body fs) names h = h
+fields_indexed (struct_body fs align) names h = h
+fields_indexed (enum_body base flags values) names h = none_at _ _ _
+fields_indexed (union_body members) names h = none_at _ _ _
 
 pub fields_differ : (body : DeclaredBody) → HasNoRepeats body
     → AllPairs (λ a b. a ≢ b) (map (λ f. f.name) (fields_in body))
@@ -58,12 +54,12 @@ fields_differ (enum_body base flags values) h = none_twice
 fields_differ (union_body members) h = none_twice
 
 -- and that of its values' names, where it has values
-pub values_indexed : (body : DeclaredBody) (index : NameIndex) → IndexesNames index (inner_names body)
-    → IndexesNames index (map (λ v. v.0) (values_in body))
-values_indexed (table_body fs) index h = none_many
-values_indexed (struct_body fs align) index h = none_many
-values_indexed (enum_body base flags values) index h = h
-values_indexed (union_body members) index h = none_many
+pub values_indexed : (body : DeclaredBody) (names : Names) → IndexesNames names (inner_names body)
+    → IndexesNames names (map (λ v. v.0) (values_in body))
+values_indexed (table_body fs) names h = none_at _ _ _
+values_indexed (struct_body fs align) names h = none_at _ _ _
+values_indexed (enum_body base flags values) names h = h
+values_indexed (union_body members) names h = none_at _ _ _
 
 pub values_differ : (body : DeclaredBody) → HasNoRepeats body
     → AllPairs (λ a b. a ≢ b) (map (λ v. v.0) (values_in body))
@@ -80,18 +76,6 @@ union_of (struct_body fs align) members e = absurd cc
 union_of (enum_body base flags values) members e = absurd cc
 union_of (union_body ms) members e = cc
 
--- the numbers of an enum's values
-pub numbers_of : (body : DeclaredBody) (base : Base) (flags : Bool) (values : List (Name × ℤ))
-    → Some (base, flags, values) ≡ as_enum body → inner_numbers body ≡ map (λ v. v.1) values
-numbers_of (table_body fs) base flags values e = absurd cc
-numbers_of (struct_body fs align) base flags values e = absurd cc
-numbers_of (union_body members) base flags values e = absurd cc
-numbers_of (enum_body b f vs) base flags values e =
-    ap (λ (o : Option (Base × Bool × List (Name × ℤ))). map (λ v. v.1) (values_or_none o)) (sym e) where
-      values_or_none : Option (Base × Bool × List (Name × ℤ)) → List (Name × ℤ)
-      values_or_none None = []
-      values_or_none (Some e) = e.2
-
 -- a member's code by the place of its name in its union
 pub code_through : (body : DeclaredBody) (members : List (Name × ℕ)) (name : Name) (at : Option ℕ)
     → body ≡ union_body members
@@ -103,23 +87,6 @@ code_through body members name at is place other =
     ap (option_map (λ k. suc k)) placed
     ∙ (ap (λ (b : Bool). if b then Some 0 else option_map (λ k. suc k) (position (λ m. bytes_eq name m.0) members))
     (sym other) ∙ ap (λ (b : DeclaredBody). code_named b name) (sym is))
-
--- what holds place by place
-zipped_at : {A B : Type 0} (R : A → B → Type 0) (xs : List A) (ys : List B) (k : ℕ) (x : A) (y : B) → AllZip R xs ys
-    → slice_get xs k ≡ Some x → slice_get ys k ≡ Some y → R x y
-zipped_at R [] ys k x y h e f = absurd cc
-zipped_at R (a ∷ xs) [] k x y h e f = absurd h
-zipped_at R (a ∷ xs) (b ∷ ys) zero x y h e f = let first : a ≡ x = cc in let second : b ≡ y = cc in
-    rw (← first, ← second) h.0
-zipped_at R (a ∷ xs) (b ∷ ys) (suc k) x y h e f = zipped_at R xs ys k x y h.1 e f
-
-zipped_past : {A B : Type 0} (R : A → B → Type 0) (xs : List A) (ys : List B) (k : ℕ) (y : B) → AllZip R xs ys
-    → slice_get xs k ≡ None → slice_get ys k ≡ Some y → ⊥
-zipped_past R [] [] k y h e f = cc
-zipped_past R [] (b ∷ ys) k y h e f = h
-zipped_past R (a ∷ xs) [] k y h e f = h
-zipped_past R (a ∷ xs) (b ∷ ys) zero y h e f = cc
-zipped_past R (a ∷ xs) (b ∷ ys) (suc k) y h e f = zipped_past R xs ys k y h.1 e f
 
 -- where there is no type, there is what stands for none
 module _ (types : List TypeInfo) (at : ℕ) (none : None ≡ slice_get types at) where
@@ -149,18 +116,6 @@ module _ (types : List TypeInfo) (at : ℕ) (info : TypeInfo) (there : Some info
   few_members root identifier declared =
       members_few (schema_of types root identifier) at (body_seen info.body)
       (declared.bodies at (type_seen info) seen_there)
-
-  -- what holds of each type's index holds of that of the type there
-  pub index_there : {I : Type 0} (R : I → DeclaredType → Type 0) (all : List I) (index : I)
-      → AllZip R all (map type_seen types) → Some index ≡ slice_get all at → R index (type_seen info)
-  index_there R all index zipped held = zipped_at R all (map type_seen types) at index (type_seen info) zipped
-      (sym held) seen_there
-
-  -- there is one
-  pub index_held : {I : Type 0} (R : I → DeclaredType → Type 0) (all : List I) → AllZip R all (map type_seen types)
-      → None ≡ slice_get all at → ⊥
-  index_held R all zipped none = zipped_past R all (map type_seen types) at (type_seen info) zipped
-      (sym none) seen_there
 
   -- no name and no number is there twice
   pub no_repeats_there : (root : TypeId) (identifier : Option (List ℕ)) → IsDeclared (schema_of types root identifier)

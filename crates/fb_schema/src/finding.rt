@@ -2,11 +2,11 @@
 ghost use Rattle.std.specs.Prelude.{◌≡◌, ◌≤◌, length, map, option_copied, option_map, string_bytes};
 ghost use Rattle.fb_schema.specs.Schema.{values_in, members_in};
 ghost use Rattle.fb_schema.specs.Seen.{field_seen, body_seen};
-ghost use Rattle.fb_schema.specs.Indexed.{inner_names, inner_numbers, HasNoRepeats, IndexesNames, IndexesNumbers};
+ghost use Rattle.fb_schema.specs.Indexed.{inner_names, inner_numbers, HasNoRepeats, HasNumbers, IndexesNames};
 ghost use Rattle.fb_schema.specs.Found.{fields_in, field_named, member_coded, name_numbered, number_named, code_named};
 
 use crate::kinds::TypeId;
-use crate::name_index::NameIndex;
+use crate::name_index::Names;
 use crate::number_index::NumberIndex;
 use crate::types::{Body, FieldInfo};
 
@@ -39,8 +39,8 @@ pub(crate) fn members_of(body: &Body) -> &[(String, TypeId)]
 }
 
 /// The field of a table or struct that has a name.
-pub(crate) fn field_in<'a>(body: &'a Body, names: &NameIndex, name: &str) -> Option<&'a FieldInfo>
-    requires indexed { IndexesNames names.now (inner_names (body_seen body.now)) }
+pub(crate) fn field_in<'a>(body: &'a Body, names: Names<'_>, name: &str) -> Option<&'a FieldInfo>
+    requires indexed { IndexesNames names (inner_names (body_seen body.now)) }
     requires distinct { HasNoRepeats (body_seen body.now) }
     ensures { option_map field_seen (option_copied result)
         ≡ field_named (body_seen body.now) name.now }
@@ -59,19 +59,24 @@ pub(crate) fn member_in(body: &Body, code: u8) -> Option<TypeId>
 }
 
 /// The name of an enum's value that has a number.
-pub(crate) fn name_in<'a>(body: &'a Body, numbers: &NumberIndex, number: i128) -> Option<&'a str>
-    requires indexed { IndexesNumbers numbers.now (inner_numbers (body_seen body.now)) }
+pub(crate) fn name_in<'a>(
+    body: &'a Body,
+    enumeration: TypeId,
+    numbers: &NumberIndex,
+    number: i128,
+) -> Option<&'a str>
+    requires indexed { HasNumbers numbers.now enumeration.0 (inner_numbers (body_seen body.now)) }
     requires distinct { HasNoRepeats (body_seen body.now) }
     ensures { option_copied result ≡ name_numbered (body_seen body.now) number }
 {
     let values = values_of(body);
-    let value = values.get(numbers.position(values, number)?)?;
+    let value = values.get(numbers.position(enumeration, values, number)?)?;
     Some(value.0.as_str())
 }
 
 /// The number of an enum's value that has a name.
-pub(crate) fn number_in(body: &Body, names: &NameIndex, name: &str) -> Option<i128>
-    requires indexed { IndexesNames names.now (inner_names (body_seen body.now)) }
+pub(crate) fn number_in(body: &Body, names: Names<'_>, name: &str) -> Option<i128>
+    requires indexed { IndexesNames names (inner_names (body_seen body.now)) }
     requires distinct { HasNoRepeats (body_seen body.now) }
     ensures { result ≡ number_named (body_seen body.now) name.now }
 {
@@ -81,8 +86,8 @@ pub(crate) fn number_in(body: &Body, names: &NameIndex, name: &str) -> Option<i1
 }
 
 /// The code of a union's member that has a name; of `NONE` it is 0.
-pub(crate) fn code_in(body: &Body, names: &NameIndex, name: &str) -> Option<u8>
-    requires indexed { IndexesNames names.now (inner_names (body_seen body.now)) }
+pub(crate) fn code_in(body: &Body, names: Names<'_>, name: &str) -> Option<u8>
+    requires indexed { IndexesNames names (inner_names (body_seen body.now)) }
     requires distinct { HasNoRepeats (body_seen body.now) }
     requires few { length (members_in (body_seen body.now)) ≤ 255 }
     ensures { result ≡ code_named (body_seen body.now) name.now }

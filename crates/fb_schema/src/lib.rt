@@ -2,7 +2,6 @@
 #![tactic(auto)]
 
 mod finding;
-mod indexing;
 mod insides;
 mod keys;
 mod kinds;

@@ -9,7 +9,6 @@ ghost use Rattle.fb_schema.specs.Keys.{key_of_schema};
 ghost use Rattle.fb_schema.specs.Paths.{number_by_path, code_by_path};
 
 use crate::finding::{code_in, field_in, member_in, name_in, number_in};
-use crate::indexing::{inner_names, inner_numbers};
 use crate::keys::key_of_types;
 use crate::kinds::TypeId;
 use crate::name_index::NameIndex;
@@ -24,29 +23,13 @@ use std::marker::Model;
 ///
 /// A look-up by a name takes a few steps, however many names there are. One by a number takes as many as
 /// the number of values has digits in base 2, at most. Neither takes memory. Each name is held once.
+#[derive(Drop)]
 pub struct Schema {
     types: Vec<TypeInfo>,
     root: TypeId,
     identifier: Option<[u8; 4]>,
-    key: HashKey,
-    full_names: NameIndex,
-    inner_names: Vec<NameIndex>,
-    inner_numbers: Vec<NumberIndex>,
-}
-
-// Written out, so that a proof has one step where a value falls out of scope, and not one for each of its parts.
-impl Drop for Schema {
-    fn drop(self) {
-        let Self {
-            types: _,
-            root: _,
-            identifier: _,
-            key: _,
-            full_names: _,
-            inner_names: _,
-            inner_numbers: _,
-        } = self;
-    }
+    names: NameIndex,
+    numbers: NumberIndex,
 }
 
 impl Model for Schema {
@@ -73,17 +56,14 @@ impl Schema {
         ensures { IfOk result (λ schema. schema ≡ schema_of types.items root identifier) }
     {
         let key = key_of_types(types.as_slice());
-        let full_names = NameIndex::of(alloc, key, types.as_slice())?;
-        let inner_names = inner_names(alloc, key, types.as_slice())?;
-        let inner_numbers = inner_numbers(alloc, types.as_slice())?;
+        let names = NameIndex::of(alloc, key, types.as_slice())?;
+        let numbers = NumberIndex::of(alloc, types.as_slice())?;
         Ok(Schema {
             types,
             root,
             identifier,
-            key,
-            full_names,
-            inner_names,
-            inner_numbers,
+            names,
+            numbers,
         })
     }
 
@@ -113,14 +93,15 @@ impl Schema {
     pub fn key(&self) -> HashKey
         ensures { result ≡ key_of_schema self.now }
     {
-        self.key
+        self.names.key()
     }
 
     /// The type that has a full name.
     pub fn find(&self, full_name: &str) -> Option<TypeId>
         ensures { option_map (λ t. t.0) result ≡ type_named self.now full_name.now }
     {
-        let at = self.full_names.position(self.types.as_slice(), full_name)?;
+        let names = self.names.full_names();
+        let at = names.position(self.types.as_slice(), full_name)?;
         Some(TypeId(at as u64))
     }
 
@@ -129,9 +110,8 @@ impl Schema {
         ensures { option_map field_seen (option_copied result)
             ≡ field_named (body_at self.now owner.0) name.now }
     {
-        let at = owner.0 as usize;
-        let info = self.types.get(at)?;
-        let names = self.inner_names.get(at)?;
+        let info = self.types.get(owner.0 as usize)?;
+        let names = self.names.inner_names(owner)?;
         field_in(&info.body, names, name)
     }
 
@@ -147,19 +127,16 @@ impl Schema {
     pub fn name_of_number(&self, enumeration: TypeId, number: i128) -> Option<&str>
         ensures { option_copied result ≡ name_numbered (body_at self.now enumeration.0) number }
     {
-        let at = enumeration.0 as usize;
-        let info = self.types.get(at)?;
-        let numbers = self.inner_numbers.get(at)?;
-        name_in(&info.body, numbers, number)
+        let info = self.types.get(enumeration.0 as usize)?;
+        name_in(&info.body, enumeration, &self.numbers, number)
     }
 
     /// The number of an enum's value that has a name.
     pub fn number_of_name(&self, enumeration: TypeId, name: &str) -> Option<i128>
         ensures { result ≡ number_named (body_at self.now enumeration.0) name.now }
     {
-        let at = enumeration.0 as usize;
-        let info = self.types.get(at)?;
-        let names = self.inner_names.get(at)?;
+        let info = self.types.get(enumeration.0 as usize)?;
+        let names = self.names.inner_names(enumeration)?;
         number_in(&info.body, names, name)
     }
 
@@ -167,9 +144,8 @@ impl Schema {
     pub fn code_of_name(&self, union: TypeId, name: &str) -> Option<u8>
         ensures { result ≡ code_named (body_at self.now union.0) name.now }
     {
-        let at = union.0 as usize;
-        let info = self.types.get(at)?;
-        let names = self.inner_names.get(at)?;
+        let info = self.types.get(union.0 as usize)?;
+        let names = self.names.inner_names(union)?;
         code_in(&info.body, names, name)
     }
 

@@ -22,20 +22,12 @@ pub struct FieldInfo {
 
 /// A table's slots in order; a struct's fields in order and its `force_align`; an enum's underlying
 /// type, its `bit_flags` mark and its values; a union's members by code, from 1 on.
+#[derive(Drop)]
 pub enum Body {
     Table(Vec<FieldInfo>),
     Struct(Vec<FieldInfo>, Option<u16>),
     Enum(Base, bool, Vec<(String, i128)>),
     Union(Vec<(String, TypeId)>),
-}
-
-// Written out, so that a proof has one step where a value falls out of scope, and not one for each of its parts.
-impl Drop for Body {
-    fn drop(self) {
-        match self {
-            Self::Table(_) | Self::Struct(_, _) | Self::Enum(_, _, _) | Self::Union(_) => {}
-        }
-    }
 }
 
 impl Body {
@@ -86,14 +78,8 @@ impl Body {
 }
 
 /// A declared type. `name` is its full name, with its namespace.
+#[derive(Drop)]
 pub struct TypeInfo {
     pub name: String,
     pub body: Body,
-}
-
-// Written out, so that a proof has one step where a value falls out of scope, and not one for each of its parts.
-impl Drop for TypeInfo {
-    fn drop(self) {
-        let Self { name: _, body: _ } = self;
-    }
 }

@@ -6,7 +6,7 @@ use crate::declarations::{AttributeValue, Text};
 use std::marker::Model;
 
 /// The attributes that need no declaration.
-#[derive(Clone, Copy, PartialEq, Eq, Drop)]
+#[derive(Clone, Copy, Debug, PartialEq, Eq, Drop)]
 pub enum BuiltInAttribute {
     Id,
     Required,
@@ -18,7 +18,7 @@ pub enum BuiltInAttribute {
 
 /// An attribute of a declaration's or a field's metadata, and which one of those that need no
 /// declaration it is.
-#[derive(Drop)]
+#[derive(Debug, Drop)]
 pub struct Attribute<'t> {
     pub name: Text<'t>,
     pub value: Option<AttributeValue<'t>>,

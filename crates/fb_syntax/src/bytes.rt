@@ -69,7 +69,7 @@ impl ByteClass {
     pub(crate) fn has_all(self, bytes: &[u8]) -> bool
         ensures { result ≡ list_all (has self) bytes.now }
     {
-        self.run(bytes) == bytes.len()
+        bytes.iter().all(|byte| self.has(*byte))
     }
 
     /// How many bytes at the front are of the class.
@@ -77,11 +77,6 @@ impl ByteClass {
         ensures run { result ≡ prefix_len (has self) text.now }
         ensures within { result ≤ length text.now }
     {
-        for (len, byte) in text.iter().enumerate() {
-            if !self.has(*byte) {
-                return len;
-            }
-        }
-        text.len()
+        text.iter().take_while(|byte| self.has(**byte)).count()
     }
 }

@@ -9,7 +9,7 @@ use std::borrow::CowStr;
 use std::marker::Model;
 
 /// A word of a schema text, or what is between the quotes of a quoted text, and its token's offset.
-#[derive(Drop)]
+#[derive(Debug, Drop)]
 pub struct Text<'t> {
     pub text: &'t str,
     pub at: u64,
@@ -24,16 +24,10 @@ impl<'t> Model for Text<'t> {
 }
 
 /// A name of words with dots between them, and the offset of its first word.
+#[derive(Debug, Drop)]
 pub struct DottedName<'t> {
     pub(crate) text: CowStr<'t>,
     pub(crate) at: u64,
-}
-
-// Written out, so that a proof has one step where a value falls out of scope, and not one for each of its parts.
-impl Drop for DottedName<'_> {
-    fn drop(self) {
-        let Self { text: _, at: _ } = self;
-    }
 }
 
 impl<'t> Model for DottedName<'t> {
@@ -76,7 +70,7 @@ impl<'t> DottedName<'t> {
 }
 
 /// An integer constant: its value, and the offset of its token.
-#[derive(Clone, Copy)]
+#[derive(Clone, Copy, Debug, PartialEq, Eq)]
 pub struct Number {
     pub(crate) value: i128,
     pub(crate) at: u64,
@@ -113,7 +107,7 @@ impl Number {
 }
 
 /// What stands behind an attribute's colon.
-#[derive(Drop)]
+#[derive(Debug, Drop)]
 pub enum AttributeValue<'t> {
     Integer(Number),
     Word(Text<'t>),
@@ -121,7 +115,7 @@ pub enum AttributeValue<'t> {
 }
 
 /// The type of a field.
-#[derive(Drop)]
+#[derive(Debug, Drop)]
 pub enum FieldType<'t> {
     /// A type's name.
     One(DottedName<'t>),
@@ -130,14 +124,14 @@ pub enum FieldType<'t> {
 }
 
 /// What stands behind a field's `=`.
-#[derive(Drop)]
+#[derive(Debug, Drop)]
 pub enum DefaultValue<'t> {
     Integer(Number),
     Name(DottedName<'t>),
 }
 
 /// A field of a table or struct.
-#[derive(Drop)]
+#[derive(Debug, Drop)]
 pub struct Field<'t> {
     pub name: Text<'t>,
     pub kind: FieldType<'t>,
@@ -159,7 +153,7 @@ impl<'t> Model for Field<'t> {
 }
 
 /// A table or a struct.
-#[derive(Drop)]
+#[derive(Debug, Drop)]
 pub struct TableDecl<'t> {
     pub name: Text<'t>,
     pub attributes: Vec<Attribute<'t>>,
@@ -179,14 +173,14 @@ impl<'t> Model for TableDecl<'t> {
 }
 
 /// A value of an enum: its name, and the integer behind its `=`.
-#[derive(Drop)]
+#[derive(Debug, Drop)]
 pub struct EnumValue<'t> {
     pub name: Text<'t>,
     pub number: Option<Number>,
 }
 
 /// An enum, with the name of its underlying type.
-#[derive(Drop)]
+#[derive(Debug, Drop)]
 pub struct EnumDecl<'t> {
     pub name: Text<'t>,
     pub underlying: DottedName<'t>,
@@ -208,14 +202,14 @@ impl<'t> Model for EnumDecl<'t> {
 }
 
 /// A member of a union: the name of its table, and the word before its colon.
-#[derive(Drop)]
+#[derive(Debug, Drop)]
 pub struct UnionMember<'t> {
     pub alias: Option<Text<'t>>,
     pub table: DottedName<'t>,
 }
 
 /// A union.
-#[derive(Drop)]
+#[derive(Debug, Drop)]
 pub struct UnionDecl<'t> {
     pub name: Text<'t>,
     pub attributes: Vec<Attribute<'t>>,
@@ -235,7 +229,7 @@ impl<'t> Model for UnionDecl<'t> {
 }
 
 /// A declaration of a type.
-#[derive(Drop)]
+#[derive(Debug, Drop)]
 pub enum TypeDecl<'t> {
     Table(TableDecl<'t>),
     Struct(TableDecl<'t>),
@@ -244,7 +238,7 @@ pub enum TypeDecl<'t> {
 }
 
 /// What a schema text says of files and of their roots.
-#[derive(Drop)]
+#[derive(Debug, Drop)]
 pub enum Directive<'t> {
     /// The name of the root's type.
     RootType(DottedName<'t>),
@@ -255,7 +249,7 @@ pub enum Directive<'t> {
 }
 
 /// A declaration of a schema text.
-#[derive(Drop)]
+#[derive(Debug, Drop)]
 pub enum Declaration<'t> {
     /// The namespace from here on, or none.
     Namespace(Option<DottedName<'t>>),
@@ -266,21 +260,11 @@ pub enum Declaration<'t> {
 }
 
 /// What a schema text declares, in its order.
+#[derive(Drop)]
 pub struct Decls<'t> {
     pub(crate) declarations: Vec<Declaration<'t>>,
     pub(crate) text_len: u64,
     pub(crate) key: HashKey,
-}
-
-// Written out, so that a proof has one step where a value falls out of scope, and not one for each of its parts.
-impl Drop for Decls<'_> {
-    fn drop(self) {
-        let Self {
-            declarations: _,
-            text_len: _,
-            key: _,
-        } = self;
-    }
 }
 
 impl<'t> Model for Decls<'t> {

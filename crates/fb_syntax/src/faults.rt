@@ -1,19 +1,25 @@
 //! Why a schema text is refused.
 use std::alloc::{AllocError, AllocFailed};
-use std::fmt;
 use thiserror::Error;
 
 /// What is wrong with a schema text, and the offset in bytes from its start.
 ///
 /// `Memory` is a refused allocation.
-#[derive(Clone, Copy, Drop, Error)]
+#[derive(Clone, Copy, Debug, PartialEq, Eq, Drop, Error)]
 pub enum SyntaxFault {
+    #[error("the text isn't UTF-8 from {0} on")]
     NotUtf8(u64),
+    #[error("no token begins with the byte at {0}, or it may not be in a quoted text")]
     BadByte(u64),
+    #[error("the comment or quoted text from {0} on has no end")]
     Unterminated(u64),
+    #[error("the integer at {0} is too large")]
     NumberTooBig(u64),
+    #[error("the token at {0} is not expected there")]
     Unexpected(u64),
+    #[error("the vector at {0} is inside a vector")]
     NestedVector(u64),
+    #[error("out of memory")]
     Memory,
 }
 
@@ -21,39 +27,19 @@ impl SyntaxFault {
     ghost use Rattle.std.specs.Prelude.{◌≡◌};
     ghost use Rattle.fb_syntax.specs.FaultTable.{number_of, name_of, offset_of};
 
-    // The number, the name, and what its sentence says before the offset and behind it.
-    fn row(self) -> (u8, &'static str, &'static str, &'static str)
+    // The number and the name.
+    fn row(self) -> (u8, &'static str)
         ensures number { result.0 ≡ number_of self }
         ensures name { result.1.now ≡ name_of self }
     {
         match self {
-            SyntaxFault::NotUtf8(_) => (1, "NotUtf8", "the text isn't UTF-8 from ", " on"),
-            SyntaxFault::BadByte(_) => (
-                2,
-                "BadByte",
-                "no token begins with the byte at ",
-                ", or it may not be in a quoted text",
-            ),
-            SyntaxFault::Unterminated(_) => (
-                3,
-                "Unterminated",
-                "the comment or quoted text from ",
-                " on has no end",
-            ),
-            SyntaxFault::NumberTooBig(_) => (4, "NumberTooBig", "the integer at ", " is too large"),
-            SyntaxFault::Unexpected(_) => (
-                5,
-                "Unexpected",
-                "the token at ",
-                " is not expected there",
-            ),
-            SyntaxFault::NestedVector(_) => (
-                6,
-                "NestedVector",
-                "the vector at ",
-                " is inside a vector",
-            ),
-            SyntaxFault::Memory => (7, "Memory", "out of memory", ""),
+            SyntaxFault::NotUtf8(_) => (1, "NotUtf8"),
+            SyntaxFault::BadByte(_) => (2, "BadByte"),
+            SyntaxFault::Unterminated(_) => (3, "Unterminated"),
+            SyntaxFault::NumberTooBig(_) => (4, "NumberTooBig"),
+            SyntaxFault::Unexpected(_) => (5, "Unexpected"),
+            SyntaxFault::NestedVector(_) => (6, "NestedVector"),
+            SyntaxFault::Memory => (7, "Memory"),
         }
     }
 
@@ -84,23 +70,6 @@ impl SyntaxFault {
             | SyntaxFault::NestedVector(at) => Some(at),
             SyntaxFault::Memory => None,
         }
-    }
-}
-
-impl fmt::Display for SyntaxFault {
-    fn fmt<W: fmt::Write>(&self, f: &mut fmt::Formatter<W>) -> fmt::Result {
-        let (_number, _name, before, behind) = self.row();
-        match self.offset() {
-            Some(at) => write!(f, "{before}{at}{behind}"),
-            None => f.write_str(before),
-        }
-    }
-}
-
-// The sentence: a derived one takes the prover a step for each variant.
-impl fmt::Debug for SyntaxFault {
-    fn fmt<W: fmt::Write>(&self, f: &mut fmt::Formatter<W>) -> fmt::Result {
-        fmt::Display::fmt(self, f)
     }
 }
 

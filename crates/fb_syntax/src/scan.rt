@@ -140,10 +140,7 @@ pub(crate) fn text_of(bytes: &[u8]) -> Result<&str, SyntaxFault>
     ensures not_utf8 { IfErr result (λ e.
         ¬ (IsUtf8 bytes.now) × (e ≡ SyntaxFault.NotUtf8 (utf8_valid_len bytes.now))) }
 {
-    match compat::from_utf8(bytes) {
-        Ok(text) => Ok(text),
-        Err(fault) => Err(SyntaxFault::NotUtf8(fault.valid_up_to() as u64)),
-    }
+    compat::from_utf8(bytes).map_err(|fault| SyntaxFault::NotUtf8(fault.valid_up_to() as u64))
 }
 
 /// The tokens of a text, behind its byte order mark if it has one; offsets count the mark.

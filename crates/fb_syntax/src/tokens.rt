@@ -1,7 +1,7 @@
 //! Tokens and where they stand.
 
 /// What a token is (Grammar: identifiers, integer constants, string constants, and the grammar's signs).
-#[derive(Clone, Copy, PartialEq, Eq, Drop)]
+#[derive(Clone, Copy, Debug, PartialEq, Eq, Drop)]
 pub enum TokenKind {
     Word,
     Integer,
@@ -11,7 +11,7 @@ pub enum TokenKind {
 }
 
 /// A token: its kind, its offset and its length in bytes.
-#[derive(Clone, Copy, Drop)]
+#[derive(Clone, Copy, Debug, PartialEq, Eq, Drop)]
 pub struct Token {
     pub kind: TokenKind,
     pub at: u64,

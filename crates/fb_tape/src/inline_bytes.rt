@@ -14,7 +14,7 @@ ghost use Rattle.fb_tape.specs.InlineBytes.{AddsInline, OnlyAdds, IsBit, IsInlin
 ghost use Rattle.fb_tape.specs.StoredFields.{scalar_in};
 
 use byteorder::{ByteOrder, LittleEndian};
-use fb_layout::{Layout, kind_in};
+use fb_layout::{Layout, kind_in, layout_is_well_made};
 use fb_schema::{Base, Kind, TypeId};
 use fb_value::Value;
 use std::alloc::AllocError;
@@ -131,7 +131,7 @@ pub(crate) fn push_struct(
         bytes.old.items bytes.new.items) }
     ensures kept { OnlyAdds bytes.old.items bytes.new.items }
 {
-    let _schema = layout.schema(); // its contract: the layout is well made
+    layout_is_well_made(layout);
     let fields = layout.parts_of(structure);
     let first = bytes.len();
     for k in 0..fields.len() {

@@ -44,6 +44,7 @@ pub(crate) struct VtableRange {
 /// Vtables, each once, numbered as they come.
 #[derive(Drop)]
 pub(crate) struct KnownVtables {
+    key: HashKey,
     digests: DigestIndex,
     ranges: Vec<VtableRange>,
     bytes: Vec<u8>,
@@ -71,6 +72,7 @@ impl KnownVtables {
         ensures none { result ≡ [] }
     {
         KnownVtables {
+            key,
             digests: DigestIndex::new(alloc, key),
             ranges: Vec::new(alloc),
             bytes: Vec::new(alloc),
@@ -120,8 +122,9 @@ impl KnownVtables {
         if self.is_at(self.last, vtable) {
             return Some(self.last);
         }
+        let digest = self.key.digest(vtable);
         self.digests
-            .find(vtable, |number| self.is_at(number, vtable))
+            .find(digest, |number| self.is_at(number, vtable))
     }
 
     /// The number of the vtable with these bytes, which is noted if it isn't known.
@@ -140,7 +143,7 @@ impl KnownVtables {
             size: vtable.len(),
         };
         self.bytes.extend_from_slice(vtable)?;
-        self.digests.push_reserved(vtable);
+        self.digests.push_reserved(self.key.digest(vtable));
         self.ranges.push_reserved(range);
         Ok(self.ranges.len() - 1)
     }

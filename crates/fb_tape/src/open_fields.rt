@@ -13,7 +13,7 @@ ghost use Rattle.fb_tape.specs.OpenList.{AreBytesAt, IsFieldAt, own_size};
 
 use crate::inline_bytes::{push_number, push_struct, scalar_base};
 use crate::ops::NotedField;
-use fb_layout::Layout;
+use fb_layout::{Layout, layout_is_well_made};
 use fb_schema::{Base, Kind, TypeId};
 use fb_value::Value;
 use std::alloc::{AllocError, Global};
@@ -169,7 +169,7 @@ impl OpenFields {
             (a_struct (parts_view parts.now)) self.old self.new) }
         ensures kept { OnErr result (self.new ≡ self.old) }
     {
-        let _schema = layout.schema(); // its contract: the layout is well made
+        layout_is_well_made(layout);
         self.fields.reserve(1)?;
         let first = self.bytes.len();
         push_struct(&mut self.bytes, layout, structure, parts)?;

@@ -3,7 +3,7 @@ ghost use Rattle.std.specs.Prelude.{◌≡◌, ◌≤◌};
 ghost use Rattle.fb_tape.specs.Alignments.{aligned_to};
 
 /// An alignment, a power of two that is 256 at most, in one byte: one less than it is.
-#[derive(Clone, Copy)]
+#[derive(Clone, Copy, Debug, PartialEq, Eq)]
 pub struct Alignment {
     less_one: u8,
 }
@@ -29,7 +29,7 @@ impl Alignment {
 
 /// What is laid next. An operation that refers to parts takes them from those that wait, of which it knows the count;
 /// the part that it lays waits in turn.
-#[derive(Clone, Copy)]
+#[derive(Clone, Copy, Debug, PartialEq, Eq)]
 pub enum Op {
     /// A text, or a vector of numbers or structs: the tape's next bytes, of which the first four are the count.
     Data {
@@ -51,7 +51,7 @@ pub enum Op {
 }
 
 /// A field of a table, in the order of laying.
-#[derive(Clone, Copy)]
+#[derive(Clone, Copy, Debug, PartialEq, Eq)]
 pub enum NotedField {
     Reference,
     /// A number or a struct: so many of the tape's next bytes.

@@ -25,13 +25,6 @@ pub(crate) fn size_of(note: NotedField) -> u16
     }
 }
 
-/// The greater alignment.
-fn greater(a: u16, b: u16) -> u16
-    ensures { result ≡ max a b }
-{
-    if a < b { b } else { a }
-}
-
 /// The bytes that a table's fields take, and what their end is aligned to.
 #[derive(Clone, Copy)]
 pub(crate) struct Extent {
@@ -47,11 +40,11 @@ fn extent_of(opened: &OpenFields, first: usize) -> Extent
     ensures align { result.align ≡ max 4 (greatest_in (map (λ x. x.align) (drop first opened.now))) }
 {
     let mut size = 0;
-    let mut align = 4;
+    let mut align = 4u16;
     for i in first..opened.len() {
         let field = opened.field(i);
         size += size_of(field.note);
-        align = greater(align, field.align);
+        align = align.max(field.align);
     }
     Extent { size, align }
 }

@@ -28,7 +28,7 @@ use crate::ops::{Alignment, NotedField, Op};
 use crate::rooms::{table_room, text_room, vector_room};
 use crate::stored_tables::{Offsets, note_table};
 use byteorder::{ByteOrder, LittleEndian};
-use fb_layout::Layout;
+use fb_layout::{Layout, layout_is_well_made};
 use fb_schema::{Kind, TypeId};
 use fb_value::Value;
 use std::alloc::{AllocError, Global};
@@ -53,6 +53,7 @@ const FIRST_BYTES: usize = 512;
 /// What is to be laid of a value, operation by operation, in the order of laying: a part comes behind all that it
 /// refers to. Once the parts are too big for a buffer together nothing more is noted, and only their rooms are summed
 /// up.
+#[derive(Drop)]
 pub struct Tape<'l> {
     layout: &'l Layout,
     ops: Vec<Op>,
@@ -64,22 +65,6 @@ pub struct Tape<'l> {
     // for one table at a time
     offsets: Offsets,
     room: usize,
-}
-
-// Written out, so that a proof has one step where a value falls out of scope, and not one for each of its parts.
-impl Drop for Tape<'_> {
-    fn drop(self) {
-        let Self {
-            layout: _,
-            ops: _,
-            fields: _,
-            bytes: _,
-            finished: _,
-            vtables: _,
-            offsets: _,
-            room: _,
-        } = self;
-    }
 }
 
 impl<'l> Model for Tape<'l> {
@@ -305,7 +290,7 @@ impl<'l> Tape<'l> {
         ensures layout { self.new.layout ≡ self.old.layout }
     {
         let layout = self.layout;
-        let _schema = layout.schema(); // its contract: the layout is well made
+        layout_is_well_made(layout);
         self.add_room(vector_room(layout, kind, count));
         if self.is_over() {
             self.bytes.truncate(self.finished);
@@ -385,7 +370,7 @@ impl<'l> Tape<'l> {
         ensures layout { self.new.layout ≡ self.old.layout }
     {
         let layout = self.layout;
-        let _schema = layout.schema(); // its contract: the layout is well made
+        layout_is_well_made(layout);
         self.add_room(table_room(layout, table));
         if self.is_over() {
             return Ok(());

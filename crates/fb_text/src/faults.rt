@@ -1,25 +1,17 @@
 //! Why a value has no JSON text, or its text was not written whole.
 use fb_json::Place;
-use std::fmt;
 use thiserror::Error;
 
 /// Why a text was not written whole.
 ///
 /// `NoMemberName` comes before the first byte. `WriteFailed` says how many bytes of the text were
 /// written; the count stops at its greatest value.
-#[derive(Clone, Copy, Drop, Error)]
+#[derive(Clone, Copy, Debug, PartialEq, Eq, Drop, Error)]
 pub enum WriteFault {
     #[error("a union's member has no name in the schema, in {0}")]
     NoMemberName(Place),
     #[error("a write failed, {0} bytes behind the start")]
     WriteFailed(u64),
-}
-
-// The sentence: a derived one takes the prover a step for each variant.
-impl fmt::Debug for WriteFault {
-    fn fmt<W: fmt::Write>(&self, f: &mut fmt::Formatter<W>) -> fmt::Result {
-        fmt::Display::fmt(self, f)
-    }
 }
 
 impl WriteFault {
@@ -73,19 +65,12 @@ impl WriteFault {
 }
 
 /// Why a value has no JSON text. `Memory` is a refused allocation.
-#[derive(Clone, Copy, Drop, Error)]
+#[derive(Clone, Copy, Debug, PartialEq, Eq, Drop, Error)]
 pub enum TextFault {
     #[error("a union's member has no name in the schema, in {0}")]
     NoMemberName(Place),
     #[error("out of memory")]
     Memory,
-}
-
-// The sentence: a derived one takes the prover a step for each variant.
-impl fmt::Debug for TextFault {
-    fn fmt<W: fmt::Write>(&self, f: &mut fmt::Formatter<W>) -> fmt::Result {
-        fmt::Display::fmt(self, f)
-    }
 }
 
 impl TextFault {

@@ -1,7 +1,7 @@
 //! Which blanks and line feeds stand between the values of a text.
 
 /// How a JSON text is spaced.
-#[derive(Clone, Copy, Drop)]
+#[derive(Clone, Copy, Debug, PartialEq, Eq, Drop)]
 pub enum Spacing {
     /// Two blanks an indent, one member or element a line, and a line feed at the end.
     Indented,

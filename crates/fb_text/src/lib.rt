@@ -21,7 +21,7 @@ mod values;
 
 pub use faults::{TextFault, WriteFault};
 pub use indents::Spacing;
-pub use laws::{spaced_texts_are_utf8, texts_are_utf8};
+pub use laws::{names_are_utf8, spaced_texts_are_utf8, texts_are_utf8};
 pub use noted::Noted;
 pub use shown::{Found, Shown};
 pub use text::{write_shown, write_spaced, write_text};

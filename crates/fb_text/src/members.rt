@@ -46,10 +46,10 @@ fn member_name(schema: &Schema, union: TypeId, code: u8) -> &str
     let Some(at) = code.checked_sub(1) else {
         return "";
     };
-    match members_of(schema, union).get(usize::from(at)) {
-        Some(member) => member.0.as_str(),
-        None => "",
-    }
+    let Some(member) = members_of(schema, union).get(usize::from(at)) else {
+        return "";
+    };
+    member.0.as_str()
 }
 
 /// Adds a union's code in front of its member, and says whether there is a member now.

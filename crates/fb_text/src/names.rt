@@ -1,7 +1,8 @@
 //! The names of an enum's values.
-ghost use Rattle.std.specs.Prelude.{◌≡◌, map, option_copied, string_bytes};
+ghost use Rattle.std.specs.Prelude.{◌≡◌, ◌≢◌, AllPairs, map, option_copied, string_bytes};
 ghost use Rattle.fb_schema.specs.Schema.{body_at, values_in};
 ghost use Rattle.fb_schema.specs.Found.{name_numbered};
+ghost use Rattle.fb_schema.specs.Indexed.{inner_numbers};
 
 use fb_schema::{Schema, TypeId};
 
@@ -17,6 +18,13 @@ fn values_of(schema: &Schema, enumeration: TypeId) -> &[(String, i128)]
         Some((_, _, values)) => values,
         None => &[],
     }
+}
+
+/// No two values of an enum have the same number.
+fn numbers_differ(schema: &Schema, enumeration: TypeId)
+    ensures { AllPairs (λ a b. a ≢ b) (inner_numbers (body_at schema.now enumeration.0)) }
+{
+    let _types = schema.types();
 }
 
 /// An enum and its values, so that they are looked up once for all the names of a number.
@@ -49,7 +57,7 @@ impl<'a> Names<'a> {
         ensures { option_copied result
             ≡ name_numbered (body_at self.entry.schema.now self.entry.enumeration.0) number }
     {
-        let _types = self.schema.types(); // tells that no number is there twice
+        numbers_differ(self.schema, self.enumeration);
         if let Some(value) = self.values.get(place)
             && value.1 == number
         {

@@ -11,7 +11,7 @@ ghost use Rattle.fb_text.specs.Shown.{IsTop, HasWeight};
 ghost use Rattle.fb_text.specs.Nested.{HasByte, HasStruct, IsStructAt, StandsIn, IsAt, left_text};
 
 use crate::shown::{Found, Shown};
-use fb_layout::Layout;
+use fb_layout::{Layout, layout_is_well_made};
 use fb_schema::{Kind, Shape, TypeId};
 
 /// A struct in another, or that one itself, and which of its fields is printed next.
@@ -111,7 +111,7 @@ fn field_at(layout: &Layout, structure: TypeId, byte: u32) -> u16
         → HasByte layout.now structure k f byte → result ≡ k }
     ensures few { result < 65535 }
 {
-    let _schema = layout.schema(); // its contract: the layout is well made
+    layout_is_well_made(layout);
     let mut low = 0usize;
     let mut high = layout.parts_of(structure).len();
     while low + 1 < high {
@@ -138,7 +138,7 @@ fn inner_at<S: Shown>(layout: &Layout, here: StructCursor<S>, byte: u32) -> Stru
         → IsStructAt S.shows layout.now u es
         (here.at + slice_index (struct_at layout.now here.structure.0).offsets k) result }
 {
-    let _schema = layout.schema(); // its contract: the layout is well made
+    layout_is_well_made(layout);
     let fields = layout.parts_of(here.structure);
     let next = field_at(layout, here.structure, byte.saturating_sub(here.at));
     let k = usize::from(next);
@@ -180,7 +180,7 @@ pub(crate) fn parent_of<S: Shown>(
         × IsAt S.shows layout.now defaults indent structure ds result around rest
         × (behind ≡ left_text layout.now defaults indent result around ++ rest) }
 {
-    let _schema = layout.schema(); // its contract: the layout is well made
+    layout_is_well_made(layout);
     let mut here = outermost(structure, shown);
     for _level in 0..inner.depth - 1 {
         here = inner_at(layout, here, inner.at);

@@ -75,12 +75,7 @@ impl<W: Write> Noted<W> {
     pub fn into_inner(self) -> W
         ensures { result ≡ writer_of self }
     {
-        let Noted {
-            inner,
-            failed: _,
-            page: _,
-        } = self;
-        inner
+        self.inner
     }
 
     /// Whether the last write of at least one byte failed or took none; false before the first.

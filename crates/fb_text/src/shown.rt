@@ -12,7 +12,7 @@ ghost use Rattle.fb_text.specs.Unnamed.{nth_child, unnamed_from};
 use fb_schema::TypeId;
 
 /// What is found where a value is read.
-#[derive(Clone, Copy)]
+#[derive(Clone, Copy, Debug, PartialEq, Eq)]
 pub enum Found<'a> {
     Absent,
     Number(i128),

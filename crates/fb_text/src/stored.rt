@@ -11,10 +11,10 @@ use fb_schema::{Kind, Shape};
 fn may_have_unions(shape: Shape) -> bool
     ensures { result ≡ may_have_unions shape }
 {
-    match shape {
-        Shape::One(Kind::Table(_) | Kind::Union(_)) | Shape::Many(Kind::Table(_)) => true,
-        _ => false,
-    }
+    matches!(
+        shape,
+        Shape::One(Kind::Table(_) | Kind::Union(_)) | Shape::Many(Kind::Table(_))
+    )
 }
 
 impl Shown for Entry<'_> {

@@ -22,7 +22,7 @@ use crate::noted::Noted;
 use crate::numbers::put_number;
 use crate::quotes::put_quoted;
 use crate::shown::{Found, Shown};
-use fb_layout::Layout;
+use fb_layout::{Layout, layout_is_well_made};
 use fb_schema::{FieldInfo, Kind, Shape, TypeId};
 use std::io::Write;
 
@@ -31,6 +31,13 @@ use std::io::Write;
 pub struct Style<'a> {
     pub layout: &'a Layout,
     pub defaults: bool,
+}
+
+/// Where a value is read, and what is found there, so that it is found once.
+#[derive(Clone, Copy)]
+struct FoundValue<'f, S> {
+    shown: S,
+    found: Found<'f>,
 }
 
 /// Adds the text of a value of a shape. Lines that the value begins are indented.
@@ -46,7 +53,11 @@ pub(crate) fn put_value<W: Write, S: Shown>(
         → Prints W.contents out.old out.new
         (value_text style.entry.layout.now style.entry.defaults (blanks indent.now) shape d) }
 {
-    put_found(out, style, indent, shape, shown, shown.find());
+    let value = FoundValue {
+        shown,
+        found: shown.find(),
+    };
+    put_found(out, style, indent, shape, value);
 }
 
 /// The same where it is known what is found there.
@@ -57,14 +68,15 @@ fn put_found<W: Write, S: Shown>(
     style: Style,
     indent: &Indent,
     shape: Shape,
-    shown: S,
-    found: Found,
+    value: FoundValue<'_, S>,
 )
-    requires { HasWeight found (S.weight shown) }
-    ensures { (d : Datum) → S.shows shown style.entry.layout.now (Some d) → IsTop found.entry (Some d)
+    requires { HasWeight value.found (S.weight value.shown) }
+    ensures { (d : Datum) → S.shows value.entry.shown style.entry.layout.now (Some d)
+        → IsTop value.entry.found (Some d)
         → Prints W.contents out.old out.new
         (value_text style.entry.layout.now style.entry.defaults (blanks indent.now) shape d) }
 {
+    let FoundValue { shown, found } = value;
     match found {
         Found::Absent | Found::Unknown => {}
         Found::Number(number) => {
@@ -132,7 +144,13 @@ fn put_item<W: Write, S: Shown>(
 {
     match shown.find() {
         Found::Number(number) => put_number(out, style.layout.schema(), kind, number),
-        found => put_found(out, style, indent, Shape::One(kind), shown, found),
+        found => put_found(
+            out,
+            style,
+            indent,
+            Shape::One(kind),
+            FoundValue { shown, found },
+        ),
     }
 }
 
@@ -190,7 +208,7 @@ fn put_member<W: Write, S: Shown>(
     }
     let some = put_code(out, style.layout.schema(), inner, some, slot, found);
     put_member_line(out, inner, some, slot.name.as_str(), false);
-    put_found(out, style, inner, slot.shape, shown, found);
+    put_found(out, style, inner, slot.shape, FoundValue { shown, found });
     true
 }
 
@@ -245,7 +263,7 @@ fn put_fields<W: Write, S: Shown>(
         (state_of W.contents out.old) (state_of W.contents out.new)
         (left_text style.entry.layout.now style.entry.defaults (blanks indent.now) here.old es ++ behind) }
 {
-    let _schema = style.layout.schema(); // tells that structs take few bytes
+    layout_is_well_made(style.layout); // so structs take few bytes
     let fields = style.layout.parts_of(here.structure);
     let inner = indent.deeper(here.depth + 1);
     while usize::from(here.next) < fields.len() {
@@ -261,7 +279,8 @@ fn put_fields<W: Write, S: Shown>(
             enter(style.layout, here, structure, part);
             return true;
         }
-        here.some = put_field(out, style, &inner, here.some, field, part, found);
+        let value = FoundValue { shown: part, found };
+        here.some = put_field(out, style, &inner, here.some, field, value);
         here.next += 1;
     }
     false
@@ -275,20 +294,20 @@ fn put_field<W: Write, S: Shown>(
     inner: &Indent,
     some: bool,
     field: &FieldInfo,
-    shown: S,
-    found: Found,
+    value: FoundValue<'_, S>,
 ) -> bool
-    requires { HasWeight found (S.weight shown) }
-    ensures text { (o : Option Datum) → S.shows shown style.entry.layout.now o → IsTop found.entry o
+    requires { HasWeight value.found (S.weight value.shown) }
+    ensures text { (o : Option Datum) → S.shows value.entry.shown style.entry.layout.now o
+        → IsTop value.entry.found o
         → Prints W.contents out.old out.new (part_text style.entry.layout.now style.entry.defaults
         (blanks inner.now) some (field_seen field.now) o) }
-    ensures some { (o : Option Datum) → IsTop found.entry o → result ≡ (some || is_some o) }
+    ensures some { (o : Option Datum) → IsTop value.entry.found o → result ≡ (some || is_some o) }
 {
-    if let Found::Absent = found {
+    if let Found::Absent = value.found {
         return some;
     }
     put_member_line(out, inner, some, field.name.as_str(), false);
-    put_found(out, style, inner, field.shape, shown, found);
+    put_found(out, style, inner, field.shape, value);
     true
 }
 

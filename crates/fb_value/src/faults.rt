@@ -1,26 +1,39 @@
 //! Why bytes are refused.
 use std::alloc::{AllocError, AllocFailed};
-use std::fmt;
 use thiserror::Error;
 
 /// The rule that fails, and the offset in bytes from the buffer's start.
 ///
 /// `MissingRequired` also names the slot. `Memory` is a refused allocation and no rule.
-#[derive(Clone, Copy, Drop, Error)]
+#[derive(Clone, Copy, Debug, PartialEq, Eq, Drop, Error)]
 pub enum ReadFault {
+    #[error("the buffer ends at {0}, inside its header")]
     Short(u64),
+    #[error("the buffer is longer than {0} bytes")]
     TooLong(u64),
+    #[error("the file identifier at {0} is not the schema's")]
     WrongIdentifier(u64),
+    #[error("position {0} is not aligned")]
     Misaligned(u64),
+    #[error("what is at {0} ends past the buffer")]
     OutOfBounds(u64),
+    #[error("the reference at {0} is 0")]
     ZeroOffset(u64),
+    #[error("the table at {0} has no valid vtable")]
     BadVtable(u64),
+    #[error("the required slot {1} is missing at {0}")]
     MissingRequired(u64, u16),
+    #[error("the string that ends at {0} has no zero byte")]
     NoTerminator(u64),
+    #[error("the string's byte at {0} is not UTF-8")]
     BadUtf8(u64),
+    #[error("the union's code at {0} has no value")]
     UnionMismatch(u64),
+    #[error("the table at {0} is too deep")]
     TooDeep(u64),
+    #[error("the cells at {0} are too many")]
     TooManyCells(u64),
+    #[error("out of memory")]
     Memory,
 }
 
@@ -28,52 +41,26 @@ impl ReadFault {
     ghost use Rattle.std.specs.Prelude.{◌≡◌};
     ghost use Rattle.fb_value.specs.FaultTable.{number_of, name_of, offset_of};
 
-    // The number, the name, and what its sentence says before the offset and behind it; of a missing slot, before and
-    // behind the slot's number.
-    fn row(self) -> (u8, &'static str, &'static str, &'static str)
+    // The number and the name.
+    fn row(self) -> (u8, &'static str)
         ensures number { result.0 ≡ number_of self }
         ensures name { result.1.now ≡ name_of self }
     {
         match self {
-            ReadFault::Short(_) => (50, "Short", "the buffer ends at ", ", inside its header"),
-            ReadFault::TooLong(_) => (51, "TooLong", "the buffer is longer than ", " bytes"),
-            ReadFault::WrongIdentifier(_) => (
-                52,
-                "WrongIdentifier",
-                "the file identifier at ",
-                " is not the schema's",
-            ),
-            ReadFault::Misaligned(_) => (53, "Misaligned", "position ", " is not aligned"),
-            ReadFault::OutOfBounds(_) => (
-                54,
-                "OutOfBounds",
-                "what is at ",
-                " ends past the buffer",
-            ),
-            ReadFault::ZeroOffset(_) => (55, "ZeroOffset", "the reference at ", " is 0"),
-            ReadFault::BadVtable(_) => (56, "BadVtable", "the table at ", " has no valid vtable"),
-            ReadFault::MissingRequired(_, _) => (
-                57,
-                "MissingRequired",
-                "the required slot ",
-                " is missing at ",
-            ),
-            ReadFault::NoTerminator(_) => (
-                58,
-                "NoTerminator",
-                "the string that ends at ",
-                " has no zero byte",
-            ),
-            ReadFault::BadUtf8(_) => (59, "BadUtf8", "the string's byte at ", " is not UTF-8"),
-            ReadFault::UnionMismatch(_) => (
-                60,
-                "UnionMismatch",
-                "the union's code at ",
-                " has no value",
-            ),
-            ReadFault::TooDeep(_) => (62, "TooDeep", "the table at ", " is too deep"),
-            ReadFault::TooManyCells(_) => (63, "TooManyCells", "the cells at ", " are too many"),
-            ReadFault::Memory => (64, "Memory", "out of memory", ""),
+            ReadFault::Short(_) => (50, "Short"),
+            ReadFault::TooLong(_) => (51, "TooLong"),
+            ReadFault::WrongIdentifier(_) => (52, "WrongIdentifier"),
+            ReadFault::Misaligned(_) => (53, "Misaligned"),
+            ReadFault::OutOfBounds(_) => (54, "OutOfBounds"),
+            ReadFault::ZeroOffset(_) => (55, "ZeroOffset"),
+            ReadFault::BadVtable(_) => (56, "BadVtable"),
+            ReadFault::MissingRequired(_, _) => (57, "MissingRequired"),
+            ReadFault::NoTerminator(_) => (58, "NoTerminator"),
+            ReadFault::BadUtf8(_) => (59, "BadUtf8"),
+            ReadFault::UnionMismatch(_) => (60, "UnionMismatch"),
+            ReadFault::TooDeep(_) => (62, "TooDeep"),
+            ReadFault::TooManyCells(_) => (63, "TooManyCells"),
+            ReadFault::Memory => (64, "Memory"),
         }
     }
 
@@ -133,25 +120,5 @@ impl<T: Drop> From<AllocFailed<T>> for ReadFault {
 
     fn from(_refused: AllocFailed<T>) -> ReadFault {
         ReadFault::Memory
-    }
-}
-
-impl fmt::Display for ReadFault {
-    fn fmt<W: fmt::Write>(&self, f: &mut fmt::Formatter<W>) -> fmt::Result {
-        let (_number, _name, before, behind) = self.row();
-        if let ReadFault::MissingRequired(at, slot) = self {
-            return write!(f, "{before}{slot}{behind}{at}");
-        }
-        match self.offset() {
-            Some(at) => write!(f, "{before}{at}{behind}"),
-            None => f.write_str(before),
-        }
-    }
-}
-
-// The sentence: a derived one takes the prover a step for each variant.
-impl fmt::Debug for ReadFault {
-    fn fmt<W: fmt::Write>(&self, f: &mut fmt::Formatter<W>) -> fmt::Result {
-        fmt::Display::fmt(self, f)
     }
 }

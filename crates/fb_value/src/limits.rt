@@ -5,7 +5,7 @@ ghost use Rattle.std.specs.Option.{SomeIff};
 use std::marker::Model;
 
 /// The maximum nesting depth of tables, and the maximum number of cells.
-#[derive(Clone, Copy)]
+#[derive(Clone, Copy, Debug)]
 pub struct Limits {
     depth: u8,
     cells: u32,
@@ -22,6 +22,28 @@ impl Model for Limits {
     ghost invariant = { λ a. (1 ≤ a.depth) × (a.depth ≤ 127) };
 
     ghost inverse = { λ m. record { depth = m.depth; cells = m.cells } };
+}
+
+impl PartialEq for Limits {
+    ghost use Rattle.std.specs.Prelude.{◌==◌};
+    ghost use Rattle.std.proofs.Common.{rules};
+    ghost use Rattle.std.specs.Cmp.Rules.{comparing};
+    ghost use Rattle.std.specs.Ordering.{eq_of_both, on};
+
+    ghost eq = { eq_of_both (on (λ m. m.depth) ◌==◌) (on (λ m. m.cells) ◌==◌) };
+
+    ghost laws = { Prim.search (comparing, rules) };
+
+    fn eq(&self, other: &Limits) -> bool {
+        self.depth == other.depth && self.cells == other.cells
+    }
+}
+
+impl Eq for Limits {
+    ghost use Rattle.std.proofs.Common.{rules};
+    ghost use Rattle.std.specs.Cmp.Rules.{comparing};
+
+    ghost laws = { Prim.search (comparing, rules) };
 }
 
 impl Limits {

@@ -2,7 +2,7 @@
 use fb_schema::TypeId;
 
 /// A typed value.
-#[derive(Debug, Drop)]
+#[derive(Debug, PartialEq, Drop)]
 pub enum Value {
     /// A scalar or a value of an enum.
     Number(i128),

@@ -29,10 +29,7 @@ pub fn check(
         → ¬ IsSound schema.now (option_map (λ b. b.now) bytes.entry) limits raw) }
 {
     layer_laws();
-    let layout = match schema_of(alloc, schema) {
-        Ok(layout) => layout,
-        Err(fault) => return Err(ToolFault::Schema(fault)),
-    };
+    let layout = schema_of(alloc, schema).map_err(ToolFault::Schema)?;
     let Some(bytes) = bytes else {
         return Ok(());
     };

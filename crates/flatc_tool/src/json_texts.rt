@@ -8,7 +8,7 @@ ghost use Rattle.flatc_tool.specs.Prints.{IfUnwritten, IsOfInput, text_fault};
 use crate::laws::layer_laws;
 use crate::options::DecodeOptions;
 use fb_faults::ToolFault;
-use fb_layout::Layout;
+use fb_layout::{Layout, layout_is_well_made};
 use fb_read::{Entries, verify_framed};
 use fb_text::{Noted, Spacing, TextFault, WriteFault, spaced_texts_are_utf8, write_spaced};
 use std::alloc::Global;
@@ -52,28 +52,24 @@ pub fn decode_to<W: Write>(
 {
     layer_laws();
     spaced_texts_are_utf8(layout);
-    let _schema = layout.schema(); // its contract: the layout is well made
+    layout_is_well_made(layout);
     let mut entries = Entries::new();
-    let view = match verify_framed(
+    let view = verify_framed(
         layout,
         bytes,
         options.limits,
         options.raw_binary,
         options.size_prefixed,
         &mut entries,
-    ) {
-        Ok(view) => view,
-        Err(fault) => return Err(ToolFault::Read(fault)),
-    };
-    match write_spaced(
+    )
+    .map_err(ToolFault::Read)?;
+    write_spaced(
         &view,
         options.defaults_json,
         spacing_of(options.compact),
         out,
-    ) {
-        Ok(()) => Ok(()),
-        Err(fault) => Err(ToolFault::Write(fault)),
-    }
+    )
+    .map_err(ToolFault::Write)
 }
 
 /// A refusal to print to memory: a write fails only where memory runs out.

@@ -16,7 +16,7 @@ fn usual_limits() -> Limits
 
 /// How a JSON text is made a buffer. By default: within the usual limits, an unknown JSON field is
 /// refused, and the buffer's length isn't put in front of it.
-#[derive(Clone, Copy)]
+#[derive(Clone, Copy, Debug, PartialEq, Eq)]
 pub struct EncodeOptions {
     /// How deep tables may be nested, and how many cells there may be.
     pub limits: Limits,
@@ -54,7 +54,7 @@ impl Default for EncodeOptions {
 /// How a buffer is made a JSON text. By default: within the usual limits, the file identifier is
 /// checked, scalars with their default values are left out, no length is in front of the buffer, and the text
 /// is indented.
-#[derive(Clone, Copy)]
+#[derive(Clone, Copy, Debug, PartialEq, Eq)]
 pub struct DecodeOptions {
     /// How deep tables may be nested, and how many cells there may be.
     pub limits: Limits,

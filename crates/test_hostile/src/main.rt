@@ -14,7 +14,6 @@ mod jobs;
 mod layouts;
 mod meanings;
 mod memoryless;
-mod outcomes;
 mod pieces;
 mod schemas;
 mod soak;

@@ -1,9 +1,8 @@
 //! JSON texts that are read in pieces of a few bytes and at once: both ways have the same outcome.
-use crate::outcomes::is_same_outcome;
-use fb_encode::{EncodeFault, TextFault, encode_text};
+use fb_encode::{TextFault, encode_text};
 use fb_layout::Layout;
 use fb_value::Limits;
-use flatc_tool::{ToolFault, schema_of};
+use flatc_tool::schema_of;
 use std::alloc::Global;
 use std::io;
 
@@ -18,15 +17,6 @@ fn limits() -> Limits {
     limits
 }
 
-fn tool_fault(fault: TextFault) -> ToolFault {
-    match fault {
-        TextFault::BadJson => ToolFault::BadJson,
-        TextFault::Memory => ToolFault::Memory,
-        TextFault::Encode(EncodeFault::Json(fault)) => ToolFault::Json(fault),
-        TextFault::Encode(EncodeFault::Build(fault)) => ToolFault::Build(fault),
-    }
-}
-
 /// The outcome of a text in pieces of so many bytes.
 fn outcome(
     alloc: Global,
@@ -34,8 +24,8 @@ fn outcome(
     json: &[u8],
     unknown: bool,
     piece: usize,
-) -> Result<Vec<u8>, ToolFault> {
-    encode_text(alloc, layout, json, limits(), unknown, piece, false).map_err(tool_fault)
+) -> Result<Vec<u8>, TextFault> {
+    encode_text(alloc, layout, json, limits(), unknown, piece, false)
 }
 
 /// The first size of pieces with which a text has another outcome than at once.
@@ -44,11 +34,10 @@ fn other_outcome(
     layout: &Layout,
     json: &[u8],
     unknown: bool,
-    whole: &Result<Vec<u8>, ToolFault>,
+    whole: &Result<Vec<u8>, TextFault>,
 ) -> Option<usize> {
     for piece in PIECES {
-        let in_pieces = outcome(alloc, layout, json, unknown, *piece);
-        if !is_same_outcome(&in_pieces, whole) {
+        if outcome(alloc, layout, json, unknown, *piece) != *whole {
             return Some(*piece);
         }
     }
@@ -63,9 +52,9 @@ fn print_outcome(rt: &HostRuntime, layout: &Layout, json: &[u8], unknown: bool) 
     }
     let told = match whole {
         Ok(_) => "a buffer",
-        Err(ToolFault::BadJson) => "no JSON",
-        Err(ToolFault::Memory) => "no memory",
-        Err(fault) => return println!(rt; "{fault}"),
+        Err(TextFault::BadJson) => "no JSON",
+        Err(TextFault::Memory) => "no memory",
+        Err(TextFault::Encode(fault)) => return println!(rt; "{fault}"),
     };
     println!(rt; "{told}")
 }

@@ -2,13 +2,12 @@
 //! holds a value prints as a text that means it.
 use crate::dice::Dice;
 use crate::meanings::meaning;
-use crate::outcomes::{are_alike, is_same_fault};
 use fb_layout::Layout;
 use fb_owned::{build, read, text_of, whole};
 use fb_read::{Entries, View, verify};
 use fb_text::{Noted, TextFault, WriteFault, write_text};
-use fb_value::{Limits, ReadFault, Value};
-use flatc_tool::{ToolFault, schema_of, to_binary, to_json};
+use fb_value::{Limits, Value};
+use flatc_tool::{schema_of, to_binary, to_json};
 use std::alloc::{AllocError, Global};
 use std::io;
 
@@ -74,7 +73,7 @@ fn limits() -> Limits {
 fn holds(alloc: Global, layout: &Layout, bytes: &[u8], value: &Value) -> bool {
     let mut entries = Entries::new();
     match read(alloc, layout, bytes, limits(), false, &mut entries) {
-        Ok(found) => are_alike(alloc, &found, value),
+        Ok(found) => found == *value,
         Err(_) => false,
     }
 }
@@ -85,8 +84,7 @@ fn means(alloc: Global, layout: &Layout, text: &[u8], value: &Value) -> bool {
         return false;
     };
     match build(alloc, layout, &again) {
-        Ok(bytes) => are_alike(alloc, &again, value)
-            && holds(alloc, layout, bytes.as_slice(), value),
+        Ok(bytes) => again == *value && holds(alloc, layout, bytes.as_slice(), value),
         Err(_) => false,
     }
 }
@@ -118,23 +116,17 @@ fn judge_value(alloc: Global, layout: &Layout, view: View, value: &Value) -> Ver
     }
 }
 
-/// Judges what `read` makes of bytes that `verify` refuses.
-fn judge_refusal(found: &Result<Value, ReadFault>, fault: ReadFault) -> Verdict {
-    match found {
-        Err(told) if is_same_fault(ToolFault::Read(*told), ToolFault::Read(fault)) => {
-            Verdict::Refused
-        }
-        _ => Verdict::Wrong,
-    }
-}
-
 fn judge<'a>(alloc: Global, layout: &'a Layout, bytes: &'a [u8]) -> Verdict {
     let mut entries = Entries::new();
     let found = read(alloc, layout, bytes, limits(), false, &mut entries);
     let mut entries = Entries::new();
     let view = match verify(layout, bytes, limits(), false, &mut entries) {
         Ok(view) => view,
-        Err(fault) => return judge_refusal(&found, fault),
+        Err(fault) => return if found.err() == Some(fault) {
+            Verdict::Refused
+        } else {
+            Verdict::Wrong
+        },
     };
     match found {
         Ok(value) => judge_value(alloc, layout, view, &value),

@@ -9,7 +9,6 @@ use crate::arming::{Outcome, arm, disarm};
 use crate::examples::Example;
 use crate::meanings::meaning;
 use crate::memoryless::try_memoryless;
-use crate::outcomes::are_alike;
 use fb_conform::conform;
 use fb_layout::Layout;
 use fb_owned::{build, carry, copy, plan, text_of};
@@ -30,7 +29,7 @@ fn try_copy(rt: &HostRuntime, value: &Value, arms: bool) -> Outcome
     let answer = copy(rt.alloc(), value);
     disarm(rt, arms);
     match answer {
-        Ok(copied) => Outcome::of(are_alike(rt.alloc(), &copied, value)),
+        Ok(copied) => Outcome::of(copied == *value),
         Err(_) => Outcome::Short(0),
     }
 }

@@ -6,7 +6,6 @@ mod cuts;
 mod faults;
 mod fields;
 mod hex;
-mod refusals;
 mod schemas;
 mod tally;
 mod trial;

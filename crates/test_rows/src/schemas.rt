@@ -7,7 +7,6 @@ mod texts;
 use crate::cuts::are_cuts_settled;
 use crate::faults::RowFault;
 use crate::fields::Fields;
-use crate::refusals::write_schema_fault;
 use crate::schemas::asked::write_asked;
 use crate::schemas::laid::write_laid;
 use crate::schemas::shown::write_schema;
@@ -80,6 +79,15 @@ fn try_fault(
 ) -> Result<&'static str, RowFault> {
     let _ask = row.optional_text("ask")?;
     let _laid = row.optional_text("laid")?;
-    write_schema_fault(fault, line)?;
+    write_fault(fault, line)?;
     Ok("refused")
+}
+
+/// Writes the fault of the layer that refuses.
+fn write_fault(fault: SchemaTextFault, line: &mut String) -> Result<(), AllocError> {
+    match fault {
+        SchemaTextFault::Syntax(fault) => write!(line, "{fault:?}"),
+        SchemaTextFault::Schema(fault) => write!(line, "{fault:?}"),
+        SchemaTextFault::Layout(fault) => write!(line, "{fault:?}"),
+    }
 }

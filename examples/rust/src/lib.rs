@@ -61,7 +61,8 @@ impl fmt::Debug for Bytes {
 /// How a message is converted.
 #[derive(Clone, Copy, Debug)]
 pub struct Options {
-    /// The most tables, vectors and strings.
+    /// The most cells: a table, a vector and a string are one each, and so is each byte of a string and each element of
+    /// a vector.
     pub max_cells: u32,
     /// How deep tables may be nested, 1 to 127.
     pub max_depth: u8,

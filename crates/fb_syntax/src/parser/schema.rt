@@ -108,10 +108,8 @@ fn offset_of(text: &str, tokens: &[Token], left: usize) -> u64
     requires { AreReadable text.now tokens.now }
     ensures { result ≤ length text.now }
 {
-    match tokens.get(tokens.len().saturating_sub(left)) {
-        Some(next) => next.at,
-        None => text.len() as u64,
-    }
+    let next = tokens.get(tokens.len().saturating_sub(left));
+    next.map_or(text.len() as u64, |token| token.at)
 }
 
 /// What the tokens of a text declare.

@@ -1,35 +1,16 @@
 -- Vtables once one more is noted behind them.
 use Rattle.std.proofs.Common.{◌≡◌, ◌≤◌, ◌+◌, ◌++◌, ◌∙◌, ◌⊎◌, inl, inr, ℕ, zero, suc, List, [], ◌∷◌, Some}
-use Rattle.std.proofs.Common.{slice_get, length, take, drop, refl, sym, ap, arith, length-append}
-use Rattle.std.proofs.lemmas.List.{take-append-le, drop-append-le, length-drop}
+use Rattle.std.proofs.Common.{slice_get, length, map, take, drop, refl, sym, ap, arith, length-append}
+use Rattle.std.proofs.lemmas.List.{take-append-le, drop-append-le, length-drop, length-map, map-append}
 use Rattle.std.proofs.Math.Seq.{drop-append_seam}
 use Rattle.fb_value.specs.Num.{Bytes, part_of}
 use Rattle.fb_tape.specs.KnownVtables.{EachHasOneNumber}
+use Rattle.fb_index.specs.declared.hash_key.HashKey.{HashKey}
+use Rattle.fb_index.specs.HashKeys.{digest_by}
+use Rattle.fb_index.specs.DigestIndexes.{IsAt, KeepsPlaces}
+use Rattle.fb_index.proofs.LastEntry.{entry_of}
+use Rattle.fb_tape.specs.VtablesHeld.{vtables_in, AreIndexed}
 use Rattle.fb_tape.specs.declared.known_vtables.VtableRange.{VtableRange}
-
-pub kept : {A : Type 0} (xs ys : List A) (i : ℕ) (x : A) → slice_get xs i ≡ Some x → slice_get (xs ++ ys) i ≡ Some x
-kept [] ys i x h = cc
-kept (z ∷ xs) ys zero x h = h
-kept (z ∷ xs) ys (suc i) x h = kept xs ys i x h
-
-pub at_end : {A : Type 0} (xs : List A) (y : A) → slice_get (xs ++ (y ∷ [])) (length xs) ≡ Some y
-at_end [] y = refl
-at_end (z ∷ xs) y = at_end xs y
-
-pub last_or : {A : Type 0} (xs : List A) (y : A) (i : ℕ) (x : A) → slice_get (xs ++ (y ∷ [])) i ≡ Some x
-    → (slice_get xs i ≡ Some x) ⊎ ((i ≡ length xs) × (y ≡ x))
-last_or [] y zero x h = inr (refl, some_one h)
-  where
-    some_one : {A : Type 0} {y x : A} → Some y ≡ Some x → y ≡ x
-    some_one e = cc
-last_or [] y (suc i) x h = cc
-last_or (z ∷ xs) y zero x h = inl h
-last_or (z ∷ xs) y (suc i) x h = behind (last_or xs y i x h)
-  where
-    behind : (slice_get xs i ≡ Some x) ⊎ ((i ≡ length xs) × (y ≡ x))
-        → (slice_get xs i ≡ Some x) ⊎ ((suc i ≡ suc (length xs)) × (y ≡ x))
-    behind (inl is) = inl is
-    behind (inr is) = inr (ap suc is.0, is.1)
 
 -- what is at a range stays there
 pub part_kept : (bytes more : Bytes) (first size : ℕ) → first + size ≤ length bytes
@@ -47,7 +28,7 @@ part_last bytes more = ap (take (length more)) (drop-append_seam bytes more) ∙
 
 pub one_more : (known : List Bytes) (vtable : Bytes) → EachHasOneNumber known
     → ((i : ℕ) → slice_get known i ≡ Some vtable → ⊥) → EachHasOneNumber (known ++ (vtable ∷ []))
-one_more known vtable one absent i j v is js = both (last_or known vtable i v is) (last_or known vtable j v js)
+one_more known vtable one absent i j v is js = both (entry_of known vtable v i is) (entry_of known vtable v j js)
   where
     no : (k : ℕ) → slice_get known k ≡ Some v → vtable ≡ v → ⊥
     no k there same = absent k (there ∙ ap (λ z. Some z) (sym same))
@@ -59,48 +40,62 @@ one_more known vtable one absent i j v is js = both (last_or known vtable i v is
     both (inr a) (inl b) = absurd (no j b a.1)
     both (inr a) (inr b) = a.0 ∙ sym b.0
 
--- what is held, by its lists
-pub record HeldLists (ranges : List VtableRange) (known : List Bytes) (bytes : Bytes) : Type 0 where
-  pub each : length ranges ≡ length known
-  pub within : (i : ℕ) (range : VtableRange) → slice_get ranges i ≡ Some range
-      → range.first + range.size ≤ length bytes
-  pub stand : (i : ℕ) (range : VtableRange) → slice_get ranges i ≡ Some range
-      → slice_get known i ≡ Some (part_of bytes range.first range.size)
-  pub one : EachHasOneNumber known
+abbrev pub range_after : Bytes → Bytes → VtableRange
+range_after bytes vtable = record { first = length bytes; size = length vtable }
 
-abbrev pub range_behind : Bytes → Bytes → VtableRange
-range_behind bytes vtable = record { first = length bytes; size = length vtable }
+vtables_kept : (ranges : List VtableRange) (bytes more : Bytes)
+    → ((i : ℕ) (range : VtableRange) → slice_get ranges i ≡ Some range → range.first + range.size ≤ length bytes)
+    → vtables_in (bytes ++ more) ranges ≡ vtables_in bytes ranges
+vtables_kept [] bytes more within = refl
+vtables_kept (r ∷ ranges) bytes more within =
+    ap (λ (v : Bytes). v ∷ vtables_in (bytes ++ more) ranges) (part_kept bytes more r.first r.size (within 0 r refl))
+    ∙ ap (λ (vs : List Bytes). part_of bytes r.first r.size ∷ vs)
+    (vtables_kept ranges bytes more (λ i range is. within (suc i) range is))
 
-pub held_more : (ranges : List VtableRange) (known : List Bytes) (bytes vtable : Bytes)
-    → HeldLists ranges known bytes → ((i : ℕ) → slice_get known i ≡ Some vtable → ⊥)
-    → HeldLists (ranges ++ (range_behind bytes vtable ∷ [])) (known ++ (vtable ∷ [])) (bytes ++ vtable)
-held_more ranges known bytes vtable h absent = record {
-  each = omega (
-    arith,
-    length-append ranges (range_behind bytes vtable ∷ []),
-    length-append known (vtable ∷ []),
-    h.each,
-  );
-  within = λ i range is. within i range (last_or ranges (range_behind bytes vtable) i range is);
-  stand = λ i range is. stand i range (last_or ranges (range_behind bytes vtable) i range is);
-  one = one_more known vtable h.one absent;
+-- one vtable more
+pub vtables_more : (ranges : List VtableRange) (bytes vtable : Bytes)
+    → ((i : ℕ) (range : VtableRange) → slice_get ranges i ≡ Some range → range.first + range.size ≤ length bytes)
+    → vtables_in (bytes ++ vtable) (ranges ++ (range_after bytes vtable ∷ [])) ≡ vtables_in bytes ranges ++ (vtable ∷ [])
+vtables_more ranges bytes vtable within =
+    map-append (λ (r : VtableRange). part_of (bytes ++ vtable) r.first r.size) ranges (range_after bytes vtable ∷ [])
+    ∙ (ap (λ (vs : List Bytes). vs ++ (part_of (bytes ++ vtable) (length bytes) (length vtable) ∷ []))
+    (vtables_kept ranges bytes vtable within)
+    ∙ ap (λ (v : Bytes). vtables_in bytes ranges ++ (v ∷ [])) (part_last bytes vtable))
+
+pub indexed_more : (hash : HashKey) (keys new : List ℕ) (bytes vtable : Bytes) (ranges : List VtableRange)
+    → AreIndexed hash keys bytes ranges → ((i : ℕ) → slice_get (vtables_in bytes ranges) i ≡ Some vtable → ⊥)
+    → length new ≡ length keys + 1 → KeepsPlaces keys new → IsAt new (digest_by hash vtable) (length keys)
+    → AreIndexed hash new (bytes ++ vtable) (ranges ++ (range_after bytes vtable ∷ []))
+indexed_more hash keys new bytes vtable ranges held absent count kept last = record {
+  each = omega (arith, count, held.each, length-append ranges (range_after bytes vtable ∷ []));
+  within = λ i range is. within i range (entry_of ranges (range_after bytes vtable) range i is);
+  at = λ i v is. at i v (entry_of known vtable v i (rw known_more at is));
+  one = rw known_more (one_more known vtable held.one absent);
 }
   where
+    known : List Bytes
+    known = vtables_in bytes ranges
+
+    known_more : vtables_in (bytes ++ vtable) (ranges ++ (range_after bytes vtable ∷ [])) ≡ known ++ (vtable ∷ [])
+    known_more = vtables_more ranges bytes vtable held.within
+
     longer : length (bytes ++ vtable) ≡ length bytes + length vtable
     longer = length-append bytes vtable
 
     within : (i : ℕ) (range : VtableRange)
-        → (slice_get ranges i ≡ Some range) ⊎ ((i ≡ length ranges) × (range_behind bytes vtable ≡ range))
+        → (slice_get ranges i ≡ Some range) ⊎ ((i ≡ length ranges) × (range_after bytes vtable ≡ range))
         → range.first + range.size ≤ length (bytes ++ vtable)
-    within i range (inl is) = omega (arith, longer, h.within i range is)
+    within i range (inl is) = omega (arith, longer, held.within i range is)
     within i range (inr is) = rw (← is.1) (omega (arith, longer))
 
-    stand : (i : ℕ) (range : VtableRange)
-        → (slice_get ranges i ≡ Some range) ⊎ ((i ≡ length ranges) × (range_behind bytes vtable ≡ range))
-        → slice_get (known ++ (vtable ∷ [])) i ≡ Some (part_of (bytes ++ vtable) range.first range.size)
-    stand i range (inl is) =
-        kept known (vtable ∷ []) i _ (h.stand i range is)
-        ∙ ap (λ (z : Bytes). Some z) (sym (part_kept bytes vtable range.first range.size (h.within i range is)))
-    stand i range (inr is) =
-        let own = ap (λ (z : Bytes). Some z) (sym (part_last bytes vtable)) in
-        rw (← is.1) (rw (is.0 ∙ h.each) (at_end known vtable ∙ own))
+    at : (i : ℕ) (v : Bytes) → (slice_get known i ≡ Some v) ⊎ ((i ≡ length known) × (vtable ≡ v))
+        → IsAt new (digest_by hash v) i
+    at i v (inl is) = kept (digest_by hash v) i (held.at i v is)
+    at i v (inr is) =
+        let place : i ≡ length keys = omega (
+          arith,
+          is.0,
+          held.each,
+          length-map ranges (λ (r : VtableRange). part_of bytes r.first r.size),
+        ) in
+        rw (place, ← is.1) last

@@ -9,25 +9,13 @@ use Rattle.fb_schema.specs.declared.types.FieldInfo.{FieldInfo}
 use Rattle.fb_schema.specs.declared.types.Body.{Body}
 use Rattle.fb_schema.specs.declared.types.Body.TheVariants as the_body
 use Rattle.fb_schema.specs.declared.types.TypeInfo.{TypeInfo}
-use Rattle.fb_schema.specs.Schema.{Name, DeclaredField, DeclaredBody, table_body, struct_body, enum_body, union_body}
+use Rattle.fb_schema.specs.Schema.{Name, DeclaredBody, table_body, struct_body, enum_body, union_body}
 use Rattle.fb_schema.specs.Schema.{DeclaredSchema, body_in, body_at, slots_in, parts_in, members_in}
 use Rattle.fb_schema.specs.Schema.{values_in}
 use Rattle.fb_schema.specs.Found.{name_numbered}
 use Rattle.fb_schema.specs.Seen.{field_seen, body_seen, type_seen}
-
-abbrev pub FieldsUtf8 : List DeclaredField → Type 0
-FieldsUtf8 [] = Unit {0}
-FieldsUtf8 (f ∷ fs) = IsUtf8 f.name × FieldsUtf8 fs
-
-abbrev pub NamesUtf8 : {A : Type 0} → List (Name × A) → Type 0
-NamesUtf8 [] = Unit {0}
-NamesUtf8 (x ∷ xs) = IsUtf8 x.0 × NamesUtf8 xs
-
-abbrev pub BodyUtf8 : DeclaredBody → Type 0
-BodyUtf8 (table_body fs) = FieldsUtf8 fs
-BodyUtf8 (struct_body fs align) = FieldsUtf8 fs
-BodyUtf8 (enum_body base flags values) = NamesUtf8 values
-BodyUtf8 (union_body members) = NamesUtf8 members
+use Rattle.fb_text.specs.Laws.{NamesAreUtf8}
+use Rattle.fb_text.specs.Names.{FieldsUtf8, NamesUtf8, BodyUtf8}
 
 fields_seen : (fs : List FieldInfo) → FieldsUtf8 (map field_seen fs)
 fields_seen [] = tt
@@ -53,8 +41,7 @@ types_utf8 (x ∷ ts) zero = seen_utf8 x.body
 types_utf8 (x ∷ ts) (suc t) = types_utf8 ts t
 
 -- each type of a schema that is made of data types
-pub schema_utf8 : (S : DeclaredSchema) (ts : List TypeInfo) → map type_seen ts ≡ S.types → (t : ℕ)
-    → BodyUtf8 (body_at S t)
+pub schema_utf8 : (S : DeclaredSchema) (ts : List TypeInfo) → map type_seen ts ≡ S.types → NamesAreUtf8 S
 schema_utf8 S ts e t = rw (← e) (types_utf8 ts t)
 
 -- ---- what is found by number

@@ -24,7 +24,8 @@ use Rattle.fb_text.specs.Texts.{member_name, code_text, has_code, entry_text, va
 use Rattle.fb_text.specs.Texts.{members_text, spaced_text}
 use Rattle.fb_text.specs.declared.indents.Spacing.{Spacing}
 use Rattle.fb_text.specs.declared.indents.Spacing.TheVariants.{Indented, Compact}
-use Rattle.fb_text.proofs.texts.NamesAreUtf8.{FieldsUtf8, BodyUtf8, NameUtf8, or_nothing, slots_utf8, parts_utf8}
+use Rattle.fb_text.specs.Names.{FieldsUtf8, BodyUtf8}
+use Rattle.fb_text.proofs.texts.NamesAreUtf8.{NameUtf8, or_nothing, slots_utf8, parts_utf8}
 use Rattle.fb_text.proofs.texts.NamesAreUtf8.{member_utf8}
 use Rattle.fb_text.proofs.texts.NamesAreUtf8.{numbered_utf8}
 use Rattle.fb_json.proofs.texts.ValueTextsAreUtf8.{HasUtf8, HaveUtf8, EntriesHaveUtf8}

@@ -1,10 +1,9 @@
 //! Buffers that are made of JSON texts and printed.
 use crate::hex::write_hex;
-use crate::refusals::{write_read_fault, write_text_fault};
 use crate::values::Case;
 use crate::values::meanings::{buffer_of, meaning, write_unmeant};
 use crate::values::readings::{value_in, write_unread};
-use crate::values::texts::{are_alike, is_printed_alike, printed_of};
+use crate::values::texts::{is_printed_alike, printed_of};
 use fb_value::Value;
 use flatc_tool::ToolFault;
 use std::alloc::AllocError;
@@ -12,8 +11,8 @@ use std::alloc::AllocError;
 /// Writes a fault of the tool, as the layer that refuses names it.
 fn write_fault(fault: ToolFault, line: &mut String) -> Result<(), AllocError> {
     match fault {
-        ToolFault::Read(fault) => write_read_fault(fault, line),
-        ToolFault::Text(fault) => write_text_fault(fault, line),
+        ToolFault::Read(fault) => write!(line, "{fault:?}"),
+        ToolFault::Text(fault) => write!(line, "{fault:?}"),
         other => write!(line, "fault {}", other.number()),
     }
 }
@@ -35,7 +34,7 @@ pub(crate) fn try_printed(
 /// Writes a text that was printed of a value, where it means that value again.
 fn try_again(case: &Case, value: &Value, text: &str, line: &mut String) -> Result<(), AllocError> {
     match meaning(case, text, false) {
-        Ok(again) if are_alike(case, &again, value) => line.push_str(text),
+        Ok(again) if again == *value => line.push_str(text),
         _ => write!(line, "another value when it is read again: {text}"),
     }
 }
@@ -66,7 +65,7 @@ fn try_value(
     line: &mut String,
 ) -> Result<(), AllocError> {
     match value_in(case, bytes, false) {
-        Ok(found) if are_alike(case, &found, value) => try_text(case, bytes, value, defaults, line),
+        Ok(found) if found == *value => try_text(case, bytes, value, defaults, line),
         Ok(found) => write!(line, "{found:?} when it is read"),
         Err(unread) => write_unread(unread, line),
     }

@@ -4,9 +4,7 @@ ghost use Rattle.fb_value.specs.View.{view};
 ghost use Rattle.fb_value.specs.Counts.{nesting};
 ghost use Rattle.fb_value.specs.Fits.{FitsRoot};
 
-use crate::refusals::write_json_fault;
 use crate::values::Case;
-use crate::values::readings::is_same;
 use crate::values::texts::try_alike;
 use fb_json::{JsonFault, value_of};
 use fb_value::Value;
@@ -41,7 +39,7 @@ pub(crate) fn meaning(case: &Case, json: &str, unknown: bool) -> Result<Value, U
 pub(crate) fn write_unmeant(unmeant: Unmeant, line: &mut String) -> Result<(), AllocError> {
     match unmeant {
         Unmeant::NoJson => line.push_str("no JSON"),
-        Unmeant::Fault(fault) => write_json_fault(fault, line),
+        Unmeant::Fault(fault) => write!(line, "{fault:?}"),
     }
 }
 
@@ -57,9 +55,10 @@ pub(crate) fn buffer_of(case: &Case, json: &str, unknown: bool) -> Result<Vec<u8
 
 /// Whether the tool refuses a JSON text as its meaning is refused.
 fn is_same_refusal(fault: ToolFault, unmeant: Unmeant) -> bool {
-    match unmeant {
-        Unmeant::NoJson => matches!(fault, ToolFault::BadJson),
-        Unmeant::Fault(meant) => is_same(fault, ToolFault::Json(meant)),
+    match (fault, unmeant) {
+        (ToolFault::BadJson, Unmeant::NoJson) => true,
+        (ToolFault::Json(told), Unmeant::Fault(fault)) => told == fault,
+        _ => false,
     }
 }
 

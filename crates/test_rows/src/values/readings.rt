@@ -1,12 +1,10 @@
 //! What both readers make of bytes.
-use crate::refusals::write_read_fault;
 use crate::values::Case;
 use crate::values::agree::table_agrees;
 use crate::values::texts::try_alike;
 use fb_owned::read_framed;
 use fb_read::{Entries, verify_framed};
 use fb_value::{ReadFault, Value};
-use flatc_tool::ToolFault;
 use std::alloc::AllocError;
 
 /// Why there is no value: both readers refuse the bytes with one fault, or they differ.
@@ -16,29 +14,18 @@ pub(crate) enum Unread {
     Apart,
 }
 
-/// Whether two faults are the same, at the same place.
-pub(crate) fn is_same(one: ToolFault, other: ToolFault) -> bool {
-    one.number() == other.number()
-        && one.offset() == other.offset()
-        && one.owner() == other.owner()
-        && one.slot() == other.slot()
-        && one.written() == other.written()
-}
-
-/// Whether `verify` refuses the bytes with this fault.
-fn is_refused(case: &Case, bytes: &[u8], raw: bool, fault: ReadFault) -> bool {
+/// The fault of `verify`, where it refuses the bytes.
+fn fault_of(case: &Case, bytes: &[u8], raw: bool) -> Option<ReadFault> {
     let mut entries = Entries::new();
-    match verify_framed(
+    verify_framed(
         case.layout,
         bytes,
         case.limits,
         raw,
         case.prefixed,
         &mut entries,
-    ) {
-        Ok(_) => false,
-        Err(told) => is_same(ToolFault::Read(told), ToolFault::Read(fault)),
-    }
+    )
+    .err()
 }
 
 /// Whether `verify` accepts the bytes, and its view shows the value.
@@ -70,7 +57,7 @@ pub(crate) fn value_in(case: &Case, bytes: &[u8], raw: bool) -> Result<Value, Un
         &mut entries,
     ) {
         Ok(value) if is_shown(case, bytes, raw, &value) => Ok(value),
-        Err(fault) if is_refused(case, bytes, raw, fault) => Err(Unread::Fault(fault)),
+        Err(fault) if fault_of(case, bytes, raw) == Some(fault) => Err(Unread::Fault(fault)),
         _ => Err(Unread::Apart),
     }
 }
@@ -78,7 +65,7 @@ pub(crate) fn value_in(case: &Case, bytes: &[u8], raw: bool) -> Result<Value, Un
 /// Writes why there is no value.
 pub(crate) fn write_unread(unread: Unread, line: &mut String) -> Result<(), AllocError> {
     match unread {
-        Unread::Fault(fault) => write_read_fault(fault, line),
+        Unread::Fault(fault) => write!(line, "{fault:?}"),
         Unread::Apart => line.push_str("two readers that differ"),
     }
 }

@@ -1,6 +1,5 @@
 //! Texts of values beside those of their bytes.
 use crate::values::Case;
-use crate::values::readings::is_same;
 use fb_owned::spaced_text_of;
 use fb_text::{Spacing, TextFault};
 use fb_value::Value;
@@ -34,8 +33,8 @@ fn is_printed(case: &Case, bytes: &[u8], raw: bool, defaults: bool, text: &str) 
 /// Whether bytes are refused with a fault of their text that isn't memory's.
 fn is_unprinted(case: &Case, bytes: &[u8], raw: bool, defaults: bool, fault: TextFault) -> bool {
     match printed_of(case, bytes, raw, defaults) {
-        Ok(_) => false,
-        Err(told) => fault.place().is_some() && is_same(told, ToolFault::Text(fault)),
+        Err(ToolFault::Text(told)) => fault.place().is_some() && told.place() == fault.place(),
+        _ => false,
     }
 }
 
@@ -56,16 +55,6 @@ pub(crate) fn is_printed_alike(
     match spaced_text_of(case.alloc, case.layout, value, defaults, spacing) {
         Ok(text) => is_printed(case, bytes, raw, defaults, text.as_str()),
         Err(fault) => is_unprinted(case, bytes, raw, defaults, fault),
-    }
-}
-
-/// Whether two values are shown alike, and so are the same; false where memory runs out.
-pub(crate) fn are_alike(case: &Case, one: &Value, other: &Value) -> bool {
-    let shown = format!(in case.alloc; "{one:?}");
-    let other_shown = format!(in case.alloc; "{other:?}");
-    match (shown, other_shown) {
-        (Ok(shown), Ok(other)) => shown.as_str() == other.as_str(),
-        _ => false,
     }
 }
 

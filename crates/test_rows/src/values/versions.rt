@@ -5,11 +5,10 @@ ghost use Rattle.fb_value.specs.Counts.{nesting};
 ghost use Rattle.fb_value.specs.Fits.{FitsRoot};
 ghost use Rattle.fb_conform.specs.Conforms.{Conforms};
 
-use crate::refusals::write_breach;
 use crate::values::Case;
 use crate::values::meanings::{buffer_of, meaning, write_unmeant};
 use crate::values::readings::{value_in, write_unread};
-use crate::values::texts::{are_alike, try_alike};
+use crate::values::texts::try_alike;
 use fb_conform::{conform, moved_names};
 use fb_layout::Layout;
 use fb_owned::carry;
@@ -24,9 +23,7 @@ fn try_found(
     line: &mut String,
 ) -> Result<(), AllocError> {
     match value_in(later, bytes, false) {
-        Ok(found) if are_alike(later, &found, carried) => try_alike(
-            later, bytes, false, carried, line,
-        ),
+        Ok(found) if found == *carried => try_alike(later, bytes, false, carried, line),
         Ok(found) => write!(line, "{carried:?} is carried, and {found:?} is read"),
         Err(unread) => write_unread(unread, line),
     }
@@ -86,7 +83,7 @@ pub(crate) fn try_later(
 ) -> Result<(), AllocError> {
     match conform(case.layout, later.layout) {
         Ok(()) => try_conforming(case, later, json, line),
-        Err(breach) => write_breach(breach, line),
+        Err(breach) => write!(line, "{breach:?}"),
     }
 }
 
@@ -97,7 +94,7 @@ pub(crate) fn write_moved_names(
     line: &mut String,
 ) -> Result<(), AllocError> {
     if let Err(breach) = conform(case.layout, later) {
-        return write_breach(breach, line);
+        return write!(line, "{breach:?}");
     }
     let names = moved_names(case.alloc, case.layout, later)?;
     write!(line, "{names:?}")

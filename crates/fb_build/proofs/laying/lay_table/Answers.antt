@@ -28,8 +28,8 @@ lay_fields-start-requires c =
     let ends = c.args.laying.now.waiting.items in
     record {
       ready = rw (
-        slice_is ends c.deref.result.now c.len.result c.args.taken
-            (notes_references c.args.notes.now) c.deref.ensures.value (omega (arith, c.len.ensures))
+        slice_is ends c.deref.result.now c.len.result c.args.fields.references
+            (notes_references c.args.fields.notes.now) c.deref.ensures.value (omega (arith, c.len.ensures))
             c.requires.taken,
         c.bytes.ensures,
       ) (record {
@@ -38,7 +38,7 @@ lay_fields-start-requires c =
         stored = stored_in (slots_of w.layout w.may.lays.table) w.may.lays.entries;
         targets = spread (slots_of w.layout w.may.lays.table)
             (stored_in (slots_of w.layout w.may.lays.table) w.may.lays.entries)
-            (drop (length ends - notes_references c.args.notes.now) ends);
+            (drop (length ends - notes_references c.args.fields.notes.now) ends);
         are = to_be_laid _ _ _ _ _ _ _ _ _ _ _ _ _ _ w.may;
       });
     }
@@ -48,16 +48,17 @@ given : (c : goal.After-close_table-arg-2-1) → let w = c.requires.ready in
     AreToBeLaid w.layout (slots_of w.layout w.may.lays.table)
     (stored_in (slots_of w.layout w.may.lays.table) w.may.lays.entries)
     (spread (slots_of w.layout w.may.lays.table) (stored_in (slots_of w.layout w.may.lays.table) w.may.lays.entries)
-    (drop (length c.args.laying.now.waiting.items - notes_references c.args.notes.now) c.args.laying.now.waiting.items))
-    c.bytes.result c.args.notes.now c.args.bytes.now
-    (take (length c.deref.result.now - (c.len.result - c.args.taken))
-    (drop (c.len.result - c.args.taken) c.deref.result.now)) c.args.laying.now.tail
+    (drop (length c.args.laying.now.waiting.items - notes_references c.args.fields.notes.now)
+    c.args.laying.now.waiting.items))
+    c.bytes.result c.args.fields.notes.now c.args.fields.bytes.now
+    (take (length c.deref.result.now - (c.len.result - c.args.fields.references))
+    (drop (c.len.result - c.args.fields.references) c.deref.result.now)) c.args.laying.now.tail
 given c =
     let w = c.requires.ready in
     let ends = c.args.laying.now.waiting.items in
     rw (
-      slice_is ends c.deref.result.now c.len.result c.args.taken
-          (notes_references c.args.notes.now) c.deref.ensures.value (omega (arith, c.len.ensures))
+      slice_is ends c.deref.result.now c.len.result c.args.fields.references
+          (notes_references c.args.fields.notes.now) c.deref.ensures.value (omega (arith, c.len.ensures))
           c.requires.taken,
       c.bytes.ensures,
     ) (to_be_laid _ _ _ _ _ _ _ _ _ _ _ _ _ _ w.may)
@@ -97,7 +98,7 @@ pub returns-clause-laid : goal.returns-clause-laid
 returns-clause-laid c =
     let ends = c.args.laying.now.waiting.items in
     let places = c.args.laying.now.places.items in
-    let notes = c.args.notes.now in
+    let notes = c.args.fields.notes.now in
     let a = c.args.laying.now.tail in
     let o = c.lay_fields-start.new.out in
     let b = c.close_table-end.new.out in
@@ -105,15 +106,15 @@ returns-clause-laid c =
     let front = rw c.bytes.ensures at fields.front in
     let most = rw c.bytes.ensures at fields.most in
     let closing = c.close_table-end.ensures in
-    let slice = slice_is ends c.deref.result.now c.len.result c.args.taken (notes_references notes)
+    let slice = slice_is ends c.deref.result.now c.len.result c.args.fields.references (notes_references notes)
     c.deref.ensures.value (omega (arith, c.len.ensures)) c.requires.taken in
     record {
       waits = λ L vtables room ps qs m. (let to_be : AreToBeLaid L (slots_of L m.lays.table)
           (stored_in (slots_of L m.lays.table) m.lays.entries)
           (spread (slots_of L m.lays.table) (stored_in (slots_of L m.lays.table) m.lays.entries)
-          (drop (length ends - notes_references notes) ends)) c.bytes.result notes c.args.bytes.now
-          (take (length c.deref.result.now - (c.len.result - c.args.taken))
-          (drop (c.len.result - c.args.taken) c.deref.result.now)) a =
+          (drop (length ends - notes_references notes) ends)) c.bytes.result notes c.args.fields.bytes.now
+          (take (length c.deref.result.now - (c.len.result - c.args.fields.references))
+          (drop (c.len.result - c.args.fields.references) c.deref.result.now)) a =
           rw (slice, c.bytes.ensures) (to_be_laid _ _ _ _ _ _ _ _ _ _ _ _ _ _ m) in
           let laid = fields.laid _ _ _ _ to_be in
           let open_now = table_open _ _ _ _ _ _ _ _ _ _ _ _ _ _ m _ _ laid front fields.grows in
@@ -124,8 +125,8 @@ returns-clause-laid c =
       most_waiting = omega (
         arith,
         ap length c.wait.ensures.items,
-        length-append (take (length ends - c.args.taken) ends) (c.close_table-end.result ∷ []),
-        length-take-le (length ends - c.args.taken) ends (omega arith),
+        length-append (take (length ends - c.args.fields.references) ends) (c.close_table-end.result ∷ []),
+        length-take-le (length ends - c.args.fields.references) ends (omega arith),
       );
       reserved_waiting = c.wait.ensures.reserved;
       reserved_places = closing.capacity;

@@ -40,7 +40,7 @@ returns-clause-identified c id e =
     let front = c.lay_reference.ensures.grows in
     let four : length front.front ≡ 4 = omega (arith, front.spent, c.lay_reference.ensures.free) in
     identified_behind front.front c.lay_identifier.new.out.bytes id c.lay_reference.new.out.bytes front.grown four
-    (c.schema-schema.ensures.made.declared.identifier id e) (c.lay_identifier.ensures.identified id e)
+    (c.layout_is_well_made.ensures.declared.identifier id e) (c.lay_identifier.ensures.identified id e)
 
 pub returns-clause-covered : goal.returns-clause-covered
 returns-clause-covered c keys places d shared different root =
@@ -56,7 +56,7 @@ returns-clause-covered c keys places d shared different root =
       shared = shared;
       different = different;
       header = c.lay_identifier.ensures.header;
-      identified = c.schema-schema.ensures.made.declared.identifier;
+      identified = c.layout_is_well_made.ensures.declared.identifier;
       four = c.lay_reference.ensures.grows.front;
       four_long = omega (arith, c.lay_reference.ensures.grows.spent, c.lay_reference.ensures.free);
       bytes = c.lay_reference.ensures.grows.grown;
@@ -71,7 +71,7 @@ returns-clause-short c =
     let L = c.args.layout.now in
     let table = c.args.tail in
     let header = c.lay_identifier.ensures.header in
-    let id = identifier_short L.schema.identifier c.schema-schema.ensures.made.declared.identifier in
+    let id = identifier_short L.schema.identifier c.layout_is_well_made.ensures.declared.identifier in
     let all = ap length header.bytes
     ∙ length-append (identifier_bytes L.schema.identifier) (replicate header.zeros 0 ++ table.bytes) in
     let rest = length-append (replicate header.zeros 0) table.bytes in

@@ -14,7 +14,7 @@ laid c = record {
   laid = c.lay.ensures.bytes;
   free = c.lay.ensures.free;
   most = c.lay.ensures.most;
-  short = omega (arith, c.requires.room, c.count-laid.ensures);
+  short = omega (arith, c.requires.room, c.laid_is_short.ensures);
 }
 
 pub returns-clause-lies : goal.returns-clause-lies

@@ -11,7 +11,7 @@ returns-clause-bound c =
     let lay = rw c.requires.layout at c.requires.means.lay in
     let low : tape_most tape ≤ greatest c.args.layout.now =
     ops_low c.args.layout.now tape.vtables 0 tape.room 4 [] tape.ops tape.notes tape.bytes _
-    c.schema-schema.ensures.made
+    c.layout_is_well_made.ensures
     lay (omega arith) in
     let header : c.match-identifier.header ≤ 8 + c.args.front = elim c.match-identifier.branch [
       | in-Some w ↦ omega (arith, w.header-is)

@@ -28,7 +28,7 @@ lay_op-passed_by-requires-clause-ready c =
     let h = rw (op_behind c.ops-ops.result.now c.loop-i.i c.loop-i-test.true) at (c.loop-i.invariant.laid w.parts w.lay)
     in
     rw (c.fields_from-fields_left.ensures.exact, c.bytes_from-bytes_left.ensures.exact)
-    (may_lay_op _ _ _ _ _ _ _ _ h (rw c.requires.layout c.schema-schema.ensures.made) c.requires.different)
+    (may_lay_op _ _ _ _ _ _ _ _ h (rw c.requires.layout c.layout_is_well_made.ensures) c.requires.different)
 
 pub overflow_add-at_field : goal.overflow_add-at_field
 overflow_add-at_field c =
@@ -76,7 +76,7 @@ loop-i-preserved c =
     c.lay_op-passed_by.new.laying =
     rw (← fields_left, ← bytes_left) now.laid in
     let long = rw fields_left at now.long in
-    let made : IsWellMade c.args.tape.now.layout = rw c.requires.layout c.schema-schema.ensures.made in
+    let made : IsWellMade c.args.tape.now.layout = rw c.requires.layout c.layout_is_well_made.ensures in
     let field_count = fields_within _ _ _ _ _ _ _ _ h in
     let byte_count = bytes_within _ _ _ _ _ _ _ _ h in
     record {

@@ -60,7 +60,7 @@ closed c L kind ds is =
       counted = c.lay_u32.ensures.grows;
       number = rw (← is.each) c.lay_u32.ensures.bytes;
       most = c.lay_u32.ensures.most;
-      short = rw (← is.each) (omega (arith, c.requires.room, c.count-laid.ensures));
+      short = rw (← is.each) (omega (arith, c.requires.room, c.laid_is_short.ensures));
     }
 
 pub returns-clause-lies : goal.returns-clause-lies

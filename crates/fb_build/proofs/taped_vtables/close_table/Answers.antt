@@ -21,7 +21,7 @@ closing c = record {
   most = c.lay_vtable.ensures.most;
   grows = c.lay_vtable.ensures.grows;
   short = (let padded = grown_long _ _ c.fit.ensures.grows in let laid = grown_long _ _ c.lay_vtable.ensures.grows in
-      omega (arith, padded, laid, c.count-laid.ensures));
+      omega (arith, padded, laid, c.laid_is_short.ensures));
   laid = c.lay_vtable.ensures.laid;
 }
 

@@ -1,4 +1,5 @@
 use Rattle.std.proofs.Common.{◌≡◌, ◌∙◌, List, Option, None, Some, Result, Ok, Err, MatchResult, true}
+use Rattle.std.proofs.lemmas.Result.{err_from_is_err_and}
 use Rattle.fb_value.specs.declared.faults.ReadFault.{ReadFault}
 use Rattle.fb_value.specs.Num.{Bytes}
 use Rattle.fb_value.specs.Rules.{Rule, first_failing}
@@ -18,12 +19,13 @@ passed_on : (b : Bytes) (o : Option Bytes) (r : Result (Unit {0}) ReadFault)
 passed_on b o (Ok x) passes h = in_turn b o None (passes (header_rules 4 b o) ∙ h)
 passed_on b o (Err f) passes h = in_turn b o (Some f) (passes (header_rules 4 b o) ∙ h)
 
-pub returns-in-Ok-clause-rules : goal.returns-in-Ok-clause-rules
-returns-in-Ok-clause-rules c =
-    rw c.if-not-prefixed.false (passed_on c.args.bytes.now c.args.identifier c.check_header-in-Ok.result
-    c.in-Ok.ensures.rules c.check_header-in-Ok.ensures.rules)
+pub returns-clause-rules : goal.returns-clause-rules
+returns-clause-rules c =
+    rw c.if-not-prefixed.false (passed_on c.args.bytes.now c.args.identifier c.check_header-2.result
+    c.in_ok-check_count.ensures.rules c.check_header-2.ensures.rules)
 
-pub returns-in-Err-clause-rules : goal.returns-in-Err-clause-rules
-returns-in-Err-clause-rules c =
-    rw c.if-not-prefixed.false (in_turn c.args.bytes.now c.args.identifier _
-    (c.in-Err.ensures.rules (header_rules 4 c.args.bytes.now c.args.identifier)))
+pub returns-in_err-check_count-clause-rules : goal.returns-in_err-check_count-clause-rules
+returns-in_err-check_count-clause-rules c =
+    let p = err_from_is_err_and c.from_residual.result c.from_residual.ensures.1 in
+    rw (p.1, p.2) (rw c.if-not-prefixed.false (in_turn c.args.bytes.now c.args.identifier _
+    (c.in_err-check_count.ensures.rules (header_rules 4 c.args.bytes.now c.args.identifier))))

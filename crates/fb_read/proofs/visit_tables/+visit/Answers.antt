@@ -41,8 +41,8 @@ visit_slots-returns-in_err-visited = a_slot_refused
 pub visit_slots-returns : goal.visit_slots-returns
 visit_slots-returns = slots_passed
 
-pub visit_slot-returns-then-field : goal.visit_slot-returns-then-field
-visit_slot-returns-then-field = deprecated_passed
+pub visit_slot-returns-then-slot : goal.visit_slot-returns-then-slot
+visit_slot-returns-then-slot = deprecated_passed
 
 pub visit_slot-returns-then-offset-eq0 : goal.visit_slot-returns-then-offset-eq0
 visit_slot-returns-then-offset-eq0 = absent_passed

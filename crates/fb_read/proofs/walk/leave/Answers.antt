@@ -7,13 +7,14 @@ use Rattle.fb_read.proofs.walk.leave.Goals as goal
 pub overflow_sub-taken : goal.overflow_sub-taken
 overflow_sub-taken g c =
     visit_rises c.args.buffer.now.layout.now c.args.buffer.now.bytes.now (limits_of c.args.buffer.now)
-    (part_at c.args.buffer.now c.args.part c.args.at) c.args.tables c.args.mark.spent c.args.walk.now.spent
+    (part_at c.args.buffer.now c.args.target.part c.args.target.at) c.args.tables c.args.mark.spent
+    c.args.walk.now.spent
     (rw c.in-Ok.is at c.requires).visit
 
 pub leave-requires-clause-visited : goal.leave-requires-clause-visited
 leave-requires-clause-visited g c =
     let buffer = c.args.buffer.now in
-    let x = part_at buffer c.args.part c.args.at in
+    let x = part_at buffer c.args.target.part c.args.target.at in
     let cells = c.args.walk.now.spent - c.args.mark.spent in
     let visited = rw c.in-Ok.is at c.requires in
     let rises = visit_rises buffer.layout.now buffer.bytes.now (limits_of buffer) x c.args.tables c.args.mark.spent

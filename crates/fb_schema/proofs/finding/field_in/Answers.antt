@@ -12,7 +12,7 @@ pub position-requires-clause-indexed : goal.position-requires-clause-indexed
 position-requires-clause-indexed c =
     let body = body_seen c.args.body.now in
     rw (keys_seen field_seen (λ f. f.name) (bytes_eq c.args.name.now) c.fields_of-fields.result.now
-    (fields_in body) c.fields_of-fields.ensures) (fields_indexed body c.args.names.now c.requires.indexed)
+    (fields_in body) c.fields_of-fields.ensures) (fields_indexed body c.args.names c.requires.indexed)
 
 pub position-requires-clause-distinct : goal.position-requires-clause-distinct
 position-requires-clause-distinct c =

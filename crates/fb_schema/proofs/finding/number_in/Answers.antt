@@ -27,7 +27,7 @@ pub position-requires-clause-indexed : goal.position-requires-clause-indexed
 position-requires-clause-indexed c =
     let body = body_seen c.args.body.now in
     rw (keys_seen seen (λ v. v.0) (bytes_eq c.args.name.now) c.values_of-values.result.now
-    (values_in body) c.values_of-values.ensures) (values_indexed body c.args.names.now c.requires.indexed)
+    (values_in body) c.values_of-values.ensures) (values_indexed body c.args.names c.requires.indexed)
 
 pub position-requires-clause-distinct : goal.position-requires-clause-distinct
 position-requires-clause-distinct c =

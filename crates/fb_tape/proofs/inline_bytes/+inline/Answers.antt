@@ -31,7 +31,7 @@ push_struct-overflow_sub-offset t c =
     let s = c.args.structure.0 in
     let fields = c.parts_of-fields.result.now in
     let items = c.args.parts.now in
-    let known = struct_known L s fields items c.schema-schema.ensures.made c.requires.there
+    let known = struct_known L s fields items c.layout_is_well_made.ensures c.requires.there
     c.parts_of-fields.ensures.parts c.requires.fits in
     let k = c.loop-k.k in
     let kind = stored_kind L.schema c.kind_in-kind.result in
@@ -48,7 +48,7 @@ push_struct-push_zeros-requires t c =
     let s = c.args.structure.0 in
     let fields = c.parts_of-fields.result.now in
     let items = c.args.parts.now in
-    let known = struct_known L s fields items c.schema-schema.ensures.made c.requires.there
+    let known = struct_known L s fields items c.layout_is_well_made.ensures c.requires.there
     c.parts_of-fields.ensures.parts c.requires.fits in
     let within = known.within c.loop-k.k c.loop-k-test.true in
     record { few = omega (arith, within, c.offset_of-offset.ensures) }
@@ -59,7 +59,7 @@ push_struct-bounds-parts-k t c =
     let s = c.args.structure.0 in
     let fields = c.parts_of-fields.result.now in
     let items = c.args.parts.now in
-    let known = struct_known L s fields items c.schema-schema.ensures.made c.requires.there
+    let known = struct_known L s fields items c.layout_is_well_made.ensures c.requires.there
     c.parts_of-fields.ensures.parts c.requires.fits in
     omega (arith, known.long, c.loop-k-test.true)
 
@@ -69,7 +69,7 @@ push_struct-push_inline-requires t c =
     let s = c.args.structure.0 in
     let fields = c.parts_of-fields.result.now in
     let items = c.args.parts.now in
-    let known = struct_known L s fields items c.schema-schema.ensures.made c.requires.there
+    let known = struct_known L s fields items c.layout_is_well_made.ensures c.requires.there
     c.parts_of-fields.ensures.parts c.requires.fits in
     let k = c.loop-k.k in
     let kind = stored_kind L.schema c.kind_in-kind.result in
@@ -89,7 +89,7 @@ push_struct-loop-k-preserved t c =
     let s = c.args.structure.0 in
     let fields = c.parts_of-fields.result.now in
     let items = c.args.parts.now in
-    let known = struct_known L s fields items c.schema-schema.ensures.made c.requires.there
+    let known = struct_known L s fields items c.layout_is_well_made.ensures c.requires.there
     c.parts_of-fields.ensures.parts c.requires.fits in
     let k = c.loop-k.k in
     let kind = stored_kind L.schema c.kind_in-kind.result in
@@ -113,7 +113,7 @@ push_struct-overflow_sub-size t c =
     let s = c.args.structure.0 in
     let fields = c.parts_of-fields.result.now in
     let items = c.args.parts.now in
-    let known = struct_known L s fields items c.schema-schema.ensures.made c.requires.there
+    let known = struct_known L s fields items c.layout_is_well_made.ensures c.requires.there
     c.parts_of-fields.ensures.parts c.requires.fits in
     let within = added_within L s c.loop-k.k items c.args.bytes.now.items c.loop-k.bytes.items
     c.loop-k.invariant.added in
@@ -127,7 +127,7 @@ push_struct-returns-clause-adds t c =
     let s = c.args.structure.0 in
     let fields = c.parts_of-fields.result.now in
     let items = c.args.parts.now in
-    let known = struct_known L s fields items c.schema-schema.ensures.made c.requires.there
+    let known = struct_known L s fields items c.layout_is_well_made.ensures c.requires.there
     c.parts_of-fields.ensures.parts c.requires.fits in
     let now = c.loop-k.bytes.items in
     let all : c.loop-k.k ≡ length fields = omega (arith, c.loop-k-test.false, c.loop-k.auto.k-end) in

@@ -23,7 +23,7 @@ loop-i-preserved c =
     let more = taken_more x (drop (c.loop-i.i + 1) c.args.opened.now) in
     record {
       size = omega (arith, rw next at c.loop-i.invariant.size, more, c.size_of-size.ensures);
-      align = rw c.greater-align.ensures (max_again c.loop-i.align x.align
+      align = rw c.max-align.ensures (max_again c.loop-i.align x.align
           (greatest_in (map (λ (y : OpenField). y.align) (drop (c.loop-i.i + 1) c.args.opened.now))) _
           (rw next at c.loop-i.invariant.align));
     }

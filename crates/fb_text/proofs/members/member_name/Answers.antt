@@ -24,9 +24,9 @@ named members at o body code there same next =
     ∙ (ap name_of (sym (slice_get-map seen members at) ∙ ap (λ (l : List (Name × ℕ)). slice_get l at) same)
     ∙ ap (member_name body) next)
 
-pub returns-in-Some-get : goal.returns-in-Some-get
+pub returns : goal.returns
 unfolding seen name_of
-returns-in-Some-get c =
+returns c =
     let members = c.members_of.result.now in
     let there = got members c.from.result (Some c.in-Some-get.member) c.in-Some-get.ensures.lookup.0
     c.in-Some-get.ensures.lookup.1 in
@@ -34,11 +34,12 @@ returns-in-Some-get c =
     c.as_str.ensures.value ∙ named members c.from.result (Some c.in-Some-get.member.now)
     (body_at c.args.schema.now c.args.union.0) c.args.code there c.members_of.ensures next
 
-pub returns-in-None : goal.returns-in-None
+pub returns-in_default-get : goal.returns-in_default-get
 unfolding seen name_of
-returns-in-None c =
+returns-in_default-get c =
     let members = c.members_of.result.now in
-    let there = got members c.from.result None c.in-None.ensures.lookup.0 c.in-None.ensures.lookup.1 in
+    let there = rw c.in_default-get.is at (got members c.from.result c.get.result c.get.ensures.lookup.0
+    c.get.ensures.lookup.1) in
     let next : suc c.from.result ≡ c.args.code = omega (arith, c.in-Some.ensures, c.from.ensures) in
     named members c.from.result None (body_at c.args.schema.now c.args.union.0) c.args.code there c.members_of.ensures
     next

@@ -44,7 +44,7 @@ loop-low-preserved-then-offset_of-byte c =
       small = c.loop-low.invariant.small;
       start = omega (arith, small, c.loop-low.invariant.small);
       found = λ k f at has. (
-        begins_before L c.schema-schema.ensures.made t middle k f c.args.byte within at has begins,
+        begins_before L c.layout_is_well_made.ensures t middle k f c.args.byte within at has begins,
         (c.loop-low.invariant.found k f at has).1,
       );
     }
@@ -64,6 +64,6 @@ loop-low-preserved c =
       start = c.loop-low.invariant.start;
       found = λ k f at has. (
         (c.loop-low.invariant.found k f at has).0,
-        begins_behind L c.schema-schema.ensures.made t middle k f c.args.byte within at has begins,
+        begins_behind L c.layout_is_well_made.ensures t middle k f c.args.byte within at has begins,
       );
     }

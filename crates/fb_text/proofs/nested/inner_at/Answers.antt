@@ -30,7 +30,7 @@ returns-then-k-fields-clause-inner g c ds k u es more shown has less begin =
     let t = c.args.here.structure in
     let at : slice_index (struct_at L t.0).offsets k + more ≡ c.args.byte - c.args.here.at = omega (arith, begin) in
     let byte = rw (at ∙ sym c.saturating_sub.ensures) at
-    (has_byte L c.schema-schema.ensures.made t ds k u es has more less) in
+    (has_byte L c.layout_is_well_made.ensures t ds k u es has more less) in
     let same = c.field_at-next.ensures.found k has.field has.there byte in
     let within = slice_get_within (parts_in (body_at L.schema t.0)) k has.field has.there in
     let long = seen_long_as c.parts_of-fields.result.now _ c.parts_of-fields.ensures.parts in
@@ -45,7 +45,7 @@ returns-in-Some-clause-inner g c ds k u es more shown has less begin =
     let next = c.field_at-next.result in
     let at : slice_index (struct_at L t.0).offsets k + more ≡ c.args.byte - c.args.here.at = omega (arith, begin) in
     let byte = rw (at ∙ sym c.saturating_sub.ensures) at
-    (has_byte L c.schema-schema.ensures.made t ds k u es has more less) in
+    (has_byte L c.layout_is_well_made.ensures t ds k u es has more less) in
     let same : next ≡ k = c.field_at-next.ensures.found k has.field has.there byte in
     let within : next < length fields = omega (arith, c.from-k.ensures, c.if-k-fields.false) in
     let is : x ≡ slice_index_or fields next x = rw c.from-k.ensures at c.index-fields-k.is in
@@ -73,7 +73,7 @@ returns-in-None-clause-inner g c ds k u es more shown has less begin =
     let next = c.field_at-next.result in
     let at : slice_index (struct_at L t.0).offsets k + more ≡ c.args.byte - c.args.here.at = omega (arith, begin) in
     let byte = rw (at ∙ sym c.saturating_sub.ensures) at
-    (has_byte L c.schema-schema.ensures.made t ds k u es has more less) in
+    (has_byte L c.layout_is_well_made.ensures t ds k u es has more less) in
     let same : next ≡ k = c.field_at-next.ensures.found k has.field has.there byte in
     let within : next < length fields = omega (arith, c.from-k.ensures, c.if-k-fields.false) in
     let is : x ≡ slice_index_or fields next x = rw c.from-k.ensures at c.index-fields-k.is in

@@ -61,7 +61,7 @@ loop-level-preserved g c =
           let on = c.loop-level.invariant.way defaults indent ds es behind shows stands in
           let now = rw left at on in
           rw add-one (way_goes_on L defaults indent c.args.structure ds c.args.inner.at c.args.inner.structure
-          es behind c.schema-schema.ensures.made
+          es behind c.layout_is_well_made.ensures
           (λ ms. g.S.Shown.shows here.shown L (Some (a_struct ms)))
           (λ ms. g.S.Shown.shows next.shown L (Some (a_struct ms)))
           i here.at here.structure (n - suc i) next.at next.structure now
@@ -77,7 +77,7 @@ returns-clause-parent g c defaults indent ds es behind shows stands =
     let here = c.loop-level.here in
     let byte = c.args.inner.at in
     let field = c.field_at-field.result in
-    let made = c.schema-schema.ensures.made in
+    let made = c.layout_is_well_made.ensures in
     let level = at_end i (n - 1) c.loop-level.auto._level-end c.loop-level-test.false in
     let left = one_left i n level c.requires.nested in
     let on = c.loop-level.invariant.way defaults indent ds es behind shows stands in

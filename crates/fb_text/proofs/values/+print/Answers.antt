@@ -170,7 +170,7 @@ put_fields-returns-in-loop-fields-clause-text g t c root ds es behind at =
     let has : HasStruct L u es k s inner =
     record { field = field_seen x; there = there; shape = c.in-Some.ensures.shape; part = is } in
     let deeper = stands_deeper L defaults indent root ds first.depth first.at u es behind k s inner at.1 has in
-    let few = few_bytes L defaults c.schema-schema.ensures.made indent root ds first.depth _ s inner _ deeper in
+    let few = few_bytes L defaults c.layout_is_well_made.ensures indent root ds first.depth _ s inner _ deeper in
     let place : min (first.at + slice_index (struct_at L u.0).offsets k) (2 ^ 32 - 1)
     ≡ first.at + slice_index (struct_at L u.0).offsets k = is_small _ few in
     let one = one_more first.depth in
@@ -297,9 +297,9 @@ put_vector-returns g t c ds lies =
 pub put_field-returns : goal.put_field-returns
 put_field-returns g t c = record {
   text = λ o shows top.
-      let (d, is) = found_there c.args.found o c.in_default.not-Absent top in
+      let (d, is) = found_there c.args.value.found o c.in_default.not-Absent top in
       rw is (then (rw c.as_str.ensures.value at c.put_member_line.ensures)
       (c.put_found.ensures d (rw is at shows) (rw is at top)));
   some = λ o top.
-      let (d, is) = found_there c.args.found o c.in_default.not-Absent top in rw is (is_some_now c.args.some);
+      let (d, is) = found_there c.args.value.found o c.in_default.not-Absent top in rw is (is_some_now c.args.some);
 }

@@ -16,10 +16,10 @@ abbrev pub decreases-put_item : goal.decreases-put_item
 decreases-put_item g l = 8 * g.S.Shown.weight l.shown + 3
 
 abbrev pub decreases-put_found : goal.decreases-put_found
-decreases-put_found g l = 8 * g.S.Shown.weight l.shown + 2
+decreases-put_found g l = 8 * g.S.Shown.weight l.value.shown + 2
 
 abbrev pub decreases-put_field : goal.decreases-put_field
-decreases-put_field g l = 8 * g.S.Shown.weight l.shown + 4
+decreases-put_field g l = 8 * g.S.Shown.weight l.value.shown + 4
 
 abbrev pub decreases-put_fields : goal.decreases-put_fields
 decreases-put_fields g l = 8 * g.S.Shown.weight l.here.now.shown

@@ -1,16 +1,13 @@
-use Rattle.std.proofs.Common.{rules, sym, ◌∙◌}
-use Rattle.std.proofs.lemmas.Map.Made.{is_some-lookup}
-use Rattle.indexmap.specs.IndexMap.{keys}
+use Rattle.std.proofs.Common.{rules, sym}
 use Rattle.fb_index.proofs.PathsLeft.{if_none}
-use Rattle.fb_index.proofs.PathsGrown.{is_key, child_found, child_missing}
+use Rattle.fb_index.proofs.PathsGrown.{child_found, child_missing}
 use Rattle.fb_index.proofs.path_tree.PathTree.child.Goals as goal
 
 pub returns-in_err-index-clause-missing : goal.returns-in_err-index-clause-missing
 returns-in_err-index-clause-missing c = if_none {P = Unit {0}} c.from_residual.result (λ u.
-    child_missing (keys c.args.self.now.links) c.requires.tree c.args.path c.args.word.now c.requires.inside
-    (sym (is_some-lookup (is_key c.args.path c.args.word.now) c.args.self.now.links.entries)
-    ∙ sym c.in_err-index.ensures.found)) (search rules)
+    child_missing c.args.self.now.links.keys c.requires.tree c.args.path c.args.word.now c.requires.inside
+    (sym c.in_err-index.ensures.found)) (search rules)
 
 pub returns-clause-found : goal.returns-clause-found
-returns-clause-found c = child_found (keys c.args.self.now.links) c.requires.tree c.in_ok-index.index c.args.path
+returns-clause-found c = child_found c.args.self.now.links.keys c.requires.tree c.in_ok-index.index c.args.path
     c.args.word.now (sym c.in_ok-index.ensures.index)

@@ -1,6 +1,5 @@
 use Rattle.std.proofs.Common.{◌≡◌, ◌+◌, arith}
 use Rattle.std.proofs.lemmas.List.{length-map}
-use Rattle.indexmap.specs.IndexMap.{keys}
 use Rattle.fb_index.specs.PathTree.{named_by}
 use Rattle.fb_index.proofs.PathsGrown.{link_read}
 use Rattle.fb_index.proofs.path_tree.PathTree.last.Goals as goal
@@ -9,19 +8,19 @@ pub bounds-branch-branch : goal.bounds-branch-branch
 bounds-branch-branch c =
     let behind : c.args.path ≡ c.in_ok-checked_sub.field-0 + 1 =
     omega (arith, c.in_ok-checked_sub.ensures.0, c.in_ok-checked_sub.ensures.1) in
-    rw (c.as_slice.ensures, c.keys.ensures.rest)
-    (omega (arith, behind, c.requires.inside, c.requires.tree.count, length-map (keys c.args.self.now.links) named_by))
+    rw c.as_slice.ensures.keys
+    (omega (arith, behind, c.requires.inside, c.requires.tree.count, length-map c.args.self.now.links.keys named_by))
 
 pub returns-clause-before : goal.returns-clause-before
 returns-clause-before c =
     let behind : c.args.path ≡ c.in_ok-checked_sub.field-0 + 1 =
     omega (arith, c.in_ok-checked_sub.ensures.0, c.in_ok-checked_sub.ensures.1) in
-    rw (c.as_slice.ensures, c.keys.ensures.rest) (link_read (keys c.args.self.now.links) c.requires.tree
+    rw c.as_slice.ensures.keys (link_read c.args.self.now.links.keys c.requires.tree
     c.in_ok-checked_sub.field-0 c.args.path _ behind c.requires.inside).0
 
 pub returns-clause-word : goal.returns-clause-word
 returns-clause-word c =
     let behind : c.args.path ≡ c.in_ok-checked_sub.field-0 + 1 =
     omega (arith, c.in_ok-checked_sub.ensures.0, c.in_ok-checked_sub.ensures.1) in
-    rw (c.as_slice.ensures, c.keys.ensures.rest) (link_read (keys c.args.self.now.links) c.requires.tree
+    rw c.as_slice.ensures.keys (link_read c.args.self.now.links.keys c.requires.tree
     c.in_ok-checked_sub.field-0 c.args.path _ behind c.requires.inside).1

@@ -24,18 +24,17 @@ invariant_of-result c =
     let is : x ≡ slice_index_or xs c.args.field x = rw c.from-index.ensures at c.index-fields-index.is in
     let kind : stored_kind L.schema c.kind_in-kind.result ≡ field_kind L x =
     c.kind_in-kind.ensures L.schema ∙ ap (λ (f : FieldInfo). field_kind L f) (sym c.index-fields-index.is) in
-    let wanted : structure_wanted (field_kind L x) ≡ Some c.in-Some.structure.0 =
-    ap structure_wanted (sym kind) ∙ sym (c.structure_of.ensures L)
-    ∙ ap (option_map (λ (t : TypeId). t.0)) c.in-Some.is in
+    let wanted : structure_wanted (field_kind L x) ≡ Some c.in_ok-structure.structure.0 =
+    ap structure_wanted (sym kind) ∙ sym (c.in_ok-structure.ensures L) in
     record {
       short = c.args.self.short;
-      within = rw (c.offset_of.ensures, structure_fits L (field_kind L x) c.in-Some.structure.0 wanted)
-          (field_within L s xs c.parts_of-fields.ensures.parts c.schema-schema.ensures.made c.args.self.at _
+      within = rw (c.offset_of.ensures, structure_fits L (field_kind L x) c.in_ok-structure.structure.0 wanted)
+          (field_within L s xs c.parts_of-fields.ensures.parts c.layout_is_well_made.ensures c.args.self.at _
           c.args.field x less is c.args.self.within);
     }
 
-pub returns-in-Some-clause-shows : goal.returns-in-Some-clause-shows
-returns-in-Some-clause-shows c ds lies =
+pub returns-clause-shows : goal.returns-clause-shows
+returns-clause-shows c ds lies =
     let L = c.args.self.layout.now in
     let xs = c.parts_of-fields.result.now in
     let x = c.index-fields-index.result in
@@ -44,14 +43,13 @@ returns-in-Some-clause-shows c ds lies =
     let is : x ≡ slice_index_or xs c.args.field x = rw c.from-index.ensures at c.index-fields-index.is in
     let kind : stored_kind L.schema c.kind_in-kind.result ≡ field_kind L x =
     c.kind_in-kind.ensures L.schema ∙ ap (λ (f : FieldInfo). field_kind L f) (sym c.index-fields-index.is) in
-    let wanted : structure_wanted (field_kind L x) ≡ Some c.in-Some.structure.0 =
-    ap structure_wanted (sym kind) ∙ sym (c.structure_of.ensures L)
-    ∙ ap (option_map (λ (t : TypeId). t.0)) c.in-Some.is in
-    rw c.offset_of.ensures (field_struct L s xs c.parts_of-fields.ensures.parts c.schema-schema.ensures.made
-    c.args.self.bytes.now c.args.self.at ds c.args.field x c.in-Some.structure.0 less is wanted lies)
+    let wanted : structure_wanted (field_kind L x) ≡ Some c.in_ok-structure.structure.0 =
+    ap structure_wanted (sym kind) ∙ sym (c.in_ok-structure.ensures L) in
+    rw c.offset_of.ensures (field_struct L s xs c.parts_of-fields.ensures.parts c.layout_is_well_made.ensures
+    c.args.self.bytes.now c.args.self.at ds c.args.field x c.in_ok-structure.structure.0 less is wanted lies)
 
-pub returns-in-None-clause-shows : goal.returns-in-None-clause-shows
-returns-in-None-clause-shows c ds lies =
+pub returns-in_err-structure-clause-shows : goal.returns-in_err-structure-clause-shows
+returns-in_err-structure-clause-shows c ds lies =
     let L = c.args.self.layout.now in
     let xs = c.parts_of-fields.result.now in
     let x = c.index-fields-index.result in
@@ -61,7 +59,7 @@ returns-in-None-clause-shows c ds lies =
     let kind : stored_kind L.schema c.kind_in-kind.result ≡ field_kind L x =
     c.kind_in-kind.ensures L.schema ∙ ap (λ (f : FieldInfo). field_kind L f) (sym c.index-fields-index.is) in
     let wanted : structure_wanted (field_kind L x) ≡ None =
-    ap structure_wanted (sym kind) ∙ sym (c.structure_of.ensures L)
-    ∙ ap (option_map (λ (t : TypeId). t.0)) c.in-None.is in
-    field_no_struct L s xs c.parts_of-fields.ensures.parts c.schema-schema.ensures.made c.args.self.bytes.now
-    c.args.self.at ds c.args.field x less is wanted lies
+    ap structure_wanted (sym kind) ∙ sym (c.in_err-structure.ensures L) in
+    rw c.from_residual.ensures (
+    field_no_struct L s xs c.parts_of-fields.ensures.parts c.layout_is_well_made.ensures c.args.self.bytes.now
+    c.args.self.at ds c.args.field x less is wanted lies)

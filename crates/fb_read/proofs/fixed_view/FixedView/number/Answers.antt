@@ -26,14 +26,14 @@ number_at-requires c =
     let is : x ≡ slice_index_or xs c.args.field x = rw c.from-index.ensures at c.index-fields-index.is in
     let kind : stored_kind L.schema c.kind_in-kind.result ≡ field_kind L x =
     c.kind_in-kind.ensures L.schema ∙ ap (λ (f : FieldInfo). field_kind L f) (sym c.index-fields-index.is) in
-    let wanted : base_wanted (field_kind L x) ≡ Some c.in-Some.base =
-    ap base_wanted (sym kind) ∙ sym c.base_of.ensures ∙ c.in-Some.is in
-    rw (c.offset_of.ensures, base_fits L (field_kind L x) c.in-Some.base wanted)
-    (field_within L s xs c.parts_of-fields.ensures.parts c.schema-schema.ensures.made c.args.self.at _ c.args.field
+    let wanted : base_wanted (field_kind L x) ≡ Some c.in_ok-base.base =
+    ap base_wanted (sym kind) ∙ sym c.in_ok-base.ensures in
+    rw (c.offset_of.ensures, base_fits L (field_kind L x) c.in_ok-base.base wanted)
+    (field_within L s xs c.parts_of-fields.ensures.parts c.layout_is_well_made.ensures c.args.self.at _ c.args.field
     x less is c.args.self.within)
 
-pub returns-in-Some : goal.returns-in-Some
-returns-in-Some c ds lies =
+pub returns : goal.returns
+returns c ds lies =
     let L = c.args.self.layout.now in
     let xs = c.parts_of-fields.result.now in
     let x = c.index-fields-index.result in
@@ -42,15 +42,15 @@ returns-in-Some c ds lies =
     let is : x ≡ slice_index_or xs c.args.field x = rw c.from-index.ensures at c.index-fields-index.is in
     let kind : stored_kind L.schema c.kind_in-kind.result ≡ field_kind L x =
     c.kind_in-kind.ensures L.schema ∙ ap (λ (f : FieldInfo). field_kind L f) (sym c.index-fields-index.is) in
-    let wanted : base_wanted (field_kind L x) ≡ Some c.in-Some.base =
-    ap base_wanted (sym kind) ∙ sym c.base_of.ensures ∙ c.in-Some.is in
+    let wanted : base_wanted (field_kind L x) ≡ Some c.in_ok-base.base =
+    ap base_wanted (sym kind) ∙ sym c.in_ok-base.ensures in
     let fits : FitsSigned w128 c.number_at.result = search (rules, c.number_at.type_inv) in
     rw (to_z-of_z {w = w128} {z = c.number_at.result} fits, c.number_at.ensures, c.offset_of.ensures)
-    (field_number L s xs c.parts_of-fields.ensures.parts c.schema-schema.ensures.made c.args.self.bytes.now
-    c.args.self.at ds c.args.field x c.in-Some.base less is wanted lies)
+    (field_number L s xs c.parts_of-fields.ensures.parts c.layout_is_well_made.ensures c.args.self.bytes.now
+    c.args.self.at ds c.args.field x c.in_ok-base.base less is wanted lies)
 
-pub returns-in-None : goal.returns-in-None
-returns-in-None c ds lies =
+pub returns-in_err-base : goal.returns-in_err-base
+returns-in_err-base c ds lies =
     let L = c.args.self.layout.now in
     let xs = c.parts_of-fields.result.now in
     let x = c.index-fields-index.result in
@@ -59,7 +59,7 @@ returns-in-None c ds lies =
     let is : x ≡ slice_index_or xs c.args.field x = rw c.from-index.ensures at c.index-fields-index.is in
     let kind : stored_kind L.schema c.kind_in-kind.result ≡ field_kind L x =
     c.kind_in-kind.ensures L.schema ∙ ap (λ (f : FieldInfo). field_kind L f) (sym c.index-fields-index.is) in
-    let wanted : base_wanted (field_kind L x) ≡ None = ap base_wanted (sym kind) ∙ sym c.base_of.ensures
-    ∙ c.in-None.is in
-    field_no_number L s xs c.parts_of-fields.ensures.parts c.schema-schema.ensures.made c.args.self.bytes.now
-    c.args.self.at ds c.args.field x less is wanted lies
+    let wanted : base_wanted (field_kind L x) ≡ None = ap base_wanted (sym kind) ∙ sym c.in_err-base.ensures in
+    rw c.from_residual.ensures (
+    field_no_number L s xs c.parts_of-fields.ensures.parts c.layout_is_well_made.ensures c.args.self.bytes.now
+    c.args.self.at ds c.args.field x less is wanted lies)

@@ -33,7 +33,7 @@ number_at-requires c =
     let wanted : base_wanted (field_kind L x) ≡ Some c.in-Some.base =
     ap base_wanted (sym kind) ∙ sym c.base_of.ensures ∙ c.in-Some.is in
     rw (c.offset_of.ensures, base_fits L (field_kind L x) c.in-Some.base wanted)
-    (field_within L s xs c.parts_of-fields.ensures.parts c.schema-schema.ensures.made c.args.self.at _ c.args.field
+    (field_within L s xs c.parts_of-fields.ensures.parts c.layout_is_well_made.ensures c.args.self.at _ c.args.field
     x less is c.args.self.within)
 
 pub returns-in-Some-clause-shows : goal.returns-in-Some-clause-shows
@@ -54,7 +54,7 @@ returns-in-Some-clause-shows c ds lies =
       c.number_at.ensures,
       c.offset_of.ensures,
     )
-    (field_number L s xs c.parts_of-fields.ensures.parts c.schema-schema.ensures.made c.args.self.bytes.now
+    (field_number L s xs c.parts_of-fields.ensures.parts c.layout_is_well_made.ensures c.args.self.bytes.now
     c.args.self.at ds c.args.field x c.in-Some.base less is wanted lies)))
 
 pub invariant_of-result : goal.invariant_of-result
@@ -73,7 +73,7 @@ invariant_of-result c =
     record {
       short = c.args.self.short;
       within = rw (c.offset_of.ensures, structure_fits L (field_kind L x) c.in-Some-structure_of.structure.0 wanted)
-          (field_within L s xs c.parts_of-fields.ensures.parts c.schema-schema.ensures.made c.args.self.at _
+          (field_within L s xs c.parts_of-fields.ensures.parts c.layout_is_well_made.ensures c.args.self.at _
           c.args.field x less is c.args.self.within);
     }
 
@@ -92,10 +92,10 @@ returns-in-Some-structure_of c =
     ∙ ap (option_map (λ (t : TypeId). t.0)) c.in-Some-structure_of.is in
     let lower : c.in-Some-structure_of.structure.0 < s =
     rank_told (field_kind L x) s c.in-Some-structure_of.structure.0 wanted
-    (field_rank L c.schema-schema.ensures.made s xs c.parts_of-fields.ensures.parts c.args.field x less is) in
+    (field_rank L c.layout_is_well_made.ensures s xs c.parts_of-fields.ensures.parts c.args.field x less is) in
     record {
       shows = λ ds lies.
-          let found = field_struct L s xs c.parts_of-fields.ensures.parts c.schema-schema.ensures.made
+          let found = field_struct L s xs c.parts_of-fields.ensures.parts c.layout_is_well_made.ensures
           c.args.self.bytes.now c.args.self.at ds c.args.field x c.in-Some-structure_of.structure.0 less is wanted
           lies in
           rw c.offset_of.ensures (refl, found.0, struct_told _ found.0 found.1, found.2);
@@ -117,6 +117,6 @@ returns-in-None-clause-shows c ds lies =
     let plain : structure_wanted (field_kind L x) ≡ None =
     ap structure_wanted (sym kind) ∙ sym (c.structure_of.ensures L)
     ∙ ap (option_map (λ (t : TypeId). t.0)) c.in-None.is in
-    let found = field_there L s xs c.parts_of-fields.ensures.parts c.schema-schema.ensures.made c.args.self.bytes.now
+    let found = field_there L s xs c.parts_of-fields.ensures.parts c.layout_is_well_made.ensures c.args.self.bytes.now
     c.args.self.at ds c.args.field x less is lies in
     absurd (nothing_inline L c.args.self.bytes.now (field_kind L x) _ found.0 none plain found.2)

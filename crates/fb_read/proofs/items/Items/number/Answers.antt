@@ -10,19 +10,20 @@ pub number_at-requires : goal.number_at-requires
 number_at-requires c =
     let L = c.args.self.layout.now in
     let kind = stored_kind L.schema c.args.self.kind in
-    let fits = base_fits L kind c.in-Some.base (sym c.base_of.ensures ∙ c.in-Some.is) in
+    let fits = base_fits L kind c.in_ok-base.base (sym c.in_ok-base.ensures) in
     rw (c.position.ensures, fits) (item_within c.args.self.at c.args.self.len (size_of L kind) _ c.args.i c.requires
     c.args.self.within)
 
-pub returns-in-Some : goal.returns-in-Some
-returns-in-Some c ds lies =
+pub returns : goal.returns
+returns c ds lies =
     let fits : FitsSigned w128 c.number_at.result = search (rules, c.number_at.type_inv) in
     rw (to_z-of_z {w = w128} {z = c.number_at.result} fits, c.number_at.ensures, c.position.ensures)
     (item_number c.args.self.layout.now c.args.self.bytes.now
     (stored_kind c.args.self.layout.now.schema c.args.self.kind) c.args.self.at c.args.self.len c.args.i c.requires
-    ds c.in-Some.base lies (sym c.base_of.ensures ∙ c.in-Some.is))
+    ds c.in_ok-base.base lies (sym c.in_ok-base.ensures))
 
-pub returns-in-None : goal.returns-in-None
-returns-in-None c ds lies = item_no_number c.args.self.layout.now c.args.self.bytes.now
+pub returns-in_err-base : goal.returns-in_err-base
+returns-in_err-base c ds lies =
+    rw c.from_residual.ensures (item_no_number c.args.self.layout.now c.args.self.bytes.now
     (stored_kind c.args.self.layout.now.schema c.args.self.kind) c.args.self.at c.args.self.len c.args.i c.requires ds
-    lies (sym c.base_of.ensures ∙ c.in-None.is)
+    lies (sym c.in_err-base.ensures))

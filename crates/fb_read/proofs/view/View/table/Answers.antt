@@ -6,29 +6,30 @@ use Rattle.fb_read.proofs.view.View.table.Goals as goal
 
 pub u32_at-requires : goal.u32_at-requires
 u32_at-requires c = table_sure c.args.self.layout.now c.args.self.bytes.now c.args.self.table.0 c.args.self.at
-    c.args.slot c.stored.result c.args.self.lies c.stored.ensures.stands c.in-Some.table c.in-Some.at
-    (sym c.table.ensures ∙ c.in-Some.is)
+    c.args.slot c.stored.result c.args.self.lies c.stored.ensures.stands c.in_ok-table.table c.in_ok-table.at
+    (sym c.in_ok-table.ensures)
 
 pub overflow_add-result : goal.overflow_add-result
 overflow_add-result c =
     let within = table_sure c.args.self.layout.now c.args.self.bytes.now c.args.self.table.0 c.args.self.at c.args.slot
-    c.stored.result c.args.self.lies c.stored.ensures.stands c.in-Some.table c.in-Some.at (sym c.table.ensures
-    ∙ c.in-Some.is) in
+    c.stored.result c.args.self.lies c.stored.ensures.stands c.in_ok-table.table c.in_ok-table.at (sym
+    c.in_ok-table.ensures) in
     omega (arith, within, c.args.self.short, c.u32_at.type_inv)
 
 pub invariant_of-result : goal.invariant_of-result
 invariant_of-result c = record {
   short = c.args.self.short;
   lies = rw c.u32_at.ensures (table_lies c.args.self.layout.now c.args.self.bytes.now c.args.self.table.0 c.args.self.at
-      c.args.slot c.stored.result c.args.self.lies c.stored.ensures.stands c.in-Some.table c.in-Some.at
-      (sym c.table.ensures ∙ c.in-Some.is));
+      c.args.slot c.stored.result c.args.self.lies c.stored.ensures.stands c.in_ok-table.table c.in_ok-table.at
+      (sym c.in_ok-table.ensures));
 }
 
-pub returns-in-Some-clause-shows : goal.returns-in-Some-clause-shows
-returns-in-Some-clause-shows c d lies = rw c.u32_at.ensures
-    (table_found c.args.self.layout.now c.args.self.bytes.now c.stored.result c.in-Some.table c.in-Some.at
-    (entry_of d c.args.slot) (sym c.table.ensures ∙ c.in-Some.is) (c.stored.ensures.stands d lies))
+pub returns-clause-shows : goal.returns-clause-shows
+returns-clause-shows c d lies = rw c.u32_at.ensures
+    (table_found c.args.self.layout.now c.args.self.bytes.now c.stored.result c.in_ok-table.table c.in_ok-table.at
+    (entry_of d c.args.slot) (sym c.in_ok-table.ensures) (c.stored.ensures.stands d lies))
 
-pub returns-in-None-clause-shows : goal.returns-in-None-clause-shows
-returns-in-None-clause-shows c d lies = table_none c.args.self.layout.now c.args.self.bytes.now c.stored.result
-    (entry_of d c.args.slot) (c.stored.ensures.stands d lies) (sym c.table.ensures ∙ c.in-None.is)
+pub returns-in_err-table-clause-shows : goal.returns-in_err-table-clause-shows
+returns-in_err-table-clause-shows c d lies =
+    rw c.from_residual.ensures (table_none c.args.self.layout.now c.args.self.bytes.now c.stored.result
+    (entry_of d c.args.slot) (c.stored.ensures.stands d lies) (sym c.in_err-table.ensures))

@@ -91,23 +91,25 @@ slots_passed g t c =
           (rw (c.split_at-2.ensures.back, sym end) left)));
     }
 
-pub deprecated_passed : goal.visit_slot-returns-then-field
+pub deprecated_passed : goal.visit_slot-returns-then-slot
 deprecated_passed g t c =
     let buffer = c.args.buffer.now in
     no_place_passes g.V.Visitor.keeps buffer
-    (slot_at buffer c.args.table.at c.args.slot c.args.later.now c.args.field.now) c.args.tables c.args.walk.now
-    (slot_seen buffer.layout.now c.args.field.now) None (rw c.if-field.true refl) c.requires.limits.few
-    (rw c.if-field.true refl)
+    (slot_at buffer c.args.table.at c.args.slot.number c.args.slot.later.now c.args.slot.field.now) c.args.tables
+    c.args.walk.now
+    (slot_seen buffer.layout.now c.args.slot.field.now) None (rw c.if-slot.true refl) c.requires.limits.few
+    (rw c.if-slot.true refl)
 
 pub absent_passed : goal.visit_slot-returns-then-offset-eq0
 absent_passed g t c =
     let buffer = c.args.buffer.now in
     let L = buffer.layout.now in
     no_place_passes g.V.Visitor.keeps buffer
-    (slot_at buffer c.args.table.at c.args.slot c.args.later.now c.args.field.now) c.args.tables c.args.walk.now
-    (slot_seen L c.args.field.now) c.default_kept.result
-    (slot_names_none buffer.layout.now buffer.bytes.now c.args.table.at c.args.slot c.held_slot-offset.result
-    c.args.later.now c.args.field.now c.held_slot-offset.ensures.number c.if-offset-eq0.true)
+    (slot_at buffer c.args.table.at c.args.slot.number c.args.slot.later.now c.args.slot.field.now) c.args.tables
+    c.args.walk.now
+    (slot_seen L c.args.slot.field.now) c.default_kept.result
+    (slot_names_none buffer.layout.now buffer.bytes.now c.args.table.at c.args.slot.number c.held_slot-offset.result
+    c.args.slot.later.now c.args.slot.field.now c.held_slot-offset.ensures.number c.if-offset-eq0.true)
     c.requires.limits.few c.default_kept.ensures
 
 pub vector_behind_refused : goal.visit_slot-returns-in_err-visit_vector_behind-in-Many
@@ -115,28 +117,28 @@ vector_behind_refused g t c =
     let p = err_from_is_err_and c.from_residual.result
     c.from_residual.ensures.1 in
     let buffer = c.args.buffer.now in
-    let x = slot_at buffer c.args.table.at c.args.slot c.args.later.now c.args.field.now in
+    let x = slot_at buffer c.args.table.at c.args.slot.number c.args.slot.later.now c.args.slot.field.now in
     slot_refused g.V.Visitor.takes_memory g.V.Visitor.told
-    (λ kept. KeepsInSlot g.V.Visitor.keeps buffer (slot_seen buffer.layout.now c.args.field.now) x kept) buffer x
+    (λ kept. KeepsInSlot g.V.Visitor.keeps buffer (slot_seen buffer.layout.now c.args.slot.field.now) x kept) buffer x
     (place (ref_place (vector_part (stored_kind buffer.layout.now.schema c.in-Many.kind))) (c.args.table.at +
     c.held_slot-offset.result))
     c.args.tables c.args.walk.now c.visit_vector_behind.new.walk c.in_err-visit_vector_behind-in-Many.field-0.0 p.0
-    c.from_residual.result (slot_names buffer.layout.now buffer.bytes.now c.args.table.at c.args.slot
-    c.held_slot-offset.result c.args.later.now
-    c.args.field.now (Shape.Many c.in-Many.kind) c.if-field.false c.in-Many.is c.held_slot-offset.ensures.number
+    c.from_residual.result (slot_names buffer.layout.now buffer.bytes.now c.args.table.at c.args.slot.number
+    c.held_slot-offset.result c.args.slot.later.now
+    c.args.slot.field.now (Shape.Many c.in-Many.kind) c.if-slot.false c.in-Many.is c.held_slot-offset.ensures.number
     c.if-offset-eq0.false refl) p.1 p.2 c.in_err-visit_vector_behind-in-Many.ensures
 
 pub vector_behind_passed : goal.visit_slot-returns-in_ok-visit_vector_behind-in-Many
 vector_behind_passed g t c =
     let buffer = c.args.buffer.now in
-    ref_slot_passes g.V.Visitor.keeps buffer (slot_at buffer c.args.table.at c.args.slot c.args.later.now
-    c.args.field.now)
+    ref_slot_passes g.V.Visitor.keeps buffer (slot_at buffer c.args.table.at c.args.slot.number c.args.slot.later.now
+    c.args.slot.field.now)
     (vector_part (stored_kind buffer.layout.now.schema c.in-Many.kind)) (c.args.table.at + c.held_slot-offset.result)
     c.args.tables
-    c.args.walk.now c.visit_vector_behind.new.walk (slot_seen buffer.layout.now c.args.field.now)
+    c.args.walk.now c.visit_vector_behind.new.walk (slot_seen buffer.layout.now c.args.slot.field.now)
     c.in_ok-visit_vector_behind-in-Many.field-0 (slot_names buffer.layout.now buffer.bytes.now c.args.table.at
-    c.args.slot c.held_slot-offset.result c.args.later.now
-    c.args.field.now (Shape.Many c.in-Many.kind) c.if-field.false c.in-Many.is c.held_slot-offset.ensures.number
+    c.args.slot.number c.held_slot-offset.result c.args.slot.later.now
+    c.args.slot.field.now (Shape.Many c.in-Many.kind) c.if-slot.false c.in-Many.is c.held_slot-offset.ensures.number
     c.if-offset-eq0.false refl) c.in_ok-visit_vector_behind-in-Many.ensures
 
 pub text_behind_refused : goal.visit_slot-returns-in_err-visit_text_behind-in-One-Text
@@ -144,27 +146,27 @@ text_behind_refused g t c =
     let p = err_from_is_err_and c.from_residual-in_err-visit_text_behind-in-One-Text.result
     c.from_residual-in_err-visit_text_behind-in-One-Text.ensures.1 in
     let buffer = c.args.buffer.now in
-    let x = slot_at buffer c.args.table.at c.args.slot c.args.later.now c.args.field.now in
+    let x = slot_at buffer c.args.table.at c.args.slot.number c.args.slot.later.now c.args.slot.field.now in
     slot_refused g.V.Visitor.takes_memory g.V.Visitor.told
-    (λ kept. KeepsInSlot g.V.Visitor.keeps buffer (slot_seen buffer.layout.now c.args.field.now) x kept) buffer x
+    (λ kept. KeepsInSlot g.V.Visitor.keeps buffer (slot_seen buffer.layout.now c.args.slot.field.now) x kept) buffer x
     (place (ref_place text_part) (c.args.table.at + c.held_slot-offset.result))
     c.args.tables c.args.walk.now c.visit_text_behind.new.walk c.in_err-visit_text_behind-in-One-Text.field-0.0 p.0
     c.from_residual-in_err-visit_text_behind-in-One-Text.result (slot_names_one buffer.layout.now buffer.bytes.now
-    c.args.table.at c.args.slot c.held_slot-offset.result
-    c.args.later.now c.args.field.now c.in-One-Text.field-0 Kind.Text c.if-field.false c.in-One-Text.is
+    c.args.table.at c.args.slot.number c.held_slot-offset.result
+    c.args.slot.later.now c.args.slot.field.now c.in-One-Text.field-0 Kind.Text c.if-slot.false c.in-One-Text.is
     (rw c.in-One-Text.is at c.in-One-Text.field-0-is) c.held_slot-offset.ensures.number c.if-offset-eq0.false refl) p.1
     p.2 c.in_err-visit_text_behind-in-One-Text.ensures
 
 pub text_behind_passed : goal.visit_slot-returns-in_ok-visit_text_behind-in-One-Text
 text_behind_passed g t c =
     let buffer = c.args.buffer.now in
-    ref_slot_passes g.V.Visitor.keeps buffer (slot_at buffer c.args.table.at c.args.slot c.args.later.now
-    c.args.field.now)
+    ref_slot_passes g.V.Visitor.keeps buffer (slot_at buffer c.args.table.at c.args.slot.number c.args.slot.later.now
+    c.args.slot.field.now)
     text_part (c.args.table.at + c.held_slot-offset.result) c.args.tables
-    c.args.walk.now c.visit_text_behind.new.walk (slot_seen buffer.layout.now c.args.field.now)
+    c.args.walk.now c.visit_text_behind.new.walk (slot_seen buffer.layout.now c.args.slot.field.now)
     c.in_ok-visit_text_behind-in-One-Text.field-0 (slot_names_one buffer.layout.now buffer.bytes.now c.args.table.at
-    c.args.slot c.held_slot-offset.result
-    c.args.later.now c.args.field.now c.in-One-Text.field-0 Kind.Text c.if-field.false c.in-One-Text.is
+    c.args.slot.number c.held_slot-offset.result
+    c.args.slot.later.now c.args.slot.field.now c.in-One-Text.field-0 Kind.Text c.if-slot.false c.in-One-Text.is
     (rw c.in-One-Text.is at c.in-One-Text.field-0-is) c.held_slot-offset.ensures.number c.if-offset-eq0.false refl)
     c.in_ok-visit_text_behind-in-One-Text.ensures
 
@@ -173,14 +175,15 @@ table_behind_refused g t c =
     let p = err_from_is_err_and c.from_residual-in_err-visit_table_behind-in-One-Table.result
     c.from_residual-in_err-visit_table_behind-in-One-Table.ensures.1 in
     let buffer = c.args.buffer.now in
-    let x = slot_at buffer c.args.table.at c.args.slot c.args.later.now c.args.field.now in
+    let x = slot_at buffer c.args.table.at c.args.slot.number c.args.slot.later.now c.args.slot.field.now in
     slot_refused g.V.Visitor.takes_memory g.V.Visitor.told
-    (λ kept. KeepsInSlot g.V.Visitor.keeps buffer (slot_seen buffer.layout.now c.args.field.now) x kept) buffer x
+    (λ kept. KeepsInSlot g.V.Visitor.keeps buffer (slot_seen buffer.layout.now c.args.slot.field.now) x kept) buffer x
     (place (ref_place (table_part c.in-One-Table.type_id.0)) (c.args.table.at + c.held_slot-offset.result))
     c.args.tables c.args.walk.now c.visit_table_behind.new.walk c.in_err-visit_table_behind-in-One-Table.field-0.0 p.0
     c.from_residual-in_err-visit_table_behind-in-One-Table.result (slot_names_one buffer.layout.now buffer.bytes.now
-    c.args.table.at c.args.slot c.held_slot-offset.result
-    c.args.later.now c.args.field.now c.in-One-Table.field-0 (Kind.Table c.in-One-Table.type_id) c.if-field.false
+    c.args.table.at c.args.slot.number c.held_slot-offset.result
+    c.args.slot.later.now c.args.slot.field.now c.in-One-Table.field-0 (Kind.Table c.in-One-Table.type_id)
+    c.if-slot.false
     c.in-One-Table.is
     (rw c.in-One-Table.is at c.in-One-Table.field-0-is) c.held_slot-offset.ensures.number c.if-offset-eq0.false refl)
     p.1 p.2 c.in_err-visit_table_behind-in-One-Table.ensures.visit
@@ -188,13 +191,14 @@ table_behind_refused g t c =
 pub table_behind_passed : goal.visit_slot-returns-in_ok-visit_table_behind-in-One-Table
 table_behind_passed g t c =
     let buffer = c.args.buffer.now in
-    ref_slot_passes g.V.Visitor.keeps buffer (slot_at buffer c.args.table.at c.args.slot c.args.later.now
-    c.args.field.now)
+    ref_slot_passes g.V.Visitor.keeps buffer (slot_at buffer c.args.table.at c.args.slot.number c.args.slot.later.now
+    c.args.slot.field.now)
     (table_part c.in-One-Table.type_id.0) (c.args.table.at + c.held_slot-offset.result) c.args.tables
-    c.args.walk.now c.visit_table_behind.new.walk (slot_seen buffer.layout.now c.args.field.now)
+    c.args.walk.now c.visit_table_behind.new.walk (slot_seen buffer.layout.now c.args.slot.field.now)
     c.in_ok-visit_table_behind-in-One-Table.field-0 (slot_names_one buffer.layout.now buffer.bytes.now c.args.table.at
-    c.args.slot c.held_slot-offset.result
-    c.args.later.now c.args.field.now c.in-One-Table.field-0 (Kind.Table c.in-One-Table.type_id) c.if-field.false
+    c.args.slot.number c.held_slot-offset.result
+    c.args.slot.later.now c.args.slot.field.now c.in-One-Table.field-0 (Kind.Table c.in-One-Table.type_id)
+    c.if-slot.false
     c.in-One-Table.is
     (rw c.in-One-Table.is at c.in-One-Table.field-0-is) c.held_slot-offset.ensures.number c.if-offset-eq0.false refl)
     c.in_ok-visit_table_behind-in-One-Table.ensures.visit
@@ -204,65 +208,70 @@ union_ends g t c =
     let buffer = c.args.buffer.now in
     let L = buffer.layout.now in
     union_slot_ends g.V.Visitor.takes_memory g.V.Visitor.told g.V.Visitor.keeps buffer
-    (slot_at buffer c.args.table.at c.args.slot c.args.later.now c.args.field.now)
+    (slot_at buffer c.args.table.at c.args.slot.number c.args.slot.later.now c.args.slot.field.now)
     (union_place c.union_code-code.result (c.args.table.at + c.held_slot-offset.result)
     (member_by_code L c.in-One-Union.union.0 c.union_code-code.result)) c.args.tables c.args.walk.now
-    c.visit_union.new.walk (slot_seen L c.args.field.now) c.visit_union.result
-    (slot_names_union buffer.layout.now buffer.bytes.now c.args.table.at c.args.slot c.held_slot-offset.result
-    c.args.later.now c.args.field.now
-    c.in-One-Union.field-0 c.in-One-Union.union c.union_code-code.result c.if-field.false c.in-One-Union.is
+    c.visit_union.new.walk (slot_seen L c.args.slot.field.now) c.visit_union.result
+    (slot_names_union buffer.layout.now buffer.bytes.now c.args.table.at c.args.slot.number c.held_slot-offset.result
+    c.args.slot.later.now c.args.slot.field.now
+    c.in-One-Union.field-0 c.in-One-Union.union c.union_code-code.result c.if-slot.false c.in-One-Union.is
     (rw c.in-One-Union.is at c.in-One-Union.field-0-is) c.held_slot-offset.ensures.number
     c.if-offset-eq0.false c.union_code-code.ensures)
     (rw (c.in-One-Union.is, rw c.in-One-Union.is at c.in-One-Union.field-0-is) (union_has_no_default
-    c.args.field.now.deprecated c.args.field.now.optional
-    c.args.field.now.default c.in-One-Union.union.0)) c.visit_union.ensures
+    c.args.slot.field.now.deprecated c.args.slot.field.now.optional
+    c.args.slot.field.now.default c.in-One-Union.union.0)) c.visit_union.ensures
 
 pub code_refused : goal.visit_slot-returns-in_err-visit_code-in-One-Code
 code_refused g t c =
     let p = err_from_is_err_and c.from_residual-in_err-visit_code-in-One-Code.result
     c.from_residual-in_err-visit_code-in-One-Code.ensures.1 in
     let buffer = c.args.buffer.now in
-    let x = slot_at buffer c.args.table.at c.args.slot c.args.later.now c.args.field.now in
-    let y = place (code_place c.in-One-Code.field-0-0.0 (c.args.slot + 1)
-    (next_required (slots_seen buffer.layout.now c.args.later.now))
-    (is_present buffer.bytes.now c.args.table.at (c.args.slot + 1))) (c.args.table.at + c.held_slot-offset.result) in
+    let x = slot_at buffer c.args.table.at c.args.slot.number c.args.slot.later.now c.args.slot.field.now in
+    let y = place (code_place c.in-One-Code.union.0 (c.args.slot.number + 1)
+    (next_required (slots_seen buffer.layout.now c.args.slot.later.now))
+    (is_present buffer.bytes.now c.args.table.at (c.args.slot.number + 1))) (c.args.table.at +
+    c.held_slot-offset.result) in
     slot_refused g.V.Visitor.takes_memory g.V.Visitor.told
-    (λ kept. KeepsInSlot g.V.Visitor.keeps buffer (slot_seen buffer.layout.now c.args.field.now) x kept) buffer x
+    (λ kept. KeepsInSlot g.V.Visitor.keeps buffer (slot_seen buffer.layout.now c.args.slot.field.now) x kept) buffer x
     y c.args.tables c.args.walk.now c.args.walk.now c.in_err-visit_code-in-One-Code.field-0.0 p.0
     c.from_residual-in_err-visit_code-in-One-Code.result
-    (slot_names_code buffer.layout.now buffer.bytes.now c.args.table.at c.args.slot c.held_slot-offset.result
-    c.args.later.now c.args.field.now c.in-One-Code.field-0 c.in-One-Code.field-0-0 c.if-field.false c.in-One-Code.is
+    (slot_names_code buffer.layout.now buffer.bytes.now c.args.table.at c.args.slot.number c.held_slot-offset.result
+    c.args.slot.later.now c.args.slot.field.now c.in-One-Code.field-0 c.in-One-Code.union c.if-slot.false
+    c.in-One-Code.is
     (rw c.in-One-Code.is at c.in-One-Code.field-0-is) c.held_slot-offset.ensures.number c.if-offset-eq0.false) p.1 p.2
     (leaf_refused g.V.Visitor.takes_memory g.V.Visitor.told g.met.V.Visitor.silent buffer y c.args.tables
     c.args.walk.now
     c.args.walk.now c.in_err-visit_code-in-One-Code.field-0.0 refl (c.in_err-visit_code-in-One-Code.ensures
-    c.args.tables c.args.walk.now.spent c.in-One-Code.field-0-0.0) (not_entered c.args.walk.now.ticks
+    c.args.tables c.args.walk.now.spent c.in-One-Code.union.0) (not_entered c.args.walk.now.ticks
     c.args.walk.now.spent buffer.most_cells
     c.requires.limits.few) refl)
 
 pub code_passed : goal.visit_slot-returns-in_ok-visit_code-in-One-Code
 code_passed g t c =
     let buffer = c.args.buffer.now in
-    code_passes g.V.Visitor.keeps buffer (slot_at buffer c.args.table.at c.args.slot c.args.later.now c.args.field.now)
-    c.in-One-Code.field-0-0.0 (c.args.slot + 1) (next_required (slots_seen buffer.layout.now c.args.later.now))
-    (is_present buffer.bytes.now c.args.table.at (c.args.slot + 1)) (c.args.table.at + c.held_slot-offset.result)
-    c.args.tables c.args.walk.now (slot_seen buffer.layout.now c.args.field.now)
-    (slot_names_code buffer.layout.now buffer.bytes.now c.args.table.at c.args.slot c.held_slot-offset.result
-    c.args.later.now c.args.field.now c.in-One-Code.field-0 c.in-One-Code.field-0-0 c.if-field.false c.in-One-Code.is
+    code_passes g.V.Visitor.keeps buffer (slot_at buffer c.args.table.at c.args.slot.number c.args.slot.later.now
+    c.args.slot.field.now)
+    c.in-One-Code.union.0 (c.args.slot.number + 1) (next_required (slots_seen buffer.layout.now c.args.slot.later.now))
+    (is_present buffer.bytes.now c.args.table.at (c.args.slot.number + 1)) (c.args.table.at + c.held_slot-offset.result)
+    c.args.tables c.args.walk.now (slot_seen buffer.layout.now c.args.slot.field.now)
+    (slot_names_code buffer.layout.now buffer.bytes.now c.args.table.at c.args.slot.number c.held_slot-offset.result
+    c.args.slot.later.now c.args.slot.field.now c.in-One-Code.field-0 c.in-One-Code.union c.if-slot.false
+    c.in-One-Code.is
     (rw c.in-One-Code.is at c.in-One-Code.field-0-is) c.held_slot-offset.ensures.number c.if-offset-eq0.false)
     c.requires.limits.few (c.in_ok-visit_code-in-One-Code.ensures c.args.tables c.args.walk.now.spent
-    c.in-One-Code.field-0-0.0)
+    c.in-One-Code.union.0)
 
 pub number_ends : goal.visit_slot-returns-in-One-Scalar
 number_ends g t c =
     let buffer = c.args.buffer.now in
     inline_slot_ends g.V.Visitor.takes_memory g.V.Visitor.told g.met.V.Visitor.silent g.V.Visitor.keeps buffer
-    (slot_at buffer c.args.table.at c.args.slot c.args.later.now c.args.field.now)
+    (slot_at buffer c.args.table.at c.args.slot.number c.args.slot.later.now c.args.slot.field.now)
     (stored_kind buffer.layout.now.schema (Kind.Scalar c.in-One-Scalar.base)) (c.args.table.at +
     c.held_slot-offset.result) c.args.tables
-    c.args.walk.now (slot_seen buffer.layout.now c.args.field.now) c.visit_inline.result
-    (slot_names_one buffer.layout.now buffer.bytes.now c.args.table.at c.args.slot c.held_slot-offset.result
-    c.args.later.now c.args.field.now c.in-One-Scalar.field-0 (Kind.Scalar c.in-One-Scalar.base) c.if-field.false
+    c.args.walk.now (slot_seen buffer.layout.now c.args.slot.field.now) c.visit_inline.result
+    (slot_names_one buffer.layout.now buffer.bytes.now c.args.table.at c.args.slot.number c.held_slot-offset.result
+    c.args.slot.later.now c.args.slot.field.now c.in-One-Scalar.field-0 (Kind.Scalar c.in-One-Scalar.base)
+    c.if-slot.false
     c.in-One-Scalar.is
     (rw c.in-One-Scalar.is at c.in-One-Scalar.field-0-is) c.held_slot-offset.ensures.number c.if-offset-eq0.false refl)
     c.requires.limits.few
@@ -272,12 +281,12 @@ pub enum_ends : goal.visit_slot-returns-in-One-Enum
 enum_ends g t c =
     let buffer = c.args.buffer.now in
     inline_slot_ends g.V.Visitor.takes_memory g.V.Visitor.told g.met.V.Visitor.silent g.V.Visitor.keeps buffer
-    (slot_at buffer c.args.table.at c.args.slot c.args.later.now c.args.field.now)
+    (slot_at buffer c.args.table.at c.args.slot.number c.args.slot.later.now c.args.slot.field.now)
     (stored_kind buffer.layout.now.schema (Kind.Enum c.in-One-Enum.values)) (c.args.table.at +
     c.held_slot-offset.result) c.args.tables
-    c.args.walk.now (slot_seen buffer.layout.now c.args.field.now) c.visit_inline-in-One-Enum.result
-    (slot_names_one buffer.layout.now buffer.bytes.now c.args.table.at c.args.slot c.held_slot-offset.result
-    c.args.later.now c.args.field.now c.in-One-Enum.field-0 (Kind.Enum c.in-One-Enum.values) c.if-field.false
+    c.args.walk.now (slot_seen buffer.layout.now c.args.slot.field.now) c.visit_inline-in-One-Enum.result
+    (slot_names_one buffer.layout.now buffer.bytes.now c.args.table.at c.args.slot.number c.held_slot-offset.result
+    c.args.slot.later.now c.args.slot.field.now c.in-One-Enum.field-0 (Kind.Enum c.in-One-Enum.values) c.if-slot.false
     c.in-One-Enum.is
     (rw c.in-One-Enum.is at c.in-One-Enum.field-0-is) c.held_slot-offset.ensures.number c.if-offset-eq0.false refl)
     c.requires.limits.few
@@ -288,12 +297,13 @@ pub struct_ends : goal.visit_slot-returns-in-One-Struct
 struct_ends g t c =
     let buffer = c.args.buffer.now in
     inline_slot_ends g.V.Visitor.takes_memory g.V.Visitor.told g.met.V.Visitor.silent g.V.Visitor.keeps buffer
-    (slot_at buffer c.args.table.at c.args.slot c.args.later.now c.args.field.now)
+    (slot_at buffer c.args.table.at c.args.slot.number c.args.slot.later.now c.args.slot.field.now)
     (stored_kind buffer.layout.now.schema (Kind.Struct c.in-One-Struct.structure)) (c.args.table.at +
     c.held_slot-offset.result) c.args.tables
-    c.args.walk.now (slot_seen buffer.layout.now c.args.field.now) c.visit_inline-in-One-Struct.result
-    (slot_names_one buffer.layout.now buffer.bytes.now c.args.table.at c.args.slot c.held_slot-offset.result
-    c.args.later.now c.args.field.now c.in-One-Struct.field-0 (Kind.Struct c.in-One-Struct.structure) c.if-field.false
+    c.args.walk.now (slot_seen buffer.layout.now c.args.slot.field.now) c.visit_inline-in-One-Struct.result
+    (slot_names_one buffer.layout.now buffer.bytes.now c.args.table.at c.args.slot.number c.held_slot-offset.result
+    c.args.slot.later.now c.args.slot.field.now c.in-One-Struct.field-0 (Kind.Struct c.in-One-Struct.structure)
+    c.if-slot.false
     c.in-One-Struct.is
     (rw c.in-One-Struct.is at c.in-One-Struct.field-0-is) c.held_slot-offset.ensures.number c.if-offset-eq0.false refl)
     c.requires.limits.few

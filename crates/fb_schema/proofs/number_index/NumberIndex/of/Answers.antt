@@ -1,21 +1,29 @@
-use Rattle.std.proofs.Common.{rules, ◌≡◌, ℕ, String, Global, ℤ, List, map, get_or, pos, int_cmp, ap, subst, refl, ◌∙◌}
-use Rattle.std.specs.Ordering.{is_lt}
-use Rattle.std.specs.List.Sorted.{IsPermutation}
-use Rattle.std.proofs.lemmas.Cmp.{int_cmp_total}
-use Rattle.std.proofs.lemmas.Fn.{always_returns_same}
-use Rattle.std.proofs.lemmas.List.{length-map}
-use Rattle.std.proofs.lemmas.List.Sorted.{ranks_by}
+use Rattle.std.proofs.Common.{◌≡◌, ◌++◌, ◌∷◌, [], String, Global, ℤ, length, map, string_bytes, ap, sym, arith, ◌∙◌}
+use Rattle.std.proofs.Common.{length-append}
+use Rattle.std.proofs.lemmas.Simd.{map-map}
+use Rattle.fb_schema.specs.Schema.{Name}
+use Rattle.fb_schema.specs.Seen.{type_seen}
+use Rattle.fb_schema.specs.Indexed.{inner_numbers}
+use Rattle.fb_schema.proofs.NumbersIndexed.{type_more}
 use Rattle.fb_schema.proofs.number_index.NumberIndex.of.Goals as goal
 
-pub returns : goal.returns
-returns c =
-    let number = λ (v : String Global × ℤ). v.1 in
-    let numbers : List ℤ = map number c.args.values.now in
-    let key = λ (p : ℕ). get_or numbers p (pos 0) in
+abbrev seen : String Global × ℤ → Name × ℤ
+seen v = (string_bytes v.0, v.1)
+
+pub loop-info-preserved : goal.loop-info-preserved
+loop-info-preserved c =
+    let places = c.loop-info.places.items in
+    let firsts = c.loop-info.firsts.items in
+    let more = c.in_ok-more.more.items in
+    let numbers : inner_numbers (type_seen c.info-item.result).body ≡ map (λ v. v.1) c.values_of.result.now =
+    ap (map (λ v. v.1)) (sym c.values_of.ensures) ∙ map-map (λ v. v.1) seen c.values_of.result.now in
+    let places_are : c.extend_from_slice.new.self.items ≡ places ++ more =
+    c.in_ok-extend_from_slice.ensures.items ∙ ap (λ xs. places ++ xs) c.as_slice.ensures.value in
+    let count : c.len.result ≡ length places = c.len.ensures ∙ c.loop-info.places.ok.0 in
+    let firsts_are : c.push.new.self.items ≡ firsts ++ length places ∷ [] = rw count at c.in_ok-push.ensures.items in
     record {
-      all = subst (λ ps. IsPermutation ps c.sort_by.new.self.items)
-          (c.in_ok-places.ensures ∙ rw (length-map c.args.values.now number) refl) c.sort_by.ensures.permutation;
-      ascending = c.in_ok-sort_by.ensures.sorted (λ a b. is_lt (int_cmp (key a) (key b))) (ranks_by int_cmp_total key)
-          (always_returns_same _ _ _ (λ a r q k. let is : r ≡ int_cmp (key a.0.now) (key a.1.0.now) = search rules in
-          (ap is_lt is, search rules)));
+      count = rw firsts_are (omega (arith, c.loop-info.invariant.count, length-append firsts (length places ∷ [])));
+      each = rw (places_are, firsts_are) (type_more c.args.types.now c.loop-info.info-index c.info-item.result places more
+          firsts c.loop-info-test.true c.info-item.is c.loop-info.invariant.count c.loop-info.invariant.each
+          (rw numbers c.in_ok-more.ensures));
     }

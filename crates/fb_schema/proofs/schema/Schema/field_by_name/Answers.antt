@@ -1,22 +1,19 @@
-use Rattle.std.proofs.Common.{None, Some, ap, sym, ◌∙◌}
+use Rattle.std.proofs.Common.{◌≡◌, map, None, Some, ap, sym, ◌∙◌}
 use Rattle.fb_schema.specs.Schema.{DeclaredBody}
 use Rattle.fb_schema.specs.Found.{field_named}
-use Rattle.fb_schema.specs.Indexed.{inner_names, IndexesNames}
+use Rattle.fb_schema.specs.Seen.{type_seen}
 use Rattle.fb_schema.proofs.Got.{got_of}
-use Rattle.fb_schema.proofs.LookUps.{index_there, index_held, no_repeats_there, body_there, no_body}
+use Rattle.fb_schema.proofs.LookUps.{seen_there, no_repeats_there, body_there, no_body}
 use Rattle.fb_schema.proofs.schema.Schema.field_by_name.Goals as goal
 
 pub field_in-requires-clause-indexed : goal.field_in-requires-clause-indexed
 field_in-requires-clause-indexed c =
     let s = c.self.inside in
     let info = c.in_ok-info.info in
-    let index = c.in_ok-names.names in
     let there = got_of c.deref.result.now s.types.items c.args.owner.0
     (Some info) c.deref.ensures.value c.in_ok-info.ensures.lookup.0 c.in_ok-info.ensures.lookup.1 in
-    let held = got_of c.deref-2.result.now s.inner_names.items c.args.owner.0
-    (Some index) c.deref-2.ensures.value c.in_ok-names.ensures.lookup.0 c.in_ok-names.ensures.lookup.1 in
-    index_there s.types.items c.args.owner.0 info.now there
-    (λ index t. IndexesNames index (inner_names t.body)) s.inner_names.items index.now c.self.invariant.names held
+    c.in_ok-names.ensures.found (map type_seen s.types.items) (type_seen info.now) c.self.invariant.names
+    (seen_there s.types.items c.args.owner.0 info.now there)
 
 pub field_in-requires-clause-distinct : goal.field_in-requires-clause-distinct
 field_in-requires-clause-distinct c =
@@ -40,10 +37,9 @@ returns-in_err-names c =
     let info = c.in_ok-info.info in
     let there = got_of c.deref.result.now s.types.items c.args.owner.0
     (Some info) c.deref.ensures.value c.in_ok-info.ensures.lookup.0 c.in_ok-info.ensures.lookup.1 in
-    let held = got_of c.deref-2.result.now s.inner_names.items c.args.owner.0 None c.deref-2.ensures.value
-    c.in_err-names.ensures.lookup.0 c.in_err-names.ensures.lookup.1 in
-    absurd (index_held s.types.items c.args.owner.0 info.now there
-    (λ index t. IndexesNames index (inner_names t.body)) s.inner_names.items c.self.invariant.names held)
+    let held = seen_there s.types.items c.args.owner.0 info.now there in
+    let none = c.in_err-names.ensures.absent (map type_seen s.types.items) c.self.invariant.names in
+    absurd (let no : None ≡ Some (type_seen info.now) = sym none ∙ held in cc)
 
 pub returns : goal.returns
 returns c =

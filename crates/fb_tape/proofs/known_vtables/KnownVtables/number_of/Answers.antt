@@ -1,35 +1,48 @@
-use Rattle.std.proofs.Common.{◌≡◌, ◌∙◌, ◌-◌, ◌++◌, inr, [], ◌∷◌, length, arith, ap}
-use Rattle.std.proofs.Common.{length-append}
-use Rattle.fb_tape.proofs.known_vtables.OneMoreIsKnown.{HeldLists, held_more, at_end}
+use Rattle.std.proofs.Common.{◌≡◌, ◌∙◌, ◌-◌, ◌+◌, ◌++◌, inr, [], ◌∷◌, List, length, arith, ap}
+use Rattle.std.proofs.Common.{length-append, refl}
+use Rattle.std.proofs.lemmas.List.{length-map}
+use Rattle.fb_value.specs.Num.{Bytes, part_of}
+use Rattle.fb_tape.specs.declared.known_vtables.VtableRange.{VtableRange}
+use Rattle.fb_tape.specs.VtablesHeld.{AreIndexed, vtables_in}
+use Rattle.fb_index.proofs.LastEntry.{entry_last}
+use Rattle.fb_tape.proofs.known_vtables.OneMoreIsKnown.{range_after, indexed_more, vtables_more}
 use Rattle.fb_tape.proofs.known_vtables.KnownVtables.number_of.Goals as goal
+
+-- the ranges and bytes once one more is noted
+module _ (c : goal.After-len-2) where
+  ranges_are : c.push_reserved-2.new.self.items
+      ≡ c.self.inside.ranges.items ++ (range_after c.self.inside.bytes.items c.args.vtable.now ∷ [])
+  ranges_are =
+      let whole = c.self.inside.bytes.ok.0 in
+      c.push_reserved-2.ensures.items ∙ rw (c.reserve-2.ensures.items, c.len.ensures, whole) refl
+
+  bytes_are : c.extend_from_slice.new.self.items ≡ c.self.inside.bytes.items ++ c.args.vtable.now
+  bytes_are = c.in_ok-extend_from_slice.ensures.items
 
 pub invariant_of-self-2 : goal.invariant_of-self-2
 invariant_of-self-2 c =
-    let held = c.self.invariant in
+    let held = c.self.inside in
     let absent = rw (← c.self.view_is) at c.find.ensures.absent c.in_default.is in
-    let more = held_more c.self.inside.ranges.items c.self.inside.digests.strings c.self.inside.bytes.items
-    c.args.vtable.now (record { each = held.each; within = held.within; stand = held.stand; one = held.one }) absent in
-    let ranges = c.push_reserved-2.ensures.items in
-    let known = c.push_reserved.ensures.strings in
-    let bytes = c.in_ok-extend_from_slice.ensures.items in
-    let whole = c.self.inside.bytes.ok.0 in
-    let new : HeldLists c.push_reserved-2.new.self.items c.push_reserved.new.self.strings
-    c.extend_from_slice.new.self.items =
-    rw (ranges, c.reserve-2.ensures.items, known, c.reserve.ensures.strings, bytes, c.len.ensures, whole) more in
-    record { each = new.each; within = new.within; stand = new.stand; one = new.one }
+    let count = rw c.reserve.ensures.keys at c.push_reserved.ensures.one in
+    let kept = rw c.reserve.ensures.keys at c.push_reserved.ensures.kept in
+    let last = rw (c.reserve.ensures.keys, c.digest.ensures) at c.push_reserved.ensures.at in
+    rw (ranges_are c, bytes_are c) (indexed_more held.key held.digests.keys c.push_reserved.new.self.keys
+    held.bytes.items c.args.vtable.now held.ranges.items c.self.invariant absent count kept last)
 
 pub returns-clause-numbered : goal.returns-clause-numbered
 returns-clause-numbered c =
-    let known : c.push_reserved.new.self.strings ≡ c.args.self.now ++ (c.args.vtable.now ∷ []) =
-    c.push_reserved.ensures.strings
-    ∙ ap (λ vs. vs ++ (c.args.vtable.now ∷ [])) (c.reserve.ensures.strings ∙ c.self.view_is) in
+    let held = c.self.inside in
+    let vtable = c.args.vtable.now in
+    let known : vtables_in c.extend_from_slice.new.self.items c.push_reserved-2.new.self.items
+    ≡ c.args.self.now ++ (vtable ∷ []) =
+    rw (ranges_are c, bytes_are c) (vtables_more held.ranges.items held.bytes.items vtable c.self.invariant.within)
+    ∙ ap (λ (vs : List Bytes). vs ++ (vtable ∷ [])) c.self.view_is in
     let last : c.len-2.result - 1 ≡ length c.args.self.now = omega (
       arith,
       c.len-2.ensures,
-      ap length c.push_reserved-2.ensures.items,
-      ap length c.reserve-2.ensures.items,
-      length-append c.reserve-2.new.self.items (record { first = c.len.result; size = length c.args.vtable.now } ∷ []),
-      c.self.invariant.each,
+      ap length (ranges_are c),
+      length-append held.ranges.items (range_after held.bytes.items vtable ∷ []),
+      length-map held.ranges.items (λ (r : VtableRange). part_of held.bytes.items r.first r.size),
       ap length c.self.view_is,
     ) in
-    record { is = rw (known, last) (at_end c.args.self.now c.args.vtable.now); known = inr (known, last) }
+    record { is = rw (known, last) (entry_last c.args.self.now vtable); known = inr (known, last) }

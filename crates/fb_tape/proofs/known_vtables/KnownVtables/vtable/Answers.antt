@@ -1,25 +1,23 @@
-use Rattle.std.proofs.Common.{◌≡◌, ◌+◌, ◌-◌, ◌<◌, List, Some, slice_get, length, take, drop, ap, refl, ℕ, arith}
-use Rattle.std.proofs.lemmas.Option.{slice_get_read}
+use Rattle.std.proofs.Common.{◌≡◌, ◌+◌, ◌-◌, ◌<◌, Some, slice_get, length, take, drop, ap, refl, sym, ℕ, arith, ◌∙◌}
+use Rattle.std.specs.Option.{option_map}
+use Rattle.std.proofs.lemmas.List.{length-map}
+use Rattle.std.proofs.lemmas.Option.{slice_get_read, slice_get-map}
 use Rattle.fb_value.specs.Num.{Bytes, part_of}
+use Rattle.fb_tape.specs.declared.known_vtables.VtableRange.{VtableRange}
 use Rattle.fb_tape.proofs.known_vtables.KnownVtables.vtable.Goals as goal
-
--- what stands at a range, read from an equal list
-stands_there : (known : List Bytes) (i first size : ℕ) (bytes read : Bytes) → read ≡ bytes
-    → slice_get known i ≡ Some (part_of bytes first size)
-    → slice_get known i ≡ Some (take ((first + size) - first) (drop first read))
-stands_there known i first size bytes read same h =
-    let long : (first + size) - first ≡ size = omega arith in
-    rw long (rw same h)
 
 pub returns : goal.returns
 returns c =
     let inside = c.self.inside in
     let range = c.index-range.result.now in
+    let vtable_of : VtableRange → Bytes = λ r. part_of inside.bytes.items r.first r.size in
     let within : c.args.number < length inside.ranges.items =
-    omega (arith, c.requires.within, ap length c.self.view_is, c.self.invariant.each) in
-    let is = slice_get_read inside.ranges.items (length inside.ranges.items) c.args.number range refl within
+    omega (arith, c.requires.within, ap length c.self.view_is, length-map inside.ranges.items vtable_of) in
+    let there : slice_get inside.ranges.items c.args.number ≡ Some range =
+    slice_get_read inside.ranges.items (length inside.ranges.items) c.args.number range refl within
     c.index-range.ensures in
+    let size : (range.first + range.size) - range.first ≡ range.size = omega arith in
     record {
-      is = stands_there c.args.self.now c.args.number range.first range.size inside.bytes.items c.deref.result.now
-          c.deref.ensures.value (rw (← c.self.view_is) (c.self.invariant.stand c.args.number range is));
+      is = rw (← c.self.view_is, size, c.deref.ensures.value) (slice_get-map vtable_of inside.ranges.items c.args.number
+          ∙ ap (option_map vtable_of) there);
     }

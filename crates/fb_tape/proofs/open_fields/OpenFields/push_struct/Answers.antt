@@ -22,12 +22,12 @@ returns-in_err-push_struct-clause-kept c =
 
 pub overflow_cast-align_of : goal.overflow_cast-align_of
 overflow_cast-align_of c =
-    let low = align_fits c.args.layout.now c.schema-schema.ensures.made (struct_kind c.args.structure.0) in
+    let low = align_fits c.args.layout.now c.layout_is_well_made.ensures (struct_kind c.args.structure.0) in
     omega (arith, low, c.align_of.ensures)
 
 pub overflow_cast-size_of : goal.overflow_cast-size_of
 overflow_cast-size_of c =
-    let low = size_fits c.args.layout.now c.schema-schema.ensures.made (struct_kind c.args.structure.0) in
+    let low = size_fits c.args.layout.now c.layout_is_well_made.ensures (struct_kind c.args.structure.0) in
     omega (arith, low, c.size_of.ensures)
 
 pub invariant_of-self-2 : goal.invariant_of-self-2

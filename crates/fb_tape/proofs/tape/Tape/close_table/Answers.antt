@@ -26,7 +26,7 @@ note_table-requires-clause-some c =
       slots_of L t,
       stored_in (slots_of L t) xs,
       open_stored L t (drop c.args.from c.args.opened.now) xs
-          (subst IsWellMade (ap (λ (t : Taped). t.layout) c.self.view_is) c.schema-schema.ensures.made)
+          (subst IsWellMade (ap (λ (t : Taped). t.layout) c.self.view_is) c.layout_is_well_made.ensures)
           c.requires.stored.1,
     )
 
@@ -43,7 +43,7 @@ of-requires-clause-few c =
     let t = c.args.table.0 in
     let opens = drop c.args.from c.args.opened.now in
     let xs = c.requires.stored.0 in
-    let made = subst IsWellMade (ap (λ (t : Taped). t.layout) c.self.view_is) c.schema-schema.ensures.made in
+    let made = subst IsWellMade (ap (λ (t : Taped). t.layout) c.self.view_is) c.layout_is_well_made.ensures in
     let stored = open_stored L t opens xs made c.requires.stored.1 in
     let few = fields_fit opens (all_aligned L 0 (slots_of L t) (stored_in (slots_of L t) xs) opens stored.aligned
     stored.are) in
@@ -52,7 +52,8 @@ of-requires-clause-few c =
 pub overflow_cast-len : goal.overflow_cast-len
 overflow_cast-len c =
     let few = open_few c.args.self.now.layout c.args.table.0 (drop c.args.from c.args.opened.now) c.requires.stored.0
-    (subst IsWellMade (ap (λ (t : Taped). t.layout) c.self.view_is) c.schema-schema.ensures.made) c.requires.stored.1 in
+    (subst IsWellMade (ap (λ (t : Taped). t.layout) c.self.view_is) c.layout_is_well_made.ensures) c.requires.stored.1
+    in
     omega (arith, few, length-drop c.args.from c.args.opened.now, c.len-self-inside.ensures)
 
 whole_taken : (n : ℕ) (xs : List ℕ) → drop n xs ≡ [] → take n xs ≡ xs
@@ -69,7 +70,7 @@ returns-clause-waits c others xs h waits =
     let opens = drop c.args.from c.args.opened.now in
     let t = c.args.table.0 in
     let fs = slots_of before.layout t in
-    let made = subst IsWellMade (ap (λ (t : Taped). t.layout) c.self.view_is) c.schema-schema.ensures.made in
+    let made = subst IsWellMade (ap (λ (t : Taped). t.layout) c.self.view_is) c.layout_is_well_made.ensures in
     let seen : tape_seen inside ≡ record before { room = at_most_usize (before.room + c.table_room.result) } =
     c.self-2.view_is ∙ c.add_room.ensures.adds in
     let stored = open_stored before.layout t opens xs made h in

@@ -13,13 +13,13 @@ use Rattle.fb_tape.proofs.tape.Tape.close_vector.Goals as goal
 
 pub overflow_cast-align : goal.overflow_cast-align
 overflow_cast-align c =
-    let low = align_fits c.self.inside.layout.now c.schema-schema.ensures.made
+    let low = align_fits c.self.inside.layout.now c.layout_is_well_made.ensures
     (kind_seen c.self.inside.layout.now c.args.kind) in
     omega (arith, low, c.align_of.ensures, c.max-align.ensures)
 
 pub of-requires-clause-few : goal.of-requires-clause-few
 of-requires-clause-few c =
-    let low = align_fits c.self.inside.layout.now c.schema-schema.ensures.made
+    let low = align_fits c.self.inside.layout.now c.layout_is_well_made.ensures
     (kind_seen c.self.inside.layout.now c.args.kind) in
     omega (arith, low, c.align_of.ensures, c.max-align.ensures)
 
