@@ -11,10 +11,7 @@ use fb_schema::{FieldInfo, Kind, Shape};
 fn is_number(field: &FieldInfo) -> bool
     ensures { result ≡ is_number (field_seen field.now).shape }
 {
-    match field.shape {
-        Shape::One(Kind::Scalar(_) | Kind::Enum(_)) => true,
-        _ => false,
-    }
+    matches!(field.shape, Shape::One(Kind::Scalar(_) | Kind::Enum(_)))
 }
 
 /// Whether a field is required and in use.

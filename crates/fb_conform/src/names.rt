@@ -17,7 +17,7 @@ use fb_schema::{Body, FieldInfo, Schema, TypeId};
 use std::alloc::{AllocError, Global};
 
 /// A name that stands for another field or member in the new schema: where it was in the old one.
-#[derive(Clone, Copy, Debug, Drop)]
+#[derive(Clone, Copy, Debug, PartialEq, Eq, Drop)]
 pub struct MovedName {
     /// The old type that has it.
     pub type_id: TypeId,

@@ -17,7 +17,7 @@ use crate::twins::{same_name, twin_of};
 use fb_layout::Layout;
 use fb_schema::{Body, FieldInfo, TypeId};
 
-/// Tells a breach, unless what it is about is kept.
+/// Reports a breach, unless what it is about is kept.
 fn report_unless<S: Sink>(sink: &mut S, kept: bool, breach: Breach) -> Result<(), S::Error>
     ensures { (A B : LaidSchema) → IsTrue kept ↔ Kept A B breach
         → Lists A B (λ r. IsBefore r breach) (S.reported sink.old)
@@ -26,21 +26,28 @@ fn report_unless<S: Sink>(sink: &mut S, kept: bool, breach: Breach) -> Result<()
     if kept { Ok(()) } else { sink.report(breach) }
 }
 
-/// Tells the breaches of two fields in one slot.
+/// A slot of a table by its number, in both schemas, and the table's type in the old one.
+#[derive(Clone, Copy)]
+struct OldSlot {
+    type_id: TypeId,
+    slot: u16,
+}
+
+/// Reports the breaches of two fields in one slot.
 fn walk_fields<S: Sink>(
     sink: &mut S,
     old: &Layout,
     new: &Layout,
-    type_id: TypeId,
-    slot: u16,
+    at: OldSlot,
     was: &FieldInfo,
     is: &FieldInfo,
 ) -> Result<(), S::Error>
-    requires slot { TableSlot old.now.schema new.now.schema type_id.0 slot
+    requires slot { TableSlot old.now.schema new.now.schema at.type_id.0 at.slot
         (Some (field_seen was.now)) (Some (field_seen is.now)) }
-    requires before { Lists old.now new.now (IsOfSlotsBelow type_id.0 slot) (S.reported sink.old) }
-    ensures { Walks old.now new.now S.stops (IsOfSlotsBelow type_id.0 (slot + 1)) (S.reported sink.new) result }
+    requires before { Lists old.now new.now (IsOfSlotsBelow at.type_id.0 at.slot) (S.reported sink.old) }
+    ensures { Walks old.now new.now S.stops (IsOfSlotsBelow at.type_id.0 (at.slot + 1)) (S.reported sink.new) result }
 {
+    let OldSlot { type_id, slot } = at;
     let shape = same_type(old, new, was, is);
     report_unless(sink, shape, Breach::FieldTypeChanged(type_id, slot))?;
     let default = same_default(was, is);
@@ -51,23 +58,23 @@ fn walk_fields<S: Sink>(
     report_unless(sink, deprecated, Breach::DeprecatedTakenBack(type_id, slot))
 }
 
-/// Tells the breaches of one slot of two tables.
+/// Reports the breaches of one slot of two tables.
 fn walk_slot<S: Sink>(
     sink: &mut S,
     old: &Layout,
     new: &Layout,
-    type_id: TypeId,
-    slot: u16,
+    at: OldSlot,
     was: Option<&FieldInfo>,
     is: Option<&FieldInfo>,
 ) -> Result<(), S::Error>
-    requires slot { TableSlot old.now.schema new.now.schema type_id.0 slot
+    requires slot { TableSlot old.now.schema new.now.schema at.type_id.0 at.slot
         (option_map field_seen (option_copied was)) (option_map field_seen (option_copied is)) }
-    requires before { Lists old.now new.now (IsOfSlotsBelow type_id.0 slot) (S.reported sink.old) }
-    ensures { Walks old.now new.now S.stops (IsOfSlotsBelow type_id.0 (slot + 1)) (S.reported sink.new) result }
+    requires before { Lists old.now new.now (IsOfSlotsBelow at.type_id.0 at.slot) (S.reported sink.old) }
+    ensures { Walks old.now new.now S.stops (IsOfSlotsBelow at.type_id.0 (at.slot + 1)) (S.reported sink.new) result }
 {
+    let OldSlot { type_id, slot } = at;
     match (was, is) {
-        (Some(was), Some(is)) => walk_fields(sink, old, new, type_id, slot, was, is),
+        (Some(was), Some(is)) => walk_fields(sink, old, new, at, was, is),
         (Some(_), None) => sink.report(Breach::SlotGone(type_id, slot)),
         (None, Some(is)) => {
             let plain = !is_required(is);
@@ -77,7 +84,7 @@ fn walk_slot<S: Sink>(
     }
 }
 
-/// Tells the breaches of two tables' slots.
+/// Reports the breaches of two tables' slots.
 fn walk_slots<S: Sink>(
     sink: &mut S,
     old: &Layout,
@@ -92,12 +99,16 @@ fn walk_slots<S: Sink>(
     let was = old.slots_of(type_id);
     let is = new.slots_of(twin);
     for i in 0..was.len().max(is.len()) {
-        walk_slot(sink, old, new, type_id, i as u16, was.get(i), is.get(i))?;
+        let at = OldSlot {
+            type_id,
+            slot: i as u16,
+        };
+        walk_slot(sink, old, new, at, was.get(i), is.get(i))?;
     }
     Ok(())
 }
 
-/// Tells the breaches of two types of one full name.
+/// Reports the breaches of two types of one full name.
 fn walk_bodies<S: Sink>(
     sink: &mut S,
     old: &Layout,
@@ -132,7 +143,7 @@ fn walk_bodies<S: Sink>(
     }
 }
 
-/// Tells the breaches of an old type.
+/// Reports the breaches of an old type.
 fn walk_type<S: Sink>(
     sink: &mut S,
     old: &Layout,
@@ -166,7 +177,7 @@ fn same_identifier(old: &Layout, new: &Layout) -> bool
     new.schema().identifier() == old.schema().identifier()
 }
 
-/// Tells the breaches of the root and the identifier.
+/// Reports the breaches of the root and the identifier.
 fn walk_header<S: Sink>(sink: &mut S, old: &Layout, new: &Layout) -> Result<(), S::Error>
     requires { S.reported sink.old ≡ [] }
     ensures { Walks old.now new.now S.stops (IsOfTypesBelow 0) (S.reported sink.new) result }
@@ -177,7 +188,7 @@ fn walk_header<S: Sink>(sink: &mut S, old: &Layout, new: &Layout) -> Result<(), 
     report_unless(sink, identifier, Breach::IdentifierChanged)
 }
 
-/// Tells each breach that stands: the root's, the identifier's, then the old types' by number, in a type its
+/// Reports each breach that stands: the root's, the identifier's, then the old types' by number, in a type its
 /// slots' by number, and at one place the one of the lowest number first.
 pub(crate) fn walk<S: Sink>(sink: &mut S, old: &Layout, new: &Layout) -> Result<(), S::Error>
     requires { S.reported sink.old ≡ [] }

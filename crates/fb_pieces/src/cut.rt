@@ -12,14 +12,14 @@ use crate::walk::{BLOCK, Walk, block_at};
 use std::alloc::{AllocError, Global};
 
 /// A range of a text's bytes.
-#[derive(Clone, Copy)]
+#[derive(Clone, Copy, Debug, PartialEq, Eq)]
 pub struct Piece {
     pub start: usize,
     pub end: usize,
 }
 
 /// Elements of an array's text, with the commas between them.
-#[derive(Clone, Copy)]
+#[derive(Clone, Copy, Debug, PartialEq, Eq)]
 pub struct Run {
     pub elements: Piece,
     /// How many elements it seems to have.
@@ -28,7 +28,7 @@ pub struct Run {
 }
 
 /// A member of an object's text. Its name is all before the colon, and its value all behind it, blanks too.
-#[derive(Clone, Copy)]
+#[derive(Clone, Copy, Debug, PartialEq, Eq)]
 pub struct Member {
     pub name: Piece,
     pub value: Piece,

@@ -22,16 +22,10 @@ struct Noted {
 
 /// Where a text may be cut: its long arrays, with runs of their elements, and its long objects. What has a quarter of
 /// that length is noted without runs, so that it can be passed over.
+#[derive(Drop)]
 pub struct Cuts {
     parts: BTreeMap<usize, Noted>,
     runs: Vec<RunEnd>,
-}
-
-// Written out, so that a proof has one step where a value falls out of scope, and not one for each of its parts.
-impl Drop for Cuts {
-    fn drop(self) {
-        let Self { parts: _, runs: _ } = self;
-    }
 }
 
 impl Cuts {

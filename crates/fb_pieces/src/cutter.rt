@@ -213,10 +213,9 @@ impl Cutter {
     /// Whether what is open at this level is long at this place.
     #[inline(always)]
     fn is_long(&self, level: usize, place: usize) -> bool {
-        match self.starts.get(level) {
-            Some(start) => place.wrapping_sub(*start) >= self.most,
-            None => false,
-        }
+        self.starts
+            .get(level)
+            .is_some_and(|start| place.wrapping_sub(*start) >= self.most)
     }
 
     /// Notes what is open and has turned out to be long at this place, from the outermost on, up to an array: it gives

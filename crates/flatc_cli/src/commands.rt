@@ -41,12 +41,12 @@ enum Argument {
     Paths(&'static str, bool, &'static str),
 }
 
-/// What clap is told of a job.
+/// A job's command, as clap gets it.
 #[derive(Clone, Copy, Drop)]
 pub(crate) struct JobWords {
     name: &'static str,
     about: &'static str,
-    /// How the job is used, where clap can't tell.
+    /// How the job is used, where clap's own usage doesn't say it.
     usage: Option<&'static str>,
     /// What help ends with.
     notes: Option<&'static str>,
@@ -226,7 +226,7 @@ fn arg_of<'a>(alloc: Global, argument: &Argument) -> Arg<'a>
     }
 }
 
-/// The command with these arguments behind its own.
+/// The command with these arguments after its own.
 fn with_arguments<'a>(
     alloc: Global,
     command: Command<'a>,
@@ -279,11 +279,7 @@ fn with_jobs<'a>(
 {
     let mut command = command;
     for job in jobs {
-        let Ok(own) = job_command(alloc, job) else {
-            drop(command);
-            return Err(AllocError);
-        };
-        command = command.subcommand(own)?;
+        command = command.subcommand(job_command(alloc, job)?)?;
     }
     Ok(command)
 }

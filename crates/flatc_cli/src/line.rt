@@ -45,9 +45,6 @@ pub fn request_of(alloc: Global, words: &[String]) -> Result<Request, Error>
     ensures refusal { IfErr result (λ e. takes flatc_app (map string_bytes words.now) ≡ true
         → IsRefusal (kind_of e)) }
 {
-    let matches = match flatc_command(alloc)?.try_get_matches_from(words) {
-        Ok(matches) => matches,
-        Err(error) => return Err(error),
-    };
+    let matches = flatc_command(alloc)?.try_get_matches_from(words)?;
     matched_request(alloc, &matches)
 }

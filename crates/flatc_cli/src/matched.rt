@@ -38,10 +38,7 @@ pub(crate) fn paths_of<'f, 'a: 'f>(
         ≡ paths_in id.now (rows_of (found_of found.now))) }
     ensures refusal { IfErr result (λ m. m ≡ Misuse.Memory) }
 {
-    match texts_of(found, id) {
-        Some(paths) => Ok(paths),
-        None => Err(Misuse::Memory),
-    }
+    texts_of(found, id).ok_or(Misuse::Memory)
 }
 
 /// The path that an id has. clap has refused the words where there is none.
@@ -61,7 +58,7 @@ pub(crate) fn schema_of<'a>(found: &ArgMatches<'a>) -> &'a str
 pub(crate) fn flag_of(found: &ArgMatches<'_>, name: &str) -> bool
     ensures { result ≡ is_set name.now (rows_of (found_of found.now)) }
 {
-    matches!(text_of(found, name), Some("true"))
+    text_of(found, name) == Some("true")
 }
 
 fn strings_of(alloc: Global, texts: &[&str]) -> Result<Vec<String>, AllocError>
@@ -171,7 +168,7 @@ fn job_request<'a>(
     }
 }
 
-/// The request for a task over the paths behind the schema's, in the form that the line asks for.
+/// The request for a task over the paths after the schema's, in the form that the line asks for.
 fn batch_request<'a>(
     alloc: Global,
     found: &ArgMatches<'_>,

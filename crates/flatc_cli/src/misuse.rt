@@ -52,13 +52,15 @@ fn command_of<'a>(alloc: Global, job: &str) -> Result<Command<'a>, AllocError> {
     job_command(alloc, words_of(job))?.bin_name("flatc conform")
 }
 
-fn told(alloc: Global, job: &str, kind: ErrorKind, message: &str) -> Result<Error, AllocError>
+fn try_usage_error(
+    alloc: Global,
+    job: &str,
+    kind: ErrorKind,
+    message: &str,
+) -> Result<Error, AllocError>
     ensures { IfOk result (λ e. kind_of e ≡ kind) }
 {
-    let mut command = command_of(alloc, job)?;
-    let error = command.error(kind, message);
-    drop(command);
-    error
+    command_of(alloc, job)?.error(kind, message)
 }
 
 /// An error about a line of a job, in clap's form and with the job's usage.
@@ -67,7 +69,7 @@ fn told(alloc: Global, job: &str, kind: ErrorKind, message: &str) -> Result<Erro
 pub fn usage_error(alloc: Global, job: &str, kind: ErrorKind, message: &str) -> Error
     ensures { (kind_of result ≡ kind) ⊎ (kind_of result ≡ ErrorKind.OutOfMemory) }
 {
-    match told(alloc, job, kind, message) {
+    match try_usage_error(alloc, job, kind, message) {
         Ok(error) => error,
         Err(error) => Error::from(error),
     }
@@ -77,7 +79,7 @@ fn extra_path(alloc: Global, job: &str, path: &str) -> Result<Error, AllocError>
     ensures { IfOk result (λ e. kind_of e ≡ ErrorKind.UnknownArgument) }
 {
     let message = format!(in alloc; "unexpected argument '{path}' found")?;
-    told(alloc, job, ErrorKind::UnknownArgument, message.as_str())
+    try_usage_error(alloc, job, ErrorKind::UnknownArgument, message.as_str())
 }
 
 fn missing_word(alloc: Global, job: &str, word: &str) -> Result<Error, AllocError>
@@ -86,7 +88,7 @@ fn missing_word(alloc: Global, job: &str, word: &str) -> Result<Error, AllocErro
     let message = format!(in alloc;
         "the following required arguments were not provided:\n  {word}"
     )?;
-    told(
+    try_usage_error(
         alloc,
         job,
         ErrorKind::MissingRequiredArgument,
@@ -98,10 +100,10 @@ fn conflict(alloc: Global, job: &str, flag: &str, other: &str) -> Result<Error, 
     ensures { IfOk result (λ e. kind_of e ≡ ErrorKind.ArgumentConflict) }
 {
     let message = format!(in alloc; "the argument '{flag}' cannot be used with '{other}'")?;
-    told(alloc, job, ErrorKind::ArgumentConflict, message.as_str())
+    try_usage_error(alloc, job, ErrorKind::ArgumentConflict, message.as_str())
 }
 
-fn told_misuse(alloc: Global, job: &str, misuse: Misuse<'_>) -> Result<Error, AllocError>
+fn try_misuse_error(alloc: Global, job: &str, misuse: Misuse<'_>) -> Result<Error, AllocError>
     ensures memory { misuse.entry ≡ Misuse.Memory → IfOk result (λ e. kind_of e ≡ ErrorKind.OutOfMemory) }
     ensures refusal { IfOk result (λ e. IsRefusal (kind_of e)) }
 {
@@ -110,7 +112,7 @@ fn told_misuse(alloc: Global, job: &str, misuse: Misuse<'_>) -> Result<Error, Al
         Misuse::Missing(word) => missing_word(alloc, job, word),
         Misuse::Extra(path) => extra_path(alloc, job, path),
         Misuse::Conflict(flag, other) => conflict(alloc, job, flag, other),
-        Misuse::ReadTwice => told(
+        Misuse::ReadTwice => try_usage_error(
             alloc,
             job,
             ErrorKind::ArgumentConflict,
@@ -124,7 +126,7 @@ pub(crate) fn misuse_error(alloc: Global, job: &str, misuse: Misuse<'_>) -> Erro
     ensures memory { misuse.entry ≡ Misuse.Memory → kind_of result ≡ ErrorKind.OutOfMemory }
     ensures refusal { IsRefusal (kind_of result) }
 {
-    match told_misuse(alloc, job, misuse) {
+    match try_misuse_error(alloc, job, misuse) {
         Ok(error) => error,
         Err(error) => Error::from(error),
     }
@@ -134,18 +136,14 @@ pub(crate) fn misuse_error(alloc: Global, job: &str, misuse: Misuse<'_>) -> Erro
 pub fn other_line(alloc: Global) -> Error
     ensures { IsRefusal (kind_of result) }
 {
-    let told = match flatc_command(alloc) {
-        Ok(mut command) => {
-            let error = command.error(
-                ErrorKind::UnknownArgument,
-                "the line is more than one job over one file",
-            );
-            drop(command);
-            error
-        }
+    let error = match flatc_command(alloc) {
+        Ok(mut command) => command.error(
+            ErrorKind::UnknownArgument,
+            "the line is more than one job over one file",
+        ),
         Err(error) => Err(error),
     };
-    match told {
+    match error {
         Ok(error) => error,
         Err(error) => Error::from(error),
     }

@@ -48,12 +48,5 @@ pub fn job_of(alloc: Global, words: &[String]) -> Result<Job, Error>
     ensures refusal { IfErr result (λ e. takes flatc_app (map string_bytes words.now) ≡ true
         → IsRefusal (kind_of e)) }
 {
-    let request = match request_of(alloc, words) {
-        Ok(request) => request,
-        Err(error) => return Err(error),
-    };
-    match job_in(request) {
-        Some(job) => Ok(job),
-        None => Err(other_line(alloc)),
-    }
+    job_in(request_of(alloc, words)?).ok_or_else(|| other_line(alloc))
 }

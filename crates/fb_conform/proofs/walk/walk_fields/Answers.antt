@@ -12,8 +12,8 @@ pub returns-in_err-report_unless : goal.returns-in_err-report_unless
 returns-in_err-report_unless g c =
     let A = c.args.old.now in
     let B = c.args.new.now in
-    let t = c.args.type_id.0 in
-    let k = c.args.slot in
+    let t = c.args.at.type_id.0 in
+    let k = c.args.at.slot in
     let f = field_seen c.args.was.now in
     let h = field_seen c.args.is.now in
     let slot = c.requires.slot in
@@ -26,8 +26,8 @@ pub returns-in_err-report_unless-2 : goal.returns-in_err-report_unless-2
 returns-in_err-report_unless-2 g c =
     let A = c.args.old.now in
     let B = c.args.new.now in
-    let t = c.args.type_id.0 in
-    let k = c.args.slot in
+    let t = c.args.at.type_id.0 in
+    let k = c.args.at.slot in
     let f = field_seen c.args.was.now in
     let h = field_seen c.args.is.now in
     let slot = c.requires.slot in
@@ -42,8 +42,8 @@ pub returns-in_err-report_unless-3 : goal.returns-in_err-report_unless-3
 returns-in_err-report_unless-3 g c =
     let A = c.args.old.now in
     let B = c.args.new.now in
-    let t = c.args.type_id.0 in
-    let k = c.args.slot in
+    let t = c.args.at.type_id.0 in
+    let k = c.args.at.slot in
     let f = field_seen c.args.was.now in
     let h = field_seen c.args.is.now in
     let slot = c.requires.slot in
@@ -60,8 +60,8 @@ pub returns : goal.returns
 returns g c =
     let A = c.args.old.now in
     let B = c.args.new.now in
-    let t = c.args.type_id.0 in
-    let k = c.args.slot in
+    let t = c.args.at.type_id.0 in
+    let k = c.args.at.slot in
     let f = field_seen c.args.was.now in
     let h = field_seen c.args.is.now in
     let slot = c.requires.slot in
@@ -74,5 +74,5 @@ returns g c =
     let to_deprecated = deprecated_next A B t k f h slot _ (c.in_ok-report_unless-3.ensures A B required to_required) in
     let deprecated = deprecated_decides A B t k f h slot c.stays_deprecated-deprecated.result
     c.stays_deprecated-deprecated.ensures in
-    walked_on A B _ (λ r. IsUpTo r (DeprecatedTakenBack c.args.type_id k)) (IsOfSlotsBelow t (k + 1)) _
+    walked_on A B _ (λ r. IsUpTo r (DeprecatedTakenBack c.args.at.type_id k)) (IsOfSlotsBelow t (k + 1)) _
     c.report_unless-4.result (fields_end A B t k f h slot _) (c.report_unless-4.ensures A B deprecated to_deprecated)

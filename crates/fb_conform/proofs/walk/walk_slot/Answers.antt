@@ -12,24 +12,24 @@ pub returns-in-Some-None : goal.returns-in-Some-None
 returns-in-Some-None g c =
     let A = c.args.old.now in
     let B = c.args.new.now in
-    let t = c.args.type_id.0 in
-    let k = c.args.slot in
+    let t = c.args.at.type_id.0 in
+    let k = c.args.at.slot in
     let f = field_seen c.in-Some-None.field-0-0.now in
     let slot : TableSlot A.schema B.schema t k (Some f) None = search rules in
-    slot_walked A B _ t _ _ c.report.result k (Some f) None slot (SlotGone c.args.type_id k) refl refl
-    (λ n other. other) c.requires.before (reported A B _ (SlotGone c.args.type_id k) _ _ c.report.result
+    slot_walked A B _ t _ _ c.report.result k (Some f) None slot (SlotGone c.args.at.type_id k) refl refl
+    (λ n other. other) c.requires.before (reported A B _ (SlotGone c.args.at.type_id k) _ _ c.report.result
     (slot_gone_stands A B t k f slot) c.report.ensures.more c.report.ensures.stopped)
 
 pub returns-in-None-Some : goal.returns-in-None-Some
 returns-in-None-Some g c =
     let A = c.args.old.now in
     let B = c.args.new.now in
-    let t = c.args.type_id.0 in
-    let k = c.args.slot in
+    let t = c.args.at.type_id.0 in
+    let k = c.args.at.slot in
     let f = field_seen c.in-None-Some.is'.now in
     let slot : TableSlot A.schema B.schema t k None (Some f) = search rules in
     let plain : IsTrue (not c.is_required-plain.result) ↔ (is_required f ≡ false) = search rules in
-    slot_walked A B _ t _ _ c.report_unless.result k None (Some f) slot (NewRequired c.args.type_id k) refl refl
+    slot_walked A B _ t _ _ c.report_unless.result k None (Some f) slot (NewRequired c.args.at.type_id k) refl refl
     (λ n other. other) c.requires.before
     (c.report_unless.ensures A B (new_decides A B t k (not c.is_required-plain.result) f slot plain))
 
@@ -37,5 +37,5 @@ pub returns-in-None-None : goal.returns-in-None-None
 returns-in-None-None g c =
     let A = c.args.old.now in
     let B = c.args.new.now in
-    let slot : TableSlot A.schema B.schema c.args.type_id.0 c.args.slot None None = search rules in
-    slot_absent A B c.args.type_id.0 c.args.slot _ slot c.requires.before
+    let slot : TableSlot A.schema B.schema c.args.at.type_id.0 c.args.at.slot None None = search rules in
+    slot_absent A B c.args.at.type_id.0 c.args.at.slot _ slot c.requires.before

@@ -32,8 +32,8 @@ slot_there slots declared k o all found at =
     ∙ slice_get-map field_seen slots k
     ∙ ap (option_map field_seen) (sym (got slots k o found at))
 
-pub overflow_cast-i : goal.overflow_cast-i
-overflow_cast-i g c = omega (arith, c.slots_of-was.ensures.few, c.slots_of-is.ensures.few, c.max-i-end.ensures)
+pub overflow_cast-at : goal.overflow_cast-at
+overflow_cast-at g c = omega (arith, c.slots_of-was.ensures.few, c.slots_of-is.ensures.few, c.max-i-end.ensures)
 
 pub walk_slot-requires-clause-slot : goal.walk_slot-requires-clause-slot
 walk_slot-requires-clause-slot g c = record {
