@@ -9,7 +9,7 @@ ghost use Rattle.fb_schema.specs.WellDeclared.{InRange};
 pub struct TypeId(pub u64);
 
 /// A basic scalar type (Writing a schema, "Scalar types").
-#[derive(Clone, Copy, PartialEq, Eq, Drop)]
+#[derive(Clone, Copy, Debug, PartialEq, Eq, Drop)]
 pub enum Base {
     Bool,
     I8,
@@ -56,7 +56,7 @@ impl Base {
 }
 
 /// What one field or element is. `Code(u)` is a union's `_type` slot.
-#[derive(Clone, Copy, PartialEq, Eq, Drop)]
+#[derive(Clone, Copy, Debug, PartialEq, Eq, Drop)]
 pub enum Kind {
     Scalar(Base),
     Enum(TypeId),
@@ -68,7 +68,7 @@ pub enum Kind {
 }
 
 /// One value of a kind, or a vector of such values.
-#[derive(Clone, Copy, PartialEq, Eq, Drop)]
+#[derive(Clone, Copy, Debug, PartialEq, Eq, Drop)]
 pub enum Shape {
     One(Kind),
     Many(Kind),
