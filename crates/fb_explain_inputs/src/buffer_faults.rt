@@ -5,7 +5,7 @@ use crate::sources::Sources;
 use fb_explain_pages::{Page, push_dump};
 use fb_explain_words::{FileKind, kind_of_file};
 use fb_layout::Layout;
-use fb_read::fault_path;
+use fb_read::{Step, fault_path};
 use fb_value::{Limits, ReadFault, front_of};
 
 /// The bytes of a number at an offset.
@@ -152,9 +152,9 @@ fn push_fault_path(page: &mut Page, layout: &Layout, sources: &Sources<'_>) -> b
     let Some(Some(steps)) = page.keep(steps) else {
         return false;
     };
-    let is_root = push_path(page, layout, steps.as_slice());
+    push_path(page, layout, steps.as_slice());
     page.push_str(": ");
-    is_root
+    steps.iter().all(|step| matches!(step, Step::Reference))
 }
 
 /// Adds what is wrong with the offset of the root, which a buffer's first bytes have behind their count.

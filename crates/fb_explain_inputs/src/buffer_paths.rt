@@ -25,8 +25,8 @@ fn push_step(page: &mut Page, layout: &Layout, step: Step, is_first: bool) {
     }
 }
 
-/// Adds a path from the root, as `weapons[2].name`; the root itself is called so. Returns whether it is the root.
-pub(crate) fn push_path(page: &mut Page, layout: &Layout, steps: &[Step]) -> bool {
+/// Adds a path from the root, as `weapons[2].name`; the root itself is called so.
+pub(crate) fn push_path(page: &mut Page, layout: &Layout, steps: &[Step]) {
     let mut is_first = true;
     for step in steps {
         push_step(page, layout, *step, is_first);
@@ -35,5 +35,4 @@ pub(crate) fn push_path(page: &mut Page, layout: &Layout, steps: &[Step]) -> boo
     if is_first {
         page.push_str("the root");
     }
-    is_first
 }

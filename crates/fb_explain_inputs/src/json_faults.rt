@@ -1,7 +1,7 @@
 //! What is wrong with a JSON text under a schema.
 use crate::json_names::is_unknown;
 use crate::json_places::{Name, element_offset, member_names, member_offset, rest_of};
-use crate::json_rules::{Found, push_rule};
+use crate::json_rules::{BrokenValue, Found, push_rule};
 use crate::sources::Sources;
 use fb_explain_pages::{Page, push_excerpt, push_place};
 use fb_json::{JsonFault, Step, fault_path};
@@ -81,14 +81,11 @@ fn offset_of_path(
     })
 }
 
-/// The unknown member that is told of an object: of the least name, and of members of one name the last.
+/// The unknown member of an object that is reported: of the least name, and of members of one name the last.
 fn unknown_member<'n>(layout: &Layout, owner: TypeId, names: &'n [Name]) -> Option<&'n Name> {
     let mut least: Option<&'n Name> = None;
     for name in names {
-        let is_before = match least {
-            Some(least) => name.text.as_str() <= least.text.as_str(),
-            None => true,
-        };
+        let is_before = least.map_or(true, |least| name.text.as_str() <= least.text.as_str());
         if is_before && is_unknown(layout.schema(), owner, name.text.as_str()) {
             least = Some(name);
         }
@@ -130,26 +127,21 @@ fn push_at_path(
         return;
     };
     let unknown = unknown_member(layout, place.owner, names.as_slice());
-    let (name, at) = match unknown {
-        Some(name) => (Some(name.text.as_str()), name.at),
-        None => (None, 0),
-    };
-    let offset = found.offset.saturating_add(at);
+    let offset = found
+        .offset
+        .saturating_add(unknown.map_or(0, |name| name.at));
     push_place(page, &sources.input, offset);
     if !steps.is_empty() {
         push_path(page, layout, steps);
         page.push_str(": ");
     }
-    let is_element = matches!(steps.last(), Some(Step::Element(_)));
-    push_rule(
-        page,
-        layout,
-        sources.limits,
-        (rest_of(text, found.offset), found.is_there),
-        fault,
-        name,
-        is_element,
-    );
+    let value = BrokenValue {
+        text: rest_of(text, found.offset),
+        is_there: found.is_there,
+        is_element: matches!(steps.last(), Some(Step::Element(_))),
+    };
+    let name = unknown.map(|name| name.text.as_str());
+    push_rule(page, layout, sources.limits, fault, value, name);
     push_excerpt(page, sources.input.bytes, offset);
 }
 

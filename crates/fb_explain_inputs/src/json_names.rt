@@ -1,5 +1,4 @@
 //! Names in a JSON text that a schema doesn't have: of values, of unions' members and of fields.
-use bstr::ByteSlice;
 use fb_explain_pages::{Page, push_few, push_nearest};
 use fb_explain_words::words::last_word;
 use fb_json::{Place, has_flags};
@@ -49,17 +48,18 @@ fn push_no_name(
 
 /// The first of some flags that an enum doesn't have.
 fn wrong_flag<'t>(schema: &Schema, number: TypeId, flags: &'t str) -> &'t str {
-    for flag in flags.split(' ') {
-        if schema.number_by_path(number, flag).is_none() {
-            return flag;
-        }
-    }
     flags
+        .split(' ')
+        .find(|flag| schema.number_by_path(number, flag).is_none())
+        .unwrap_or(flags)
 }
 
 /// Whether flags are separated by something else than one space.
 fn is_parted_wrongly(flag: &str) -> bool {
-    flag.is_empty() || flag.as_bytes().find_byteset(b"|,;+\t").is_some()
+    flag.is_empty()
+        || flag
+            .bytes()
+            .any(|byte| matches!(byte, b'|' | b',' | b';' | b'+' | b'\t'))
 }
 
 /// Adds that an enum has no value of a name, or which of several flags it doesn't have.
@@ -108,10 +108,9 @@ pub(crate) fn push_unknown_name(
 
 /// Whether a name is that of no field in use of a type.
 pub(crate) fn is_unknown(schema: &Schema, owner: TypeId, name: &str) -> bool {
-    match schema.field_by_name(owner, name) {
-        Some(field) => field.deprecated,
-        None => true,
-    }
+    schema
+        .field_by_name(owner, name)
+        .map_or(true, |field| field.deprecated)
 }
 
 /// Adds that a type has no field of a name.

@@ -15,14 +15,11 @@ fn push_advice(page: &mut Page, front: &str, advice: &str) {
 
 /// Adds that a number has a fraction: of zeros alone, or another one.
 fn push_fraction(page: &mut Page, whole: &str, fraction: &str) {
-    if !fraction.trim_start_matches('0').is_empty() {
+    if fraction.bytes().any(|byte| byte != b'0') {
         page.push_line(" has a fraction, and numbers are whole here");
         return;
     }
-    let whole = match whole {
-        "-0" => "0",
-        _ => whole,
-    };
+    let whole = if whole == "-0" { "0" } else { whole };
     push_advice(page, " is written with a fraction: write ", whole);
 }
 
@@ -37,9 +34,7 @@ pub(crate) fn push_not_whole(page: &mut Page, token: &str) {
     }
     match token.split_once('.') {
         Some((whole, fraction)) => push_fraction(page, whole, fraction),
-        None if matches!(token, "-0") => page.push_line(
-            " isn't written as a whole number: write 0",
-        ),
+        None if token == "-0" => page.push_line(" isn't written as a whole number: write 0"),
         None if token.starts_with('-') => {
             push_advice(
                 page,

@@ -16,6 +16,16 @@ pub(crate) struct Found {
     pub(crate) is_there: bool,
 }
 
+/// What a JSON text has where a rule is broken.
+#[derive(Clone, Copy)]
+pub(crate) struct BrokenValue<'t> {
+    /// The text from the value on, or from the object that lacks it.
+    pub(crate) text: &'t str,
+    /// Whether the value is there.
+    pub(crate) is_there: bool,
+    pub(crate) is_element: bool,
+}
+
 /// The number, word or text at the front.
 fn token_of(text: &str) -> &str {
     match text.strip_prefix('"') {
@@ -116,10 +126,7 @@ fn push_missing(
 ) {
     page.push_cut(type_name(layout.schema(), place.owner).as_bytes());
     page.push_str(" needs the field ");
-    page.push_name(match field {
-        Some(field) => field.name.as_bytes(),
-        None => b"?",
-    });
+    page.push_name(field.map_or("?", |field| field.name.as_str()).as_bytes());
     page.push_line(rest);
 }
 
@@ -129,22 +136,22 @@ fn push_limit(page: &mut Page, front: &str, most: u64, rest: &str) {
     page.push_line(rest);
 }
 
-/// Adds the rule that a value breaks, and ends the line.
+/// Adds the rule that a value breaks, and ends the line. `name` is that of an unknown member.
 pub(crate) fn push_rule(
     page: &mut Page,
     layout: &Layout,
     limits: Limits,
-    (text, is_there): (&str, bool),
     fault: JsonFault,
+    value: BrokenValue<'_>,
     name: Option<&str>,
-    is_element: bool,
 ) {
     let Some(place) = fault.place() else {
         return;
     };
     let field = field_of(layout.schema(), place);
+    let text = value.text;
     match fault {
-        JsonFault::WrongShape(_) => push_wrong_shape(page, layout, text, field, is_element),
+        JsonFault::WrongShape(_) => push_wrong_shape(page, layout, text, field, value.is_element),
         JsonFault::NotWhole(_) => push_not_whole(page, token_of(text)),
         JsonFault::OutOfRange(_) => push_out_of_range(page, layout, text, field),
         JsonFault::UnknownName(_) => push_unknown_name(
@@ -169,7 +176,7 @@ pub(crate) fn push_rule(
             field,
             ": it is required",
         ),
-        JsonFault::UnionMismatch(_) => push_half(page, layout.schema(), place, is_there),
+        JsonFault::UnionMismatch(_) => push_half(page, layout.schema(), place, value.is_there),
         JsonFault::TooDeep(_) => push_limit(
             page,
             "tables are nested deeper than ",

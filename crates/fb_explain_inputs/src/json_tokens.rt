@@ -1,18 +1,8 @@
 //! The texts, numbers and words of JSON, and what is wrong with one.
 use crate::json_places::rest_of;
-use bstr::ByteSlice;
 use fb_explain_words::words::{WORD_BYTES, front_len};
 
 const DIGITS: &[u8] = b"0123456789";
-
-const HEX_DIGITS: &[u8] = b"0123456789ABCDEFabcdef";
-
-/// The bytes of numbers, also of wrong ones.
-const NUMBER_BYTES: &[u8] = b"+-.0123456789ABCDEFGHIJKLMNOPQRSTUVWXYZ_abcdefghijklmnopqrstuvwxyz";
-
-/// What ends a text or may not be in it as it is: its quote, a backslash, control characters.
-const NOT_PLAIN: &[u8] = b"\"\\\x00\x01\x02\x03\x04\x05\x06\x07\x08\t\n\x0b\x0c\r\x0e\x0f\
-\x10\x11\x12\x13\x14\x15\x16\x17\x18\x19\x1a\x1b\x1c\x1d\x1e\x1f";
 
 /// Where a text stops being JSON, and what its writer has to know of that place.
 #[derive(Clone, Copy)]
@@ -30,7 +20,7 @@ impl Flaw {
 /// The number of four hexadecimal digits.
 fn unit_at(text: &str, at: usize) -> Option<u32> {
     let digits = text.get(at..at.saturating_add(4))?;
-    if front_len(digits.as_bytes(), HEX_DIGITS) < digits.len() {
+    if !digits.bytes().all(|byte| byte.is_ascii_hexdigit()) {
         return None;
     }
     u32::from_str_radix(digits, 16).ok()
@@ -92,7 +82,11 @@ pub(crate) fn string_end(text: &str, quote: usize) -> Result<usize, Flaw> {
     let mut at = quote.saturating_add(1);
     for _ in 0..text.len() {
         let rest = rest_of(text, at).as_bytes();
-        at = at.saturating_add(rest.find_byteset(NOT_PLAIN).unwrap_or(rest.len()));
+        // A text goes on up to its quote, a backslash or a control character.
+        let plain = rest
+            .iter()
+            .position(|byte| matches!(byte, b'"' | b'\\' | 0..=31));
+        at = at.saturating_add(plain.unwrap_or(rest.len()));
         match text.as_bytes().get(at) {
             Some(b'"') => return Ok(at.saturating_add(1)),
             Some(b'\\') => at = at.saturating_add(escape_len(text, at)?),
@@ -103,10 +97,15 @@ pub(crate) fn string_end(text: &str, quote: usize) -> Result<usize, Flaw> {
     Err(Flaw::at(text.len(), "this text has no closing quote"))
 }
 
+/// Whether a byte may be in a number, also in a wrong one.
+fn is_of_number(byte: u8) -> bool {
+    byte.is_ascii_alphanumeric() || matches!(byte, b'+' | b'-' | b'.' | b'_')
+}
+
 /// The number at the front, also a wrong one, or the word.
 pub(crate) fn number_of(text: &str) -> &str {
-    text.get(..front_len(text.as_bytes(), NUMBER_BYTES))
-        .unwrap_or(text)
+    let end = text.bytes().position(|byte| !is_of_number(byte));
+    text.get(..end.unwrap_or(text.len())).unwrap_or(text)
 }
 
 /// What is wrong with a number behind its point and its exponent's sign.
@@ -178,26 +177,16 @@ pub(crate) fn number_end(text: &str, at: usize) -> Result<usize, Flaw> {
     }
 }
 
-const WORDS: &[&str] = &["true", "false", "null"];
-
-const WITH_CAPITALS: &[&str] = &["True", "False", "Null", "TRUE", "FALSE", "NULL"];
-
-const ABSENT: &[&str] = &["None", "nil", "undefined"];
-
-const NOT_FINITE: &[&str] = &["NaN", "nan", "Infinity", "inf"];
-
 /// What is wrong with a word.
 fn word_sentence(word: &str) -> Option<&'static str> {
-    if WORDS.contains(&word) {
-        None
-    } else if WITH_CAPITALS.contains(&word) {
-        Some("true, false and null are written in small letters")
-    } else if ABSENT.contains(&word) {
-        Some("what is absent is written null")
-    } else if NOT_FINITE.contains(&word) {
-        Some("JSON has no NaN and no Infinity")
-    } else {
-        Some("a word may only be true, false or null; a text is written in double quotes")
+    match word {
+        "true" | "false" | "null" => None,
+        "True" | "False" | "Null" | "TRUE" | "FALSE" | "NULL" => {
+            Some("true, false and null are written in small letters")
+        }
+        "None" | "nil" | "undefined" => Some("what is absent is written null"),
+        "NaN" | "nan" | "Infinity" | "inf" => Some("JSON has no NaN and no Infinity"),
+        _ => Some("a word may only be true, false or null; a text is written in double quotes"),
     }
 }
 

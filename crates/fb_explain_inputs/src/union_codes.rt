@@ -56,7 +56,7 @@ pub fn push_unnamed_member(page: &mut Page, layout: &Layout, sources: &Sources<'
     found.steps.as_mut_slice().reverse();
     page.push_str(sources.input.path);
     page.push_str(": ");
-    let _is_root = push_path(page, layout, found.steps.as_slice());
+    push_path(page, layout, found.steps.as_slice());
     page.push_str(": the union's code ");
     page.push_number(u64::from(found.code));
     page.push_str(" is one that the schema doesn't have");
