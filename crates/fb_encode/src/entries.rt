@@ -20,6 +20,7 @@ use crate::elements::drop_number;
 use crate::parts::{note_object, note_part};
 use fb_build::{Noting, is_default};
 use fb_json::{JsonFault, Place, Room, Source, is_null, number_of, struct_parts, without};
+use fb_layout::layout_is_well_made;
 use fb_schema::{FieldInfo, Kind, Shape, TypeId};
 use fb_tape::OpenFields;
 use fb_value::Value;
@@ -96,7 +97,7 @@ fn note_member(
     ensures refused { IfErr result (λ e. Fails e (present_given source.entry.layout.now source.entry.unknown
         slot.entry (tree_view tree.now) levels left)) }
 {
-    let _schema = source.layout.schema(); // its contract: the code has the slot before
+    layout_is_well_made(source.layout);
     let place = slot.place();
     let Some(table) = source.layout.schema().member_by_code(union, slot.code) else {
         return Err(JsonFault::UnionMismatch(place));
@@ -220,7 +221,7 @@ fn note_present(
     ensures refused { IfErr result (λ e. Fails e (present_given source.entry.layout.now source.entry.unknown
         slot.entry (tree_view tree.now) levels left)) }
 {
-    let _schema = source.layout.schema(); // its contract: the layout is well made
+    layout_is_well_made(source.layout);
     match stored_as(slot.field.shape) {
         Stored::WithItsValue => Ok(left),
         Stored::Inline(kind) => {

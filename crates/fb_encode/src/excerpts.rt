@@ -142,12 +142,9 @@ fn note_in_brackets(
     text_is_read_without_brackets();
     let read = walk.reader.read(excerpt)?;
     let Some(tree) = innermost(&read, MOST_BRACKETS - excerpt.brackets) else {
-        drop(read);
         return Err(Unread::Piece);
     };
-    let noted = note_part(source, &mut walk.noting, tree, shape, place, levels, left);
-    drop(read);
-    unless_memory(noted)
+    unless_memory(note_part(source, &mut walk.noting, tree, shape, place, levels, left))
 }
 
 /// Notes what a string gives for a reference of this shape, and returns the cells that are left, or its fault.
@@ -168,7 +165,5 @@ fn note_string(
     ensures opened { IfOk result (λ found. OnOk found (noting.new.opened ≡ noting.old.opened)) }
 {
     let tree = Json::String(String::from_str(source.alloc, text)?);
-    let noted = note_part(source, noting, &tree, shape, place, levels, left);
-    drop(tree);
-    unless_memory(noted)
+    unless_memory(note_part(source, noting, &tree, shape, place, levels, left))
 }

@@ -113,12 +113,9 @@ fn push_run(
     let brackets = MOST_BRACKETS - array.brackets;
     let read = walk.reader.read_in_brackets(text, brackets + 1)?;
     let Some(trees) = innermost_elements(&read, brackets) else {
-        drop(read);
         return Err(Unread::Piece);
     };
-    let added = push_trees(source, &mut walk.noting.tape, trees, elements, found);
-    drop(read);
-    added
+    push_trees(source, &mut walk.noting.tape, trees, elements, found)
 }
 
 /// Adds elements that are trees to the vector that was begun. Behind a fault they are only counted.

@@ -25,6 +25,7 @@ use crate::excerpts::{TextWalk, note_at_once, note_excerpt};
 use crate::reader::{Excerpt, MOST_BRACKETS, Unread, innermost};
 use crate::slot_texts::{SlotTexts, pass_by_text, texts_by_slot};
 use fb_json::{JsonFault, Place, Source, code_of_slot, is_absent};
+use fb_layout::layout_is_well_made;
 use fb_pieces::{
     Cuts, Member, cut_object, cut_object_is_read, cut_object_is_utf8, leading_blanks,
     text_is_read_without_brackets,
@@ -115,7 +116,7 @@ pub(crate) fn note_members(
         let shape = Shape::One(Kind::Table(owner));
         return note_at_once(source, walk, excerpt, shape, place, levels, left);
     };
-    let _schema = source.layout.schema(); // its contract: the layout is well made
+    layout_is_well_made(source.layout);
     let slots = source.layout.slots_of(owner);
     let SlotTexts { texts, known } = texts_by_slot(
         source,
@@ -171,7 +172,7 @@ fn note_next(
         → seen (field_seen slot.entry.field.now).name ≡ text_found L source.entry.unknown text.entry)
         → IfOk result (IsNextNoted L seen slot.entry (levels - 1) found walk.old.noting walk.new.noting) }
 {
-    let _schema = source.layout.schema(); // its contract: the layout is well made
+    layout_is_well_made(source.layout);
     let behind = match found {
         Ok(behind) => behind,
         Err(fault) => {
@@ -191,12 +192,9 @@ fn note_next(
     text_is_read_without_brackets();
     let read = walk.reader.read(text)?;
     let Some(tree) = innermost(&read, MOST_BRACKETS - text.brackets) else {
-        drop(read);
         return Err(Unread::Piece);
     };
-    let noted = note_tree(source, walk, slot, Some(tree), behind, levels);
-    drop(read);
-    noted
+    note_tree(source, walk, slot, Some(tree), behind, levels)
 }
 
 /// Whether what a slot of this shape names may be read in pieces.

@@ -140,10 +140,8 @@ impl Reader {
         text_is_read_without_brackets();
         let read = self.read(excerpt)?;
         let Some(_tree) = innermost(&read, MOST_BRACKETS - excerpt.brackets) else {
-            drop(read);
             return Err(Unread::Piece);
         };
-        drop(read);
         Ok(())
     }
 }

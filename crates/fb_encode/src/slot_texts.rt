@@ -15,6 +15,7 @@ ghost use Rattle.fb_encode.specs.TextsRead.{IsRead, IsReadAs};
 
 use crate::reader::{Excerpt, Reader, Unread};
 use fb_json::{JsonFault, Place, Source};
+use fb_layout::layout_is_well_made;
 use fb_pieces::{Member, Piece};
 use fb_schema::{FieldInfo, TypeId};
 use std::alloc::{AllocError, Global};
@@ -57,7 +58,7 @@ pub(crate) fn texts_by_slot<'t>(
         (source.entry.unknown || names_known (body_at L.schema owner.0) (object_read (excerpt.entry.brackets - 1)
         (map (member_texts excerpt.entry.text.now) members.now))) (type_place owner.0)) }
 {
-    let _schema = source.layout.schema(); // its contract: the layout is well made
+    layout_is_well_made(source.layout);
     let mut texts = no_texts(source.alloc, slots.len())?;
     let mut known = Ok(());
     for member in members {

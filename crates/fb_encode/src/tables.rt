@@ -10,6 +10,7 @@ ghost use Rattle.fb_encode.specs.TreesNoted.{IsNoted};
 use crate::entries::{SlotRead, note_slot};
 use fb_build::Noting;
 use fb_json::{JsonFault, Place, SlotMembers, Source, code_of_slot, is_absent, members_by_slot};
+use fb_layout::layout_is_well_made;
 use fb_schema::TypeId;
 use serde_json::{Map, Value as Json};
 
@@ -42,7 +43,7 @@ pub(crate) fn note_table(
     if left == 0 {
         return Err(JsonFault::TooManyCells(place));
     }
-    let _schema = source.layout.schema(); // its contract: the layout is well made
+    layout_is_well_made(source.layout);
     let slots = source.layout.slots_of(owner);
     let mut trees = SlotMembers::new(source.alloc);
     members_by_slot(source, owner, slots, members, &mut trees)?;

@@ -115,12 +115,9 @@ fn note_at_once<'l>(source: Source<'l>, json: &[u8], limits: Limits) -> Result<T
         }
     };
     let Ok(noting) = Noting::with_capacity(source.alloc, source.layout) else {
-        drop(tree);
         return Err(TextFault::Memory);
     };
-    let noted = note_root(source, noting, &tree, limits);
-    drop(tree);
-    match noted {
+    match note_root(source, noting, &tree, limits) {
         Ok(tape) => Ok(tape),
         Err(fault) => Err(TextFault::Encode(EncodeFault::Json(fault))),
     }
@@ -215,6 +212,7 @@ pub fn encode_owned_text(
         unknown,
     };
     let noted = note_text(source, json.as_slice(), limits, piece);
+    // Its memory is free before that of the buffer is allocated.
     drop(json);
     lay_text(alloc, layout, noted, prefixed)
 }

@@ -151,12 +151,9 @@ fn note_run(
     let brackets = MOST_BRACKETS - array.brackets;
     let read = walk.reader.read_in_brackets(text, brackets + 1)?;
     let Some(trees) = innermost_elements(&read, brackets) else {
-        drop(read);
         return Err(Unread::Piece);
     };
-    let noted = note_trees(source, &mut walk.noting, trees, elements, found);
-    drop(read);
-    noted
+    note_trees(source, &mut walk.noting, trees, elements, found)
 }
 
 /// Notes a long element of a vector, behind what was found before. Behind a fault it is only read.

@@ -6,7 +6,6 @@ use fb_json::{JsonFault, Place};
 use fb_schema::TypeId;
 use fb_text::{TextFault, WriteFault};
 use fb_value::ReadFault;
-use std::fmt;
 use thiserror::Error;
 
 /// The refusal of the first layer that refuses.
@@ -14,7 +13,7 @@ use thiserror::Error;
 /// `FileRead`, `FileWrite` and `FileTooLong` are of files, `BadJson` are bytes that are no JSON text,
 /// and `Memory` is an allocation that was refused while a file or a JSON text was read, or names of two
 /// schemas were compared.
-#[derive(Clone, Copy, Drop, Error)]
+#[derive(Clone, Copy, Debug, PartialEq, Eq, Drop, Error)]
 pub enum ToolFault {
     #[error(transparent)]
     Schema(SchemaTextFault),
@@ -155,12 +154,5 @@ impl ToolFault {
             ToolFault::Write(fault) => fault.written(),
             _ => None,
         }
-    }
-}
-
-// The sentence: a derived one takes the prover a step for each variant.
-impl fmt::Debug for ToolFault {
-    fn fmt<W: fmt::Write>(&self, f: &mut fmt::Formatter<W>) -> fmt::Result {
-        fmt::Display::fmt(self, f)
     }
 }

@@ -9,19 +9,15 @@ use std::alloc::{AllocError, Global};
 
 const COLUMNS: usize = 120;
 
-fn are_printable(bytes: &[u8]) -> bool {
-    for byte in bytes {
-        if !byte.is_ascii_graphic() && *byte != b' ' {
-            return false;
-        }
-    }
-    true
-}
-
 /// Adds the bytes of an identifier where they are printable.
 fn push_identifier(page: &mut Page, bytes: &[u8], at: usize) {
     match bytes.get(at..at.saturating_add(4)) {
-        Some(identifier) if are_printable(identifier) => page.push_name(identifier),
+        Some(identifier)
+            if identifier
+                .iter()
+                .all(|byte| byte.is_ascii_graphic() || *byte == b' ') => {
+            page.push_name(identifier)
+        }
         _ => page.push_str("none"),
     }
     page.end_line();
@@ -34,19 +30,17 @@ fn may_be_root(bytes: &[u8], at: usize) -> bool {
     offset >= 4 && target % 4 == 0 && target.saturating_add(4) <= bytes.len()
 }
 
-/// Whether the first four bytes count those behind them, which begin with the offset of a root.
+/// Whether the first four bytes count those after them, which begin with the offset of a root.
 fn looks_prefixed(bytes: &[u8]) -> bool {
-    match bytes.len().checked_sub(4) {
-        Some(rest) => u32_within(bytes, 0) as usize == rest && may_be_root(bytes, 4),
-        None => false,
-    }
+    bytes.len().checked_sub(4).is_some_and(|rest| u32_within(bytes, 0) as usize == rest
+        && may_be_root(bytes, 4))
 }
 
 /// What the header of a buffer says, in four lines: the length in bytes, the offset of the root, the file
 /// identifier, and whether the buffer looks size-prefixed.
 ///
 /// An identifier is optional, so four bytes that look like one may be another part of the buffer. The offset
-/// and the identifier are those behind the count where the buffer looks size-prefixed.
+/// and the identifier are those after the count where the buffer looks size-prefixed.
 pub fn header_lines(alloc: Global, bytes: &[u8]) -> Result<String, AllocError>
     ensures plain { IfOk result (λ text. IsPage (chars (string_bytes text))) }
 {

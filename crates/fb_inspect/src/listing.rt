@@ -28,6 +28,7 @@ const AT_A_TIME: u32 = 64;
 /// What the bytes of a buffer are, in their order.
 ///
 /// Each part is listed once for each type that it is reached as, however many references lead to it.
+#[derive(Drop)]
 pub struct Listing<'a> {
     alloc: Global,
     layout: &'a Layout,
@@ -46,26 +47,6 @@ pub struct Listing<'a> {
     vtable: Option<u32>,
     // each byte is in a piece
     ghost whole: { ∥ CoversBelow pieces.items (min (length bytes.now) 4294967295) ∥₁ },
-}
-
-// Written out, so that a proof has one step where a value falls out of scope, and not one for each of its parts.
-impl Drop for Listing<'_> {
-    fn drop(self) {
-        let Self {
-            alloc: _,
-            layout: _,
-            bytes: _,
-            nodes: _,
-            pieces: _,
-            fault: _,
-            way_back: _,
-            has_path: _,
-            next: _,
-            detail: _,
-            covered: _,
-            vtable: _,
-        } = self;
-    }
 }
 
 /// Notes the pieces of a buffer's front: a count, the reference to the root, and the identifier.
@@ -208,7 +189,7 @@ impl<'a> Listing<'a> {
         }
     }
 
-    /// The next lines; None behind the last ones.
+    /// The next lines; None after the last ones.
     pub fn next_lines(&mut self) -> Result<Option<String>, AllocError>
         ensures plain { IfOk result (λ lines. IfSome lines (λ text. IsPage (chars (string_bytes text)))) }
     {
@@ -225,10 +206,7 @@ impl<'a> Listing<'a> {
 
     /// Whether a piece begins before one above it ends. Tables of several types may have one vtable.
     fn overlaps(&self, piece: &Piece) -> bool {
-        let is_again = match self.vtable {
-            Some(start) => matches!(piece.what, What::Vtable) && start == piece.start,
-            None => false,
-        };
+        let is_again = matches!(piece.what, What::Vtable) && self.vtable == Some(piece.start);
         piece.start < self.covered && !is_again
     }
 
@@ -258,7 +236,7 @@ impl<'a> Listing<'a> {
         }
     }
 
-    /// Adds the next of a piece's details, and goes on to the next piece behind the last one.
+    /// Adds the next of a piece's details, and goes on to the next piece after the last one.
     fn push_details(&mut self, page: &mut Page, piece: &Piece) {
         let count = details_of(self.scene(), piece);
         for _ in 0..AT_A_TIME {

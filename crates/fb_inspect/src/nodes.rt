@@ -2,7 +2,7 @@
 use fb_index::HashKey;
 use fb_read::{Part, Step};
 use fb_schema::{Kind, TypeId};
-use indexmap::IndexMap;
+use indexmap::IndexSet;
 use std::alloc::{AllocError, Global};
 
 /// What a part is reached as.
@@ -76,10 +76,7 @@ impl Nodes {
 
     /// The number of what is known of a part's visit.
     pub(crate) fn visit_of(&self, number: u32) -> Option<usize> {
-        match self.nodes.get(number as usize) {
-            Some(node) => node.visit,
-            None => None,
-        }
+        self.nodes.get(number as usize)?.visit
     }
 
     /// A part by its number.
@@ -95,9 +92,7 @@ impl Nodes {
         last: Step,
     ) -> Result<Vec<Step>, AllocError> {
         let mut steps = Vec::new(alloc);
-        if steps.push(last).is_err() {
-            return Err(AllocError);
-        }
+        steps.push(last)?;
         let mut number = number;
         for _ in 0..MOST_STEPS {
             let Some(node) = self.get(number) else {
@@ -106,9 +101,7 @@ impl Nodes {
             if node.parent == number {
                 return Ok(steps);
             }
-            if steps.push(self.step_to(&node)).is_err() {
-                return Err(AllocError);
-            }
+            steps.push(self.step_to(&node))?;
             number = node.parent;
         }
         Ok(steps)
@@ -129,23 +122,17 @@ impl Nodes {
 }
 
 /// The parts that a walk has reached so far, and how one is found again.
+#[derive(Drop)]
 pub(crate) struct Reached {
-    keys: IndexMap<(u32, (u8, u64)), (), HashKey>,
+    keys: IndexSet<(u32, (u8, u64)), HashKey>,
     pub nodes: Nodes,
-}
-
-// Written out, so that a proof has one step where a value falls out of scope, and not one for each of its parts.
-impl Drop for Reached {
-    fn drop(self) {
-        let Self { keys: _, nodes: _ } = self;
-    }
 }
 
 impl Reached {
     /// None yet; the key is that of a hash of positions.
     pub(crate) fn new(alloc: Global, key: HashKey) -> Reached {
         Reached {
-            keys: IndexMap::with_hasher(alloc, key),
+            keys: IndexSet::with_hasher(alloc, key),
             nodes: Nodes {
                 nodes: Vec::new(alloc),
             },
@@ -170,10 +157,7 @@ impl Reached {
         counts: bool,
     ) -> Result<(u32, bool), AllocError> {
         let (parent, number) = from;
-        let Ok((index, known)) = self.keys.insert_full((at, lead.key()), ()) else {
-            return Err(AllocError);
-        };
-        let is_new = known.is_none();
+        let (index, is_new) = self.keys.insert_full((at, lead.key()))?;
         if is_new {
             let node = Node {
                 lead,
@@ -183,15 +167,11 @@ impl Reached {
                 references: 1,
                 visit: None,
             };
-            if self.nodes.nodes.push(node).is_err() {
-                return Err(AllocError);
-            }
+            self.nodes.nodes.push(node)?;
         } else if counts && let Some(node) = self.nodes.nodes.get_mut(index) {
             node.references = node.references.saturating_add(1);
         }
-        match u32::try_from(index) {
-            Ok(number) => Ok((number, is_new)),
-            Err(_) => Err(AllocError),
-        }
+        let number = u32::try_from(index).map_err(|_| AllocError)?;
+        Ok((number, is_new))
     }
 }

@@ -198,23 +198,15 @@ fn push_front(page: &mut Page, scene: Scene<'_>, piece: &Piece) {
     }
 }
 
-fn are_zeros(bytes: &[u8]) -> bool {
-    for byte in bytes {
-        if *byte != 0 {
-            return false;
-        }
-    }
-    true
-}
-
 /// What is said of bytes that nothing refers to.
 fn gap_words(scene: Scene<'_>, piece: &Piece, is_whole: bool) -> &'static str {
     let bytes = scene
         .bytes
         .get(piece.start as usize..piece.end as usize)
         .unwrap_or(&[]);
+    let are_zeros = bytes.iter().all(|byte| *byte == 0);
     let is_short = bytes.len() < scene.layout.greatest() as usize;
-    match (is_short && are_zeros(bytes), is_whole) {
+    match (are_zeros && is_short, is_whole) {
         (true, _) => "padding",
         (false, true) => "nothing refers to these bytes",
         (false, false) => "not reached before the fault",

@@ -31,7 +31,7 @@ fn push_character(page: &mut Page, character: char) {
     }
 }
 
-/// Adds a text in quotes, and three dots behind the quotes of its front where it is long.
+/// Adds a text in quotes, and three dots after the quotes of its front where it is long.
 pub(crate) fn push_text(page: &mut Page, text: &str) {
     page.push_str("\"");
     let mut left = LONGEST_TEXT;
@@ -48,10 +48,10 @@ pub(crate) fn push_text(page: &mut Page, text: &str) {
 
 /// Whether an enum's values are flags.
 fn has_flags(schema: &Schema, enumeration: TypeId) -> bool {
-    match schema.types().get(enumeration.0 as usize) {
-        Some(info) => matches!(info.body.as_enum(), Some((_, true, _))),
-        None => false,
-    }
+    schema
+        .types()
+        .get(enumeration.0 as usize)
+        .is_some_and(|info| matches!(info.body.as_enum(), Some((_, true, _))))
 }
 
 /// The bits of a number, up to 64 of them; a negative one has none here.

@@ -45,6 +45,19 @@ impl Content for Printed<'_> {
     }
 }
 
+/// A batch, and the form of its buffers and JSON texts.
+#[derive(Clone, Copy)]
+struct FormedBatch<'j> {
+    batch: &'j Batch,
+    form: Form,
+}
+
+impl FormedBatch<'_> {
+    fn flags(&self) -> Flags {
+        Flags::of_task(&self.batch.task, self.form)
+    }
+}
+
 fn job_name(task: &Task) -> &'static str {
     match task {
         Task::Binary { .. } => "binary",
@@ -92,7 +105,7 @@ fn write_text<'j>(
 /// Does the task at one file.
 fn do_file<'j>(
     rt: &HostRuntime,
-    (task, form): (&Task, Form),
+    formed: FormedBatch<'_>,
     layout: &Layout,
     texts: &mut Texts<'j>,
     file: &'j str,
@@ -100,8 +113,8 @@ fn do_file<'j>(
 ) -> Result<(), ToolFault> {
     texts.forget(rt);
     texts.read_input(rt, file).map_err(read_fault)?;
-    let flags = Flags::of_task(task, form);
-    match (task, target) {
+    let flags = formed.flags();
+    match (&formed.batch.task, target) {
         (Task::Check { .. }, _) => verified(layout, texts.input.bytes.as_slice(), flags),
         (Task::Binary { .. }, Some(target)) => write_buffer(rt, layout, texts, target, flags),
         (Task::Json { .. }, Some(target)) => write_text(rt, layout, texts, target, flags),
@@ -162,34 +175,27 @@ fn tell_path(rt: &HostRuntime, file: &str) {
     let _colon = err.write_all(b": ");
 }
 
-/// Does the task at each file in turn. A refusal is reported behind the file's path, and the others
+/// Does the task at each file in turn. A refusal is reported after the file's path, and the others
 /// go on. The status is 1 where one was refused.
 fn do_files<'j>(
     rt: &HostRuntime,
-    (batch, form): (&'j Batch, Form),
+    formed: FormedBatch<'j>,
     targets: &'j [Target],
     layout: &Layout,
     texts: &mut Texts<'j>,
     explained: bool,
 ) -> u8 {
+    let batch = formed.batch;
     let mut status = RunStatus::new();
     let mut progress = Progress::new(rt, batch.files.len());
     for (at, file) in batch.files.iter().enumerate() {
         progress.show(rt, at);
-        let answer = do_file(
-            rt,
-            (&batch.task, form),
-            layout,
-            texts,
-            file.as_str(),
-            targets.get(at),
-        );
+        let answer = do_file(rt, formed, layout, texts, file.as_str(), targets.get(at));
         status.note(answer.is_ok());
         if let Err(fault) = answer {
             progress.clear(rt);
             tell_path(rt, file.as_str());
-            let flags = Flags::of_task(&batch.task, form);
-            let _refused = refuse(rt, flags, texts, fault, explained);
+            let _refused = refuse(rt, formed.flags(), texts, fault, explained);
         }
     }
     progress.clear(rt);
@@ -207,17 +213,14 @@ fn end_of(rt: &HostRuntime, task: &Task, status: u8) -> u8 {
 /// Does a batch whose outputs are known, and returns the status.
 fn do_all<'j>(
     rt: &HostRuntime,
-    (batch, form): (&'j Batch, Form),
+    formed: FormedBatch<'j>,
     targets: &'j [Target],
     explained: bool,
 ) -> u8 {
     let mut texts = Texts::new(rt, explained);
-    match batch_layout(rt, batch, &mut texts) {
-        Ok(layout) => do_files(rt, (batch, form), targets, &layout, &mut texts, explained),
-        Err(fault) => {
-            let flags = Flags::of_task(&batch.task, form);
-            refuse(rt, flags, &mut texts, fault, explained)
-        }
+    match batch_layout(rt, formed.batch, &mut texts) {
+        Ok(layout) => do_files(rt, formed, targets, &layout, &mut texts, explained),
+        Err(fault) => refuse(rt, formed.flags(), &mut texts, fault, explained),
     }
 }
 
@@ -229,7 +232,10 @@ pub(crate) fn do_batch(
     explained: bool,
 ) -> Result<u8, Error> {
     match targets_of(rt, batch) {
-        Ok(targets) => Ok(do_all(rt, (batch, form), targets.as_slice(), explained)),
+        Ok(targets) => {
+            let formed = FormedBatch { batch, form };
+            Ok(do_all(rt, formed, targets.as_slice(), explained))
+        }
         Err(Misuse::Memory) => Err(Error::from(AllocError)),
         Err(Misuse::Said(said)) => Err(usage_error(
             rt.alloc(),

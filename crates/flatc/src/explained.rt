@@ -18,13 +18,10 @@ fn source_of<'a>(input: &'a Input<'_>) -> Source<'a> {
 }
 
 fn file_failure<'x>(texts: &'x Texts<'x>) -> Option<FileFailure<'x>> {
-    match &texts.failure {
-        Some(failure) => Some(FileFailure {
-            path: failure.path,
-            reason: failure.reason.as_str(),
-        }),
-        None => None,
-    }
+    texts.failure.as_ref().map(|failure| FileFailure {
+        path: failure.path,
+        reason: failure.reason.as_str(),
+    })
 }
 
 /// Whether an explanation quotes a JSON text, which was given away.
@@ -116,11 +113,7 @@ pub(crate) fn list_numbers(rt: &HostRuntime) -> u8 {
 
 /// Prints what a number of a refusal means, and returns the status.
 pub(crate) fn explain_number(rt: &HostRuntime, number: &str) -> u8 {
-    let page = match number.parse::<u8>() {
-        Ok(number) => fault_page(number),
-        Err(_) => None,
-    };
-    match page {
+    match number.parse::<u8>().ok().and_then(fault_page) {
         Some(page) => match println!(rt; "{page}") {
             Ok(()) => 0,
             Err(_) => 1,

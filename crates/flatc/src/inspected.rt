@@ -38,9 +38,7 @@ fn print_lines<W: Write>(
     let mut lines = String::new(rt.alloc());
     let mut written = 0;
     for _ in 0..u64::MAX {
-        let Ok(next) = listing.next_lines() else {
-            return Err(ToolFault::Memory);
-        };
+        let next = listing.next_lines().map_err(|_| ToolFault::Memory)?;
         let is_last = next.is_none();
         if let Some(text) = next
             && lines.push_str(text.as_str()).is_err()
@@ -65,29 +63,28 @@ fn print_listing<W: Write>(
     rt: &HostRuntime,
     layout: &Layout,
     bytes: &[u8],
-    raw: bool,
-    size_prefixed: bool,
+    flags: Flags,
     out: &mut W,
 ) -> Result<Option<ReadFault>, ToolFault> {
-    let Ok(mut listing) = Listing::of(rt.alloc(), layout, bytes, limits(), raw, size_prefixed)
-    else {
-        return Err(ToolFault::Memory);
-    };
+    let raw = flags.raw_binary;
+    let prefixed = flags.form.size_prefixed;
+    let mut listing = Listing::of(rt.alloc(), layout, bytes, limits(), raw, prefixed).map_err(
+        |_| ToolFault::Memory,
+    )?;
     print_lines(rt, &mut listing, out)?;
     Ok(listing.fault())
 }
 
-/// Prints what the bytes of the input are, and returns their fault behind the lines.
+/// Prints what the bytes of the input are, and returns their fault after the lines.
 fn print_input(
     rt: &HostRuntime,
     layout: &Layout,
     texts: &mut Texts<'_>,
-    raw: bool,
-    size_prefixed: bool,
+    flags: Flags,
 ) -> Result<(), ToolFault> {
     let bytes = texts.input.bytes.as_slice();
     let mut out = Reasoned::over(rt.stdout());
-    let printed = print_listing(rt, layout, bytes, raw, size_prefixed, &mut out);
+    let printed = print_listing(rt, layout, bytes, flags, &mut out);
     if let Some(error) = out.into_reason() {
         texts.fail(rt, "standard output", &error);
     }
@@ -104,12 +101,11 @@ fn inspect_file<'j>(
     rt: &HostRuntime,
     texts: &mut Texts<'j>,
     paths: [&'j str; 2],
-    raw: bool,
-    size_prefixed: bool,
+    flags: Flags,
 ) -> Result<(), ToolFault> {
     read_both(rt, texts, paths)?;
     let layout = layout_of(rt, texts)?;
-    print_input(rt, &layout, texts, raw, size_prefixed)
+    print_input(rt, &layout, texts, flags)
 }
 
 /// Prints what the header of a file says, without a schema.
@@ -119,9 +115,9 @@ fn inspect_header<'j>(
     path: &'j str,
 ) -> Result<(), ToolFault> {
     texts.read_input(rt, path).map_err(read_fault)?;
-    let Ok(lines) = header_lines(rt.alloc(), texts.input.bytes.as_slice()) else {
-        return Err(ToolFault::Memory);
-    };
+    let lines = header_lines(rt.alloc(), texts.input.bytes.as_slice()).map_err(
+        |_| ToolFault::Memory,
+    )?;
     let mut out = Reasoned::over(rt.stdout());
     let mut written = 0;
     let is_sent = send(&mut out, lines.as_bytes(), &mut written);
@@ -137,19 +133,14 @@ fn inspect_header<'j>(
 
 /// Shows what the bytes of a buffer are, and returns the status.
 pub(crate) fn inspect(rt: &HostRuntime, inspection: &Inspection, is_explained: bool) -> u8 {
+    let flags = Flags::of_inspection(inspection);
     let mut texts = Texts::new(rt, is_explained);
     let answer = match inspection {
-        Inspection::Bytes {
-            schema,
-            bin,
-            raw,
-            size_prefixed,
-        } => inspect_file(
+        Inspection::Bytes { schema, bin, .. } => inspect_file(
             rt,
             &mut texts,
             [schema.as_str(), bin.as_str()],
-            *raw,
-            *size_prefixed,
+            flags,
         ),
         Inspection::Header { bin } => inspect_header(rt, &mut texts, bin.as_str()),
     };
@@ -158,7 +149,7 @@ pub(crate) fn inspect(rt: &HostRuntime, inspection: &Inspection, is_explained: b
         Err(fault) => {
             let status = tell(rt, Err(fault));
             if is_explained {
-                explain_refusal(rt, Flags::of_inspection(inspection), &mut texts, fault);
+                explain_refusal(rt, flags, &mut texts, fault);
             }
             status
         }

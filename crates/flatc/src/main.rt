@@ -73,20 +73,17 @@ fn example(alloc: Global) -> Result<String, ToolFault> {
 
 /// The layout of the schema text that was read.
 pub(crate) fn layout_of(rt: &HostRuntime, texts: &Texts<'_>) -> Result<Layout, ToolFault> {
-    match schema_of(rt.alloc(), texts.schema.bytes.as_slice()) {
-        Ok(layout) => Ok(layout),
-        Err(fault) => Err(ToolFault::Schema(fault)),
-    }
+    schema_of(rt.alloc(), texts.schema.bytes.as_slice()).map_err(ToolFault::Schema)
 }
 
 /// That a buffer holds a value.
 pub(crate) fn verified(layout: &Layout, bytes: &[u8], flags: Flags) -> Result<(), ToolFault> {
     let raw = flags.raw_binary;
     let prefixed = flags.form.size_prefixed;
-    match verify_framed(layout, bytes, limits(), raw, prefixed, &mut Entries::new()) {
-        Ok(_view) => Ok(()),
-        Err(fault) => Err(ToolFault::Read(fault)),
-    }
+    let _view = verify_framed(layout, bytes, limits(), raw, prefixed, &mut Entries::new()).map_err(
+        ToolFault::Read,
+    )?;
+    Ok(())
 }
 
 /// The buffer of the JSON text that was read.
@@ -208,10 +205,7 @@ fn do_job<'j>(
             Ok("")
         }
         Job::Check { schema, bin, .. } => {
-            let bin = match bin {
-                None => None,
-                Some(bin) => Some(bin.as_str()),
-            };
+            let bin = bin.as_ref().map(|bin| bin.as_str());
             check_files(rt, texts, schema.as_str(), bin, flags)?;
             Ok("ok\n")
         }
@@ -222,7 +216,7 @@ fn do_job<'j>(
     }
 }
 
-/// Tells that memory ran out, and returns the status.
+/// Reports that memory ran out, and returns the status.
 fn tell_memory(rt: &HostRuntime) -> u8 {
     tell(rt, Err(ToolFault::Memory))
 }
@@ -245,12 +239,12 @@ fn refuse(rt: &HostRuntime, error: &Error, words: &[String]) -> u8 {
     }
 }
 
-/// Tells why the words can't be read, and returns the status.
+/// Reports why the words can't be read, and returns the status.
 fn refuse_words(rt: &HostRuntime, error: &io::Error) -> u8 {
     if error.kind() == io::ErrorKind::OutOfMemory {
         return tell_memory(rt);
     }
-    let _told = eprint!(rt; "{NOT_UTF8}");
+    let _printed = eprint!(rt; "{NOT_UTF8}");
     USAGE
 }
 

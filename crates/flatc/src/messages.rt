@@ -59,10 +59,8 @@ fn line_of(
 ) -> Result<Vec<u8>, ToolFault> {
     let text = decode(alloc, layout, message, &flags.decode_options())?;
     let mut line = text.into_bytes();
-    match line.push(b'\n') {
-        Ok(()) => Ok(line),
-        Err(_) => Err(ToolFault::Memory),
-    }
+    line.push(b'\n').map_err(|_| ToolFault::Memory)?;
+    Ok(line)
 }
 
 /// What is written of a message; nothing where it is checked, or is a blank line.
@@ -94,7 +92,7 @@ struct Run<'s> {
     window: Window,
     is_explained: bool,
     status: RunStatus,
-    /// Whether it ended at a message, which is told already.
+    /// Whether it ended at a message, which is reported already.
     is_stopped: bool,
 }
 
@@ -106,7 +104,7 @@ impl Run<'_> {
         }
     }
 
-    /// Tells why a message is refused, behind its number.
+    /// Reports why a message is refused, after its number.
     fn refuse(&mut self, number: u64, len: usize, fault: ToolFault) {
         self.status.note(false);
         let noun = match &self.stream.task {

@@ -15,25 +15,19 @@ pub(crate) fn is_explained(rt: &HostRuntime, explaining: Explaining) -> bool {
 
 /// How many columns an explanation takes at most: COLUMNS, where that is exported and less than 120.
 pub(crate) fn columns(rt: &HostRuntime) -> usize {
-    match env::var(rt, "COLUMNS") {
-        Ok(text) => text.parse::<usize>().unwrap_or(COLUMNS),
-        Err(_) => COLUMNS,
-    }
+    env::var(rt, "COLUMNS")
+        .ok()
+        .and_then(|text| text.parse::<usize>().ok())
+        .unwrap_or(COLUMNS)
 }
 
 /// Whether a variable is exported and not empty.
 fn is_set(rt: &HostRuntime, name: &str) -> bool {
-    match env::var(rt, name) {
-        Ok(text) => !text.is_empty(),
-        Err(_) => false,
-    }
+    env::var(rt, name).is_ok_and(|text| !text.is_empty())
 }
 
 fn is_dumb(rt: &HostRuntime) -> bool {
-    match env::var(rt, "TERM") {
-        Ok(text) => matches!(text.as_str(), "dumb"),
-        Err(_) => false,
-    }
+    env::var(rt, "TERM").is_ok_and(|text| text.as_str() == "dumb")
 }
 
 /// Whether an explanation has colours: at a terminal that has them, unless NO_COLOR forbids it.
@@ -41,28 +35,21 @@ fn has_colours(rt: &HostRuntime) -> bool {
     rt.stderr().is_terminal() && !is_set(rt, "NO_COLOR") && !is_dumb(rt)
 }
 
-/// A text without the number that it ends in and the colon before that.
-fn before_number(text: &str) -> Option<&str> {
-    let (front, number) = text.rsplit_once(':')?;
-    if number.is_empty() || number.bytes().any(|byte| !byte.is_ascii_digit()) {
-        return None;
-    }
-    Some(front)
+fn is_number(word: Option<&str>) -> bool {
+    word.is_some_and(|word| !word.is_empty() && word.bytes().all(|byte| byte.is_ascii_digit()))
 }
 
-/// A text without the `:line:column` that it ends in.
-fn before_position(text: &str) -> Option<&str> {
-    before_number(before_number(text)?)
+/// Whether a text ends in `:line:column`.
+fn ends_in_position(text: &str) -> bool {
+    let mut words = text.rsplit(':');
+    is_number(words.next()) && is_number(words.next()) && words.next().is_some()
 }
 
 /// The length of the place that a line begins with: `path:line:column`.
 fn place_len(line: &str) -> Option<usize> {
-    for (at, _) in line.match_indices(": ") {
-        if line.get(..at).and_then(before_position).is_some() {
-            return Some(at);
-        }
-    }
-    None
+    line.match_indices(": ")
+        .map(|(at, _)| at)
+        .find(|at| line.get(..*at).is_some_and(ends_in_position))
 }
 
 /// Prints a line: a place bold, and the mark below a line red.

@@ -8,7 +8,7 @@ use flatc_tool::ToolFault;
 
 /// Why a call refused.
 #[repr(C)]
-#[derive(Clone, Copy, Drop)]
+#[derive(Clone, Copy, Debug, PartialEq, Eq, Drop)]
 pub struct Fault {
     pub offset: u64,
     pub type_id: u64,
@@ -23,7 +23,7 @@ pub struct Fault {
 
 /// The name of a fault, with zeros behind it.
 #[repr(C)]
-#[derive(Clone, Copy, Drop)]
+#[derive(Clone, Copy, Debug, PartialEq, Eq, Drop)]
 pub struct FaultName {
     pub text: [u8; 32],
 }

@@ -9,7 +9,7 @@ use flatc_tool::Limits;
 ///
 /// `size` is the struct's size in bytes as the caller knows it; fields that end behind it have their defaults.
 #[repr(C)]
-#[derive(Clone, Copy, Drop)]
+#[derive(Clone, Copy, Debug, PartialEq, Eq, Drop)]
 pub struct Options {
     pub size: u32,
     pub max_cells: u32,

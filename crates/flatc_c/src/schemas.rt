@@ -12,7 +12,7 @@ use crate::contents::{clear, put, take};
 use crate::faults::{Fault, told};
 use crate::handles::{Bytes, Schema};
 use crate::kept::Kept;
-use crate::status::{NO_MEMORY, NO_SCHEMA, OK, REFUSED, status_of};
+use crate::status::{NO_MEMORY, NO_SCHEMA, OK, REFUSED, schema_status};
 use flatc_tool::{Layout, ToolFault, conform, schema_of};
 use std::alloc::{AllocError, Global};
 use std::sync::Arc;
@@ -69,9 +69,8 @@ pub extern "C" fn flatc_schema_parse(
             OK
         }
         Err(refusal) => {
-            let refusal = ToolFault::Schema(refusal);
-            *fault = told(refusal);
-            status_of(refusal)
+            *fault = told(ToolFault::Schema(refusal));
+            schema_status(refusal)
         }
     }
 }

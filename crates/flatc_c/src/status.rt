@@ -1,5 +1,6 @@
 //! How a call ended.
 ghost use Rattle.std.specs.Prelude.{◌≡◌, ◌⊎◌};
+ghost use Rattle.fb_declare.specs.SchemaTexts.{IsWant};
 ghost use Rattle.flatc_tool.specs.Jobs.{IsNotMemory};
 
 use flatc_tool::{
@@ -20,6 +21,19 @@ pub(crate) const BAD_OPTIONS: u32 = 4;
 /// The fault is none that a call wrote.
 pub(crate) const NO_FAULT: u32 = 5;
 
+/// The status of a schema text's refusal: that memory ran out says nothing of the text.
+pub(crate) fn schema_status(fault: SchemaTextFault) -> u32
+    ensures refused { (result ≡ 1) → ¬ IsWant fault }
+    ensures status { (result ≡ 1) ⊎ (result ≡ 2) }
+{
+    match fault {
+        SchemaTextFault::Syntax(SyntaxFault::Memory)
+        | SchemaTextFault::Schema(SchemaFault::Memory)
+        | SchemaTextFault::Layout(LayoutFault::Memory) => NO_MEMORY,
+        _ => REFUSED,
+    }
+}
+
 /// The status of a refusal: that memory ran out says nothing of the input.
 pub(crate) fn status_of(fault: ToolFault) -> u32
     ensures refused { (result ≡ 1) → IsNotMemory fault }
@@ -29,12 +43,10 @@ pub(crate) fn status_of(fault: ToolFault) -> u32
         ToolFault::Memory
         | ToolFault::Json(JsonFault::Memory)
         | ToolFault::Build(BuildFault::Memory)
-        | ToolFault::Text(TextFault::Memory)
-        | ToolFault::Schema(SchemaTextFault::Syntax(SyntaxFault::Memory))
-        | ToolFault::Schema(SchemaTextFault::Schema(SchemaFault::Memory))
-        | ToolFault::Schema(SchemaTextFault::Layout(LayoutFault::Memory))
-        | ToolFault::Older(_)
-        | ToolFault::Newer(_) => NO_MEMORY,
+        | ToolFault::Text(TextFault::Memory) => NO_MEMORY,
+        ToolFault::Schema(fault) | ToolFault::Older(fault) | ToolFault::Newer(fault) => {
+            schema_status(fault)
+        }
         _ => REFUSED,
     }
 }

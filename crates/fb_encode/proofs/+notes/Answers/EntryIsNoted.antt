@@ -33,7 +33,7 @@ pub code_is_before_its_union : goal.entries::note_member-overflow_sub-slot
 code_is_before_its_union t c =
     let L = c.args.source.layout.now in
     let slot = c.args.slot in
-    let paired = slots_paired L c.schema-schema.ensures.made.declared slot.owner.0 in
+    let paired = slots_paired L c.layout_is_well_made.ensures.declared slot.owner.0 in
     let led = paired.led slot.number (slot_seen L slot.field.now) c.args.union.0 c.requires.slot
     (ap (stored_shape L.schema) c.requires.union) in
     omega (arith, led.2)
@@ -70,7 +70,7 @@ pub reference_has_a_part : goal.entries::note_present-note_reference-requires
 reference_has_a_part t c =
     let L = c.args.source.layout.now in
     let slot = c.args.slot in
-    let simple = all_known L c.schema-schema.ensures.made slot.owner.0 slot.number (slot_seen L slot.field.now)
+    let simple = all_known L c.layout_is_well_made.ensures slot.owner.0 slot.number (slot_seen L slot.field.now)
     c.requires.slot in
     let low = slot_below L slot.owner.0 slot.number (slot_seen L slot.field.now) c.requires.slot in
     let is = c.in-Reference.ensures in (
@@ -86,7 +86,7 @@ inline_is_plain t c =
     let L = c.args.source.layout.now in
     let slot = c.args.slot in
     let is = c.in-Inline.ensures in
-    let simple = all_known L c.schema-schema.ensures.made slot.owner.0 slot.number (slot_seen L slot.field.now)
+    let simple = all_known L c.layout_is_well_made.ensures slot.owner.0 slot.number (slot_seen L slot.field.now)
     c.requires.slot in
     record {
       used = c.requires.used;

@@ -69,7 +69,7 @@ next_absent_noted t c =
     let x = option_map a_number (slot_of L.schema (field_seen f)).if_absent in
     let given = c.is_absent.ensures.entry L (look L u ms) place c.loop-k.code (c.args.levels - 1) c.loop-k.left
     c.if-is_absent.true seen in
-    let marks = marks_at L.schema c.schema-schema.ensures.made.declared c.args.owner.0 k (field_seen f)
+    let marks = marks_at L.schema c.layout_is_well_made.ensures.declared c.args.owner.0 k (field_seen f)
     (rw c.slots_of-slots.ensures.slots at at) in
     let nothing = given_nothing L (field_seen f) marks u c.loop-k.code place (c.args.levels - 1) c.loop-k.left x
     c.loop-k.left (sym (entry_by L u (look L u ms) (field_seen f) None place c.loop-k.code (c.args.levels - 1)
@@ -77,7 +77,7 @@ next_absent_noted t c =
     next_noted L (look L u ms) c.args.owner.0 slots k f c.loop-k-test.true c.index-slots-k.is c.loop-k.code
     (c.args.levels - 1) (c.args.left - 1) c.loop-k.left _ _ _ _ inv
     (slot_there L c.args.owner.0 slots k f c.slots_of-slots.ensures.slots at)
-    (slots_paired L c.schema-schema.ensures.made.declared c.args.owner.0) _ _ c.loop-k.code c.loop-k.left
+    (slots_paired L c.layout_is_well_made.ensures.declared c.args.owner.0) _ _ c.loop-k.code c.loop-k.left
     (c.is_absent.ensures.code L.schema (look L u ms) place c.loop-k.code c.if-is_absent.true)
     (nothing_noted L k (slot_of L.schema (field_seen f)) _ x c.loop-k.left _ _ inv.adds.whole given nothing)
 
@@ -118,7 +118,7 @@ next_slot_fits t c =
           inv.adds.whole,
           (
             slot_there L c.args.owner.0 slots k f c.slots_of-slots.ensures.slots at,
-            marks_at L.schema c.schema-schema.ensures.made.declared c.args.owner.0 k (field_seen f)
+            marks_at L.schema c.layout_is_well_made.ensures.declared c.args.owner.0 k (field_seen f)
                 (rw c.slots_of-slots.ensures.slots at at),
           ),
         ),
@@ -169,7 +169,7 @@ next_slot_noted t c =
     next_noted L (look L u ms) c.args.owner.0 slots k f c.loop-k-test.true c.index-slots-k.is c.loop-k.code
     (c.args.levels - 1) (c.args.left - 1) c.loop-k.left _ _ _ _ c.loop-k.invariant
     (slot_there L c.args.owner.0 slots k f c.slots_of-slots.ensures.slots at)
-    (slots_paired L c.schema-schema.ensures.made.declared c.args.owner.0) _ _ c.in_ok-code.code c.in_ok-left.left
+    (slots_paired L c.layout_is_well_made.ensures.declared c.args.owner.0) _ _ c.in_ok-code.code c.in_ok-left.left
     (sym (c.in_ok-code.ensures (look L u ms) seen)) (rw by c.in_ok-left.ensures.noted)
 
 pub fields_are_stored : goal.tables::note_table-close_table-requires-clause-stored
@@ -183,7 +183,7 @@ fields_are_stored t c =
       inv.entries,
       rw (same, c.len-first.ensures.exact) (open_table L (look L c.args.source.unknown ms) c.args.owner.0 slots
           c.loop-k.k c.loop-k.code (c.args.levels - 1) (c.args.left - 1) c.loop-k.left _ _ _ _ c.loop-k-test.false inv
-          c.schema-schema.ensures.made (omega (arith, long, c.loop-k-test.false, c.loop-k.auto.k-end))),
+          c.layout_is_well_made.ensures (omega (arith, long, c.loop-k-test.false, c.loop-k.auto.k-end))),
     )
 
 pub table_adds_itself : goal.tables::note_table-returns-clause-noted
@@ -201,7 +201,7 @@ table_adds_itself t c =
     c.loop-k.left (omega (arith, c.if-levels-eq0.false)) (omega (arith, c.if-left-eq0.false))
     c.in_ok-members_by_slot.ensures.known (rw c.slots_of-slots.ensures.slots at given) in
     table_noted L (look L u ms) c.args.owner.0 slots c.loop-k.k c.loop-k.code (c.args.levels - 1) (c.args.left - 1)
-    c.loop-k.left _ _ _ _ c.loop-k-test.false inv c.schema-schema.ensures.made
+    c.loop-k.left _ _ _ _ c.loop-k-test.false inv c.layout_is_well_made.ensures
     (omega (arith, long, c.loop-k-test.false, c.loop-k.auto.k-end)) _ table c.close_table.new.self
     c.loop-k.noting.tape.layout same (rw c.len-first.ensures.exact at c.in_ok-close_table.ensures.waits)
     (rw same at c.in_ok-close_table.ensures.room) c.in_ok-close_table.ensures.whole c.in_ok-close_table.ensures.layout

@@ -52,7 +52,7 @@ next_slot_fits t c =
     (map field_seen slots) ms texts L unknown (field_seen f) at in
     let on = may_go_on L unknown (object_read inner ms) owner.0 slots c.args.place k c.args.levels c.args.left _ _ _ _
     c.loop-k.found c.requires.layout c.loop-k.invariant.found in
-    let marks = marks_at L.schema c.schema-schema.ensures.made.declared owner.0 k (field_seen f)
+    let marks = marks_at L.schema c.layout_is_well_made.ensures.declared owner.0 k (field_seen f)
     (rw c.slots_of-slots.ensures.slots at at) in
     let there = slot_there L owner.0 slots k f c.slots_of-slots.ensures.slots at in (
       omega (arith, c.decreases, own.low, c.requires.some),
@@ -86,7 +86,7 @@ next_slot_noted t c =
       found = next_found L unknown (object_read inner ms) owner slots c.args.place k c.args.levels c.args.left
           (record { ref_ptr = c.slots_of-slots.result.ref_ptr; now = f }) c.loop-k-test.true c.index-slots-k.is
           c.slots_of-slots.ensures.slots (slot_there L owner.0 slots k f c.slots_of-slots.ensures.slots at)
-          (slots_paired L c.schema-schema.ensures.made.declared owner.0) _ _ c.loop-k.walk.noting
+          (slots_paired L c.layout_is_well_made.ensures.declared owner.0) _ _ c.loop-k.walk.noting
           c.note_next.new.walk.noting c.loop-k.found c.in_ok-found.found inv.found
           (c.in_ok-found.ensures.noted (look L unknown (object_read inner ms)) own.found);
       read = read_more c.in_ok-texts.field-0.texts.items k c.index.result.now within c.index.ensures
@@ -118,7 +118,7 @@ fields_are_stored t c =
       found.noted.entries,
       rw (same, c.len-first.ensures.exact) (open_fields c.args.source.layout.now c.args.source.unknown (object_read
           (excerpt.brackets - 1) ms) c.args.owner c.slots_of-slots.result.now c.args.place c.loop-k.k c.args.levels
-          c.args.left _ _ _ _ c.in-Ok.behind c.loop-k-test.false found c.schema-schema.ensures.made
+          c.args.left _ _ _ _ c.in-Ok.behind c.loop-k-test.false found c.layout_is_well_made.ensures
           c.slots_of-slots.ensures.slots c.loop-k.auto.k-end),
     )
 
@@ -138,7 +138,7 @@ table_adds_itself t c =
           members of.cut of.some c.requires.some c.in_ok-texts.field-0.texts.items slots texts.texts texts.names
           texts.values c.loop-k.k c.loop-k-test.false c.loop-k.invariant.read,
       slots_noted c.args.source.layout.now c.args.source.unknown read c.args.owner slots c.args.place c.loop-k.k
-          c.args.levels c.args.left _ _ _ _ c.in-Ok.behind c.loop-k-test.false found c.schema-schema.ensures.made
+          c.args.levels c.args.left _ _ _ _ c.in-Ok.behind c.loop-k-test.false found c.layout_is_well_made.ensures
           c.slots_of-slots.ensures.slots c.loop-k.auto.k-end c.close_table.new.self c.loop-k.walk.noting.tape.layout
           same (rw c.len-first.ensures.exact at closed.waits) (rw same at closed.room) closed.whole closed.layout,
     )

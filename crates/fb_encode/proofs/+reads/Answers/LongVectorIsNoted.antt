@@ -37,12 +37,12 @@ run_noted t c =
     let read = c.in-Some.ensures in
     let is = run_of_trees c.text_is_read_without_brackets.ensures array.brackets (run_text array.text.now c.args.run)
     trees c.requires.brackets c.in_ok-read.ensures.utf8 (c.in_ok-read.ensures.tree ∙ ap Some read.are) read.some in
-    if_ok_both c.note_trees-noted.result _ _ _ (λ now noted more. (
+    if_ok_both c.note_trees.result _ _ _ (λ now noted more. (
       items_view trees,
       is,
       more ∙ ap (λ (n : ℕ). c.args.found.count + n) (sym long),
       rw long noted,
-    )) c.note_trees-noted.ensures.noted c.note_trees-noted.ensures.counted
+    )) c.note_trees.ensures.noted c.note_trees.ensures.counted
 
 pub no_run_yet : goal.vectors::note_runs-loop-run-init
 no_run_yet t c =

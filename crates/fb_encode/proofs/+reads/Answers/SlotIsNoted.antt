@@ -78,7 +78,7 @@ pub bracketed_has_a_part : goal.objects::note_next-note_reference-requires
 bracketed_has_a_part t c =
     let L = c.args.source.layout.now in
     let slot = c.args.slot in
-    let simple = all_known L c.schema-schema.ensures.made slot.owner.0 slot.number (slot_seen L slot.field.now)
+    let simple = all_known L c.layout_is_well_made.ensures slot.owner.0 slot.number (slot_seen L slot.field.now)
     c.requires.slot in
     let low = slot_below L slot.owner.0 slot.number (slot_seen L slot.field.now) c.requires.slot in
     let brackets = ap brackets_in c.in-Some.is in
@@ -114,7 +114,7 @@ text_read t c =
     let is = inner_is_read c.text_is_read_without_brackets.ensures text.brackets text.text.now low
     c.in_ok-read.ensures.utf8 c.in_ok-read.read c.in-Some-innermost.tree.now c.in_ok-read.ensures.tree
     c.in-Some-innermost.ensures in
-    rw c.in-Some.is (on_ok c.note_tree-noted.result _ (tree_view c.in-Some-innermost.tree.now, is))
+    rw c.in-Some.is (on_ok c.note_tree-2.result _ (tree_view c.in-Some-innermost.tree.now, is))
 
 pub text_noted : goal.objects::note_next-returns-clause-noted
 text_noted t c seen found =
@@ -127,5 +127,5 @@ text_noted t c seen found =
     c.in-Some-innermost.ensures in
     let used = used_by c.args.slot.field.now.deprecated c.args.text text c.requires.old c.in-Some.is in
     let here = rw c.in-Some.is at (found used) in
-    rw c.in-Ok.is (c.note_tree-noted.ensures.noted seen
+    rw c.in-Ok.is (c.note_tree-2.ensures.noted seen
     (here ∙ ap (λ d. Some (d, meant L unknown d)) (tree_is text.brackets text.text.now _ is)))

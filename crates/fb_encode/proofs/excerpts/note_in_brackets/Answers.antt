@@ -15,16 +15,16 @@ returns-clause-noted c =
     let t = tree_view c.in-Some.tree.now in
     let given = meant L c.args.source.unknown t c.args.shape c.args.place c.args.levels c.args.left in
     let a = c.args.walk.now.noting.tape in
-    let b = c.note_part-noted.new.noting.tape in
+    let b = c.note_part.new.noting.tape in
     let law = c.text_is_read_without_brackets.ensures in
     let as_tree : IsReadAs excerpt.brackets excerpt.text.now t = record {
       utf8 = c.in_ok-read.ensures.utf8;
       read = read_without law excerpt.brackets excerpt.text.now t c.requires.brackets
           (c.in_ok-read.ensures.tree ∙ ap Some c.in-Some.ensures);
     } in
-    let found : IsNotedOr L shape given a b c.note_part-noted.result =
-    noted_or L shape given a b c.note_part-noted.result c.note_part-noted.ensures.noted
-    c.note_part-noted.ensures.refused in
+    let found : IsNotedOr L shape given a b c.note_part.result =
+    noted_or L shape given a b c.note_part.result c.note_part.ensures.noted
+    c.note_part.ensures.refused in
     if_ok_then c.unless_memory.result _ _ (λ r same. (
       t,
       as_tree,

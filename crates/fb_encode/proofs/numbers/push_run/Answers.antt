@@ -18,9 +18,9 @@ returns-clause-added c =
     let read = c.in-Some.ensures in
     let is = run_of_trees c.text_is_read_without_brackets.ensures array.brackets (run_text array.text.now c.args.run)
     trees c.requires.brackets c.in_ok-read.ensures.utf8 (c.in_ok-read.ensures.tree ∙ ap Some read.are) read.some in
-    if_ok_both c.push_trees-added.result _ _ _ (λ now added more. (
+    if_ok_both c.push_trees.result _ _ _ (λ now added more. (
       items_view trees,
       is,
       more ∙ ap (λ (n : ℕ). c.args.found.count + n) (sym long),
       rw long added,
-    )) c.push_trees-added.ensures.added c.push_trees-added.ensures.counted
+    )) c.push_trees.ensures.added c.push_trees.ensures.counted

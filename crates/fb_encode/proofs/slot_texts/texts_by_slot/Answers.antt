@@ -41,7 +41,7 @@ pass_by_text-requires c =
     let S = c.args.source.layout.now.schema in
     let t = c.args.owner.0 in
     few c.put_text-over.result c.args.excerpt.brackets c.requires.brackets
-    (rw c.put_text-over.ensures.over (next_in_brackets S t c.schema-schema.ensures.made.declared c.args.source.unknown
+    (rw c.put_text-over.ensures.over (next_in_brackets S t c.layout_is_well_made.ensures.declared c.args.source.unknown
     (c.args.excerpt.brackets - 1) c.loop-member.texts.items c.loop-member.known c.args.excerpt.text.now
     c.args.members.now c.loop-member.member-index none c.loop-member-test.true c.loop-member.invariant
     c.piece_of-name.result c.piece_of-value.result c.piece_of-name.ensures.text c.piece_of-name.ensures.brackets
@@ -54,7 +54,7 @@ loop-member-preserved c =
     let t = c.args.owner.0 in
     let over = rw c.put_text-over.ensures.over at c.in_ok-pass_by_text.ensures in
     rw (c.put_text-over.ensures.texts, c.known_with-known.ensures)
-    (next_put S t c.schema-schema.ensures.made.declared c.args.source.unknown
+    (next_put S t c.layout_is_well_made.ensures.declared c.args.source.unknown
     (c.args.excerpt.brackets - 1) c.loop-member.texts.items c.loop-member.known c.args.excerpt.text.now
     c.args.members.now c.loop-member.member-index none c.loop-member-test.true c.loop-member.invariant
     c.piece_of-name.result c.piece_of-value.result c.piece_of-name.ensures.text c.piece_of-name.ensures.brackets
