@@ -29,7 +29,10 @@ pub fn check(
         → ¬ IsSound schema.now (option_map (λ b. b.now) bytes.entry) limits raw) }
 {
     layer_laws();
-    let layout = schema_of(alloc, schema).map_err(ToolFault::Schema)?;
+    let layout = match schema_of(alloc, schema) {
+        Ok(layout) => layout,
+        Err(fault) => return Err(ToolFault::Schema(fault)),
+    };
     let Some(bytes) = bytes else {
         return Ok(());
     };

@@ -20,8 +20,14 @@ fn conforming(alloc: Global, old: &[u8], new: &[u8]) -> Result<(Layout, Layout),
     ensures exact { IfErr result (λ f. IsNotMemory f → ¬ TextsConform old.now new.now) }
 {
     layer_laws();
-    let was = schema_of(alloc, old).map_err(ToolFault::Older)?;
-    let is = schema_of(alloc, new).map_err(ToolFault::Newer)?;
+    let was = match schema_of(alloc, old) {
+        Ok(layout) => layout,
+        Err(fault) => return Err(ToolFault::Older(fault)),
+    };
+    let is = match schema_of(alloc, new) {
+        Ok(layout) => layout,
+        Err(fault) => return Err(ToolFault::Newer(fault)),
+    };
     match conform(&was, &is) {
         Ok(()) => Ok((was, is)),
         Err(breach) => Err(ToolFault::Breach(breach)),
@@ -55,7 +61,10 @@ pub fn conform_names(alloc: Global, old: &[u8], new: &[u8]) -> Result<(), ToolFa
     ensures exact { IfErr result (λ f. IsNotMemory f → ¬ TextsKeepNames old.now new.now) }
 {
     layer_laws();
-    let layouts = conforming(alloc, old, new)?;
+    let layouts = match conforming(alloc, old, new) {
+        Ok(layouts) => layouts,
+        Err(fault) => return Err(fault),
+    };
     let Ok(moved) = moved_names(alloc, &layouts.0, &layouts.1) else {
         return Err(ToolFault::Memory);
     };

@@ -28,7 +28,10 @@ pub fn to_binary(
         (λ f. IsNotMemory f → ¬ MayBeBinary schema.now json.now limits unknown) }
 {
     layer_laws();
-    let layout = schema_of(alloc, schema).map_err(ToolFault::Schema)?;
+    let layout = match schema_of(alloc, schema) {
+        Ok(layout) => layout,
+        Err(fault) => return Err(ToolFault::Schema(fault)),
+    };
     let options = EncodeOptions {
         limits,
         unknown_json: unknown,

@@ -54,22 +54,26 @@ pub fn decode_to<W: Write>(
     spaced_texts_are_utf8(layout);
     layout_is_well_made(layout);
     let mut entries = Entries::new();
-    let view = verify_framed(
+    let view = match verify_framed(
         layout,
         bytes,
         options.limits,
         options.raw_binary,
         options.size_prefixed,
         &mut entries,
-    )
-    .map_err(ToolFault::Read)?;
-    write_spaced(
+    ) {
+        Ok(view) => view,
+        Err(fault) => return Err(ToolFault::Read(fault)),
+    };
+    match write_spaced(
         &view,
         options.defaults_json,
         spacing_of(options.compact),
         out,
-    )
-    .map_err(ToolFault::Write)
+    ) {
+        Ok(()) => Ok(()),
+        Err(fault) => Err(ToolFault::Write(fault)),
+    }
 }
 
 /// A refusal to print to memory: a write fails only where memory runs out.

@@ -39,7 +39,10 @@ pub fn print_to<W: Write>(
     ensures exact { IfErr result (λ f. IsOfInput f → ¬ MayBeText schema.now bytes.now limits raw) }
 {
     layer_laws();
-    let layout = schema_of(alloc, schema).map_err(ToolFault::Schema)?;
+    let layout = match schema_of(alloc, schema) {
+        Ok(layout) => layout,
+        Err(fault) => return Err(ToolFault::Schema(fault)),
+    };
     let options = DecodeOptions {
         limits,
         raw_binary: raw,
@@ -70,7 +73,10 @@ pub fn to_json(
         (λ f. IsNotMemory f → ¬ MayBeText schema.now bytes.now limits raw) }
 {
     layer_laws();
-    let layout = schema_of(alloc, schema).map_err(ToolFault::Schema)?;
+    let layout = match schema_of(alloc, schema) {
+        Ok(layout) => layout,
+        Err(fault) => return Err(ToolFault::Schema(fault)),
+    };
     let options = DecodeOptions {
         limits,
         raw_binary: raw,

@@ -1,4 +1,4 @@
-use Rattle.std.proofs.Common.{rules}
+use Rattle.std.proofs.Common.{refl}
 use Rattle.flatc_tool.proofs.evolution.BreachExcludesConforming.{breach_excludes}
 use Rattle.fb_declare.proofs.SchemaTextHasOneLayout.{refused_excludes}
 use Rattle.flatc_tool.proofs.evolution.conforming.Goals as goal
@@ -27,7 +27,8 @@ pub returns-in-Ok-conform-clause-exact : goal.returns-in-Ok-conform-clause-exact
 returns-in-Ok-conform-clause-exact c = tt
 
 pub returns-in-Ok-conform-clause-conforms : goal.returns-in-Ok-conform-clause-conforms
-returns-in-Ok-conform-clause-conforms c = search rules
+returns-in-Ok-conform-clause-conforms c =
+    (c.in-Ok.ensures.accepted, c.in-Ok-schema_of.ensures.accepted, c.in-Ok-conform.ensures.exact.0 refl)
 
 pub returns-in-Err-conform-clause-conforms : goal.returns-in-Err-conform-clause-conforms
 returns-in-Err-conform-clause-conforms c = tt

@@ -45,7 +45,7 @@ returns-in-Ok-write_spaced-clause-printed g c =
     c.in-Ok.ensures.root.0 c.in-Ok.ensures.root.1 printed in
     sent c.layer_laws.ensures.laws c.args.options.now.compact c.args.options.now.size_prefixed c.args.bytes.now
     c.args.options.now.limits c.args.options.now.raw_binary
-    c.args.options.now.defaults_json L held.0 held.1 start known tt c.schema-schema.ensures.made
+    c.args.options.now.defaults_json L held.0 held.1 start known tt c.layout_is_well_made.ensures
     c.spaced_texts_are_utf8.ensures small
     root
 
