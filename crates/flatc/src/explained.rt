@@ -113,7 +113,11 @@ pub(crate) fn list_numbers(rt: &HostRuntime) -> u8 {
 
 /// Prints what a number of a refusal means, and returns the status.
 pub(crate) fn explain_number(rt: &HostRuntime, number: &str) -> u8 {
-    match number.parse::<u8>().ok().and_then(fault_page) {
+    let page = match number.parse::<u8>() {
+        Ok(number) => fault_page(number),
+        Err(_) => None,
+    };
+    match page {
         Some(page) => match println!(rt; "{page}") {
             Ok(()) => 0,
             Err(_) => 1,
