@@ -1,9 +1,10 @@
 # make run        proves and builds the program, and then shows it at work on examples/
-# make try        shows the same without proofs, in about a minute
+# make try        shows the same without proofs, in a few minutes
 # make build      leaves the program at crates/flatc/out/flatc; crates are proved side by side
 # make lib        leaves the library for C at lib/libflatc.a and lib/libflatc.so
 # make install    copies the program, as NAME, the library, its headers and its pkg-config file below PREFIX (/usr/local)
 # make uninstall  removes them there
+# make dist       packs the program and the library into dist/: a tarball, Debian packages, and their sums
 # make examples   proves and builds the library, and runs the programs in examples/ that use it
 # make valgrind   runs the C example under valgrind, outside the gate
 # make test       the gate: every proof from nothing, the must-fail edits, the tests, the program
@@ -12,7 +13,7 @@
 # make fmt        formats all crates
 # make mutations  tries the edits that the prover has to refuse, outside the gate: those that read something else when
 #                 they were last tried; CRATE=NAME those of one crate, ALL=1 all of them
-# make costs      tells what a check of CRATE=NAME spends its time on
+# make costs      prints what a check of CRATE=NAME spends its time on
 # make soak       a million damaged buffers of schemas made from SEED, and files of gigabytes, outside the gate
 # make bench      times the program on generated documents, beside Google's flatc where that is installed
 # make bench-library  counts the instructions of one call of the library, beside libflatbuffers where it is installed
@@ -31,7 +32,12 @@ SONAME = libflatc.so.0
 INCLUDES = $(DESTDIR)$(PREFIX)/include
 LIBRARIES = $(DESTDIR)$(PREFIX)/$(LIBDIR)
 
-.PHONY: run try build check rows fmt lib install uninstall examples valgrind test mutations costs soak bench bench-library
+.PHONY: help run try build check rows fmt lib install uninstall dist examples valgrind test mutations costs soak bench \
+	bench-library
+
+# The lines at the top of this file.
+help:
+	@sed -n '/^# /!q; s/^# //p' $(MAKEFILE_LIST)
 
 run: build
 	@tests/example.sh $(PROGRAM)
@@ -69,6 +75,9 @@ uninstall:
 	rm -f $(DESTDIR)$(PREFIX)/bin/$(NAME) $(INCLUDES)/flatc.h $(INCLUDES)/flatc.hpp $(LIBRARIES)/libflatc.a \
 		$(LIBRARIES)/libflatc.so $(LIBRARIES)/$(SONAME) $(LIBRARIES)/libflatc.so.$(VERSION) \
 		$(LIBRARIES)/pkgconfig/flatc.pc
+
+dist: build lib
+	@python3 tools/dist.py
 
 examples: build lib
 	@python3 tests/library.py lib $(PROGRAM)

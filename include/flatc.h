@@ -24,9 +24,9 @@
 #include <stdint.h>
 
 #define FLATC_VERSION_MAJOR 0
-#define FLATC_VERSION_MINOR 1
+#define FLATC_VERSION_MINOR 2
 #define FLATC_VERSION_PATCH 0
-#define FLATC_VERSION_STRING "0.1.0"
+#define FLATC_VERSION_STRING "0.2.0"
 #define FLATC_VERSION_NUMBER (FLATC_VERSION_MAJOR * 65536u + FLATC_VERSION_MINOR * 256u + FLATC_VERSION_PATCH)
 
 #ifdef __cplusplus
@@ -74,7 +74,7 @@ typedef struct flatc_fault {
 #define FLATC_FAULT_INIT {0, 0, 0, 0, false, false, false, {0}, {0}}
 
 /* How a message is converted. A later version may add fields at the end, and then still takes this struct.
- * Fields that end behind the first `size` bytes have their defaults; all of the struct is readable nonetheless. */
+ * Fields that end after the first `size` bytes have their defaults; all of the struct is readable nonetheless. */
 typedef struct flatc_options {
     uint32_t size;      /* sizeof(flatc_options); at least 4 */
     uint32_t max_cells; /* the most cells; 100000000 by default. A table, a vector and a
@@ -113,7 +113,7 @@ void flatc_bytes_clear(flatc_bytes *bytes);
 flatc_status flatc_encode(flatc_schema *schema, const void *json, size_t size, const flatc_options *options,
                           flatc_bytes *out, flatc_fault *fault);
 
-/* Verifies a FlatBuffer and converts it to JSON (UTF-8, no zero byte behind it).
+/* Verifies a FlatBuffer and converts it to JSON (UTF-8, no zero byte after it).
  * If the status isn't FLATC_OK, `out` is empty.
  * OK, REFUSED (the bytes encode no value, or a union in it has a member that the schema doesn't name: the first
  * fault), NO_MEMORY, NO_SCHEMA, BAD_OPTIONS. */
@@ -130,7 +130,7 @@ flatc_status flatc_verify(flatc_schema *schema, const void *buffer, size_t size,
  * OK, REFUSED (the first breach, types and slots by the old schema's numbers), NO_SCHEMA. */
 flatc_status flatc_conform(flatc_schema *old_schema, flatc_schema *new_schema, flatc_fault *fault);
 
-/* A fault's name, with zeros behind it. */
+/* A fault's name, with zeros after it. */
 typedef struct flatc_name {
     char text[32];
 } flatc_name;

@@ -369,52 +369,6 @@ def examples():
     row("flatc's own buffer prints the same", ["json", schema, os.path.join(folder, "monster.bin")], 0, text_wanted)
 
 
-def readme():
-    """README's first example is the one in examples/, and its lines with a `$` print what it shows."""
-    text = open(os.path.join(ROOT, "README.md"), encoding="utf-8").read()
-    for kind, name in (("fbs", "orc.fbs"), ("json", "orc.json")):
-        block = re.search(f"```{kind}\n(.*?)```", text, re.S).group(1)
-        tell(f"README's {name}", block == open(os.path.join(ROOT, "examples", name), encoding="utf-8").read())
-    os.symlink(os.path.join(ROOT, "examples"), "examples")
-    lines = 0
-    for block in re.findall(r"```\n(\$ .*?)```", text, re.S):
-        for piece in block.split("$ flatc ")[1:]:
-            line, _, out = piece.partition("\n")
-            done = run(line.split())
-            tell(f"README: flatc {line}", (done.stdout + done.stderr).decode() == out, f"{done}")
-            lines += 1
-    tell("README's lines", lines == 11, f"{lines} of 11")
-
-
-def hook():
-    """README's git hook lets a change of a schema through that conforms and keeps names, and no other."""
-    text = open(os.path.join(ROOT, "README.md"), encoding="utf-8").read()
-    script = re.search(r"```sh\n(#!/bin/sh\n.*?)```", text, re.S).group(1)
-    os.mkdir("programs")
-    os.symlink(PROGRAM, "programs/flatc")
-    place = {**os.environ, "PATH": f"{os.getcwd()}/programs:{os.environ['PATH']}", "GIT_CONFIG_GLOBAL": "/dev/null"}
-
-    def git(*words):
-        who = ["-c", "user.name=a", "-c", "user.email=a@b.c"]
-        return subprocess.run(["git", *who, *words], cwd="repository", env=place, capture_output=True, check=False)
-
-    subprocess.run(["git", "init", "-q", "-b", "main", "repository"], env=place, check=True)
-    old = "table U { hp:int; mp:int; } root_type U;"
-    for name, fields, status in (
-        ("the first schema", old, 0),
-        ("a field behind", old.replace("mp:int;", "mp:int; shield:int;"), 0),
-        ("a field before", old.replace("hp:int;", "shield:int; hp:int;"), 1),
-    ):
-        with open("repository/s.fbs", "w", encoding="utf-8") as file:
-            file.write(fields)
-        git("add", "s.fbs")
-        done = git("commit", "-q", "-m", "s")
-        tell(f"README's hook: {name}", done.returncode == status, f"{done}")
-        with open("repository/.git/hooks/pre-commit", "w", encoding="utf-8") as file:
-            file.write(script)
-        os.chmod("repository/.git/hooks/pre-commit", 0o755)
-
-
 def shown():
     done = subprocess.run(
         [os.path.join(ROOT, "tests", "example.sh"), PROGRAM], capture_output=True, check=False, timeout=SECONDS
@@ -434,8 +388,7 @@ def main():
         for name, length in (("over", LONGEST + 1), ("longest", LONGEST)):
             with open(name, "wb") as file:
                 file.truncate(length)
-        for part in (jobs, refusals, unions, comparisons, pairs, files, streams, nesting, usage, examples, readme, hook,
-                     shown):
+        for part in (jobs, refusals, unions, comparisons, pairs, files, streams, nesting, usage, examples, shown):
             try:
                 part()
             except Exception as problem:

@@ -1,11 +1,13 @@
 #!/usr/bin/env bash
 # The gate: all that rt ci proves and runs; whether each mutation can still be applied and each edit in not-compiled/ is
 # refused; whether copies of the version and of figures are right, and the libraries are used that have to be. Then the
-# built program: with words and files, with texts that are cut off, long or no texts at all, with what is done to OUT,
-# with standard streams for paths, with many files in one call, with streams of messages, what it lists of buffers, at a
-# terminal, where memory, pipes and stack run out, what it explains, that explaining changes nothing else, how costs
-# grow, and how much memory it takes; the calls with growths refused, some thousand damaged buffers, some thousand JSON
-# texts in pieces, and the library for C with its examples. The last line counts all of it: 'N passed, M failed'.
+# built program: with words and files, on the examples of README and docs/, as a git hook, with texts that are cut off,
+# long or no texts at all, with what is done to OUT, with standard streams for paths, with many files in one call, with
+# streams of messages, what it lists of buffers, at a terminal, where memory, pipes and stack run out, what it explains,
+# that explaining changes nothing else, its man page and completions, its hooks for pre-commit and CI, how costs grow,
+# and how much memory it takes; the calls with growths refused, some thousand damaged buffers, some thousand JSON texts
+# in pieces, the library for C with its examples, and what a release has. The last line counts all of it: 'N passed, M
+# failed'.
 set -uo pipefail
 cd "$(dirname "$0")/.."
 program=crates/flatc/out/flatc
@@ -30,7 +32,8 @@ python3 tools/version.py --check | tee "$logs/version" || status=1
 python3 tools/dependencies.py | tee "$logs/dependencies" || status=1
 python3 bench/picture.py --check | tee "$logs/picture" || status=1
 python3 tools/mutations.py --not-compiled | tee "$logs/not-compiled" || status=1
-for part in command texts outputs streams batches lines prefixed inspect terminal hostile explain told_alike costs; do
+for part in command pages git_hook texts outputs streams batches lines prefixed inspect terminal hostile explain \
+    told_alike shells hooks costs; do
     python3 "tests/$part.py" "$program" | tee "$logs/$part" || status=1
 done
 for part in growths soak pieces; do
@@ -39,6 +42,7 @@ done
 python3 tests/memory.py "$program" "$parser" | tee "$logs/memory" || status=1
 make --silent lib BUILD=--over-gate || status=1
 python3 tests/library.py lib "$program" | tee "$logs/library" || status=1
+python3 tests/release.py | tee "$logs/release" || status=1
 
 passed=0
 failed=0

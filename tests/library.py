@@ -1,6 +1,6 @@
 #!/usr/bin/env python3
 """The library for C as it is built: what it exports, the headers, calls that go wrong, growths that are refused, what
-is installed, and the examples in C, C++, Python and Rust.
+is installed, the examples in C, C++, Python and Rust, and the programs of docs/LIBRARY.md.
 
 usage: tests/library.py FOLDER PROGRAM
        tests/library.py FOLDER --valgrind
@@ -206,6 +206,39 @@ def rust_example(tests):
     succeeded(tests, "cargo test", words, cwd=f"{EXAMPLES}/rust", env={**os.environ, **flags})
 
 
+def page_program(kind, path):
+    """The first program in a language of docs/LIBRARY.md, as a file."""
+    text = content(f"{ROOT}/docs/LIBRARY.md").decode()
+    os.makedirs(os.path.dirname(path) or ".", exist_ok=True)
+    write(path, re.search(rf"^```{kind}\n(.*?)^```", text, re.M | re.S)[1].encode())
+    return path
+
+
+def page(tests):
+    """The programs of docs/LIBRARY.md convert a message, and those that can show a refusal."""
+    bytes_made, refused = "28 bytes\n", "72 OutOfRange\n"
+
+    def expect(language, words, wanted, **more):
+        said = succeeded(tests, f"the page's program in {language}", words, **more)
+        tests.tell(f"what the page's program in {language} prints", said == wanted, f"{said}")
+
+    if built(tests, page_program("c", "page.c"), "page_c", flags=["-std=c99"]):
+        expect("C", ["./page_c"], bytes_made)
+    if built(tests, page_program("cpp", "page.cpp"), "page_cpp", "c++", "CXX", ["-std=c++17"]):
+        expect("C++", ["./page_cpp"], bytes_made + refused)
+    flags = {"LIBFLATC": f"{tests.folder}/libflatc.so", "PYTHONPATH": f"{EXAMPLES}/python"}
+    flags["PYTHONDONTWRITEBYTECODE"] = "1"
+    expect("Python", [sys.executable, page_program("python", "page.py")], bytes_made + refused, env=os.environ | flags)
+    if not shutil.which("cargo"):
+        skipped("the page's program in Rust", "apt-get install cargo")
+        return
+    shutil.copytree(f"{EXAMPLES}/rust", "crate", ignore=shutil.ignore_patterns("target"))
+    page_program("rust", "crate/examples/page.rs")
+    flags = {"FLATC_LIB_DIR": tests.folder, "CARGO_TARGET_DIR": os.path.abspath("target")}
+    words = ["cargo", "run", "--offline", "--quiet", "--example", "page"]
+    expect("Rust", words, bytes_made + refused, cwd="crate", env=os.environ | flags)
+
+
 def files_below(folder):
     return {os.path.relpath(os.path.join(at, it), folder) for at, _, names in os.walk(folder) for it in names}
 
@@ -245,7 +278,9 @@ def valgrind(tests):
             tests.tell(f"valgrind over {name}", ran.returncode == status, why)
 
 
-PARTS = (headers, exports, c_example, c_message, misuse, growths, cpp_example, python_example, rust_example, installed)
+PARTS = (
+    headers, exports, c_example, c_message, misuse, growths, cpp_example, python_example, rust_example, page, installed,
+)
 
 
 def main():

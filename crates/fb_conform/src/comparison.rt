@@ -22,7 +22,7 @@ pub fn conform(old: &Layout, new: &Layout) -> Result<(), Breach>
     walk(&mut FirstBreach, old, new)
 }
 
-/// Every breach that stands, in the order in which `conform` looks for the first.
+/// Every breach that holds, in the order in which `conform` looks for the first.
 pub fn all_breaches(alloc: Global, old: &Layout, new: &Layout) -> Result<Vec<Breach>, AllocError>
     ensures all { IfOk result (λ list. (b : Breach) → Contains list.items b ↔ Stands old.now new.now b) }
     ensures order { IfOk result (λ list. AllPairs IsBefore list.items) }

@@ -1,4 +1,4 @@
-//! One walk over two schemas that reports each breach that stands, in order.
+//! One walk over two schemas that reports each breach that holds, in order.
 ghost use Rattle.std.specs.Prelude.{◌≡◌, ◌<◌, ◌+◌, ◌↔◌, [], length, IsTrue, Some, option_map, option_copied};
 ghost use Rattle.fb_schema.specs.Seen.{field_seen};
 ghost use Rattle.fb_layout.specs.Laid.{LaidSchema};
@@ -188,7 +188,7 @@ fn walk_header<S: Sink>(sink: &mut S, old: &Layout, new: &Layout) -> Result<(), 
     report_unless(sink, identifier, Breach::IdentifierChanged)
 }
 
-/// Reports each breach that stands: the root's, the identifier's, then the old types' by number, in a type its
+/// Reports each breach that holds: the root's, the identifier's, then the old types' by number, in a type its
 /// slots' by number, and at one place the one of the lowest number first.
 pub(crate) fn walk<S: Sink>(sink: &mut S, old: &Layout, new: &Layout) -> Result<(), S::Error>
     requires { S.reported sink.old ≡ [] }

@@ -82,8 +82,8 @@ impl DigestIndex {
         self.keys.reserve(more)
     }
 
-    /// Tests the places that a digest can be at, and returns the first that passes. If none is returned, each place that
-    /// this digest was inserted at fails the test.
+    /// Tests the places that a digest can be at, and returns the first that passes. If none is returned, the test fails
+    /// at each place that this digest was inserted at.
     pub fn find<F: Fn(usize) -> bool>(&self, digest: u64, is_there: F) -> Option<usize>
         requires callable { F.IsAlwaysCallable is_there }
         ensures found { IfSome result (λ place. (place < length self.now.keys) × F.post is_there place true) }

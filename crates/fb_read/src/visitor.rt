@@ -85,8 +85,8 @@ pub trait Visitor {
     ghost knows: { Self → Buffer → Type 0 };
 
     /// Called when the walk comes to the target of the reference at `reference_at`, with `tables` tables above it and
-    /// `spent` cells spent before it. Returns what is kept of it and what a visit takes, if that is known: then the walk
-    /// passes over the part.
+    /// `spent` cells spent before it. Returns what is kept of it and what a visit takes, if that is known: the walk
+    /// then passes over the part.
     fn come_to(
         &mut self,
         buffer: &Buffer,

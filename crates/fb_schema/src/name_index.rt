@@ -1,6 +1,6 @@
 //! All names of a schema in one index.
-ghost use Rattle.std.specs.Prelude.{◌≡◌, ◌≢◌, ◌≤◌, ◌-◌, ◌↔◌, length, map, bytes_eq, slice_get, AllPairs, IfOk, IfSome, IfNone};
-ghost use Rattle.std.specs.Prelude.{OnOk, IsTrue, List, None, Some};
+ghost use Rattle.std.specs.Prelude.{◌≡◌, ◌≢◌, ◌≤◌, ◌-◌, ◌↔◌, length, map, bytes_eq, slice_get};
+ghost use Rattle.std.specs.Prelude.{AllPairs, IfOk, IfSome, IfNone, OnOk, IsTrue, List, None, Some};
 ghost use Rattle.fb_index.specs.DigestIndexes.{KeepsPlaces};
 ghost use Rattle.fb_schema.specs.Schema.{DeclaredType};
 ghost use Rattle.fb_schema.specs.Seen.{type_seen, body_seen};
@@ -153,8 +153,8 @@ fn push_all_inner_names(
     Ok(firsts)
 }
 
-/// All names of a schema in one index: the full names of its types, and then, type by type, the names inside each, under
-/// a key that its number makes. The index holds no name: a search is given what has them.
+/// All names of a schema in one index: the full names of its types, and then, type by type, the names inside each,
+/// under a key that its number makes. The index holds no name: a search is given what has them.
 ///
 /// Nobody can choose names with one digest: the key is made of all names of the schema.
 #[derive(Drop)]

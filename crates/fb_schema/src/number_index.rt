@@ -72,6 +72,13 @@ fn position_among(places: &[usize], values: &[(String, i128)], number: i128) -> 
     }
 }
 
+/// The number of values that some types have.
+fn value_count(types: &[TypeInfo]) -> usize {
+    types.iter().fold(0, |count: usize, info| {
+        count.saturating_add(values_of(&info.body).len())
+    })
+}
+
 /// The places of the values of all enums, enum by enum in ascending order of their numbers. A search is given the
 /// values.
 #[derive(Drop)]
@@ -86,7 +93,7 @@ impl NumberIndex {
     pub(crate) fn of(alloc: Global, types: &[TypeInfo]) -> Result<NumberIndex, AllocError>
         ensures { IfOk result (λ index. IndexesNumbers index (map type_seen types.now)) }
     {
-        let mut places = Vec::new(alloc);
+        let mut places = Vec::with_capacity(alloc, value_count(types))?;
         let mut firsts = Vec::with_capacity(alloc, types.len())?;
         for info in types {
             firsts.push(places.len())?;

@@ -20,9 +20,9 @@ use std::sync::Arc;
 /// The version: the numbers of major, minor and patch, 8 bits each from the lowest up for patch.
 #[unsafe(no_mangle)]
 pub extern "C" fn flatc_version() -> u32
-    ensures { result ≡ 256 }
+    ensures { result ≡ 512 }
 {
-    0x00_01_00
+    0x00_02_00
 }
 
 /// Frees what a schema's handle holds.

@@ -8,7 +8,7 @@ use clap::{Arg, ArgAction, Command};
 use std::alloc::{AllocError, Global};
 
 /// The program's version.
-pub const VERSION: &str = "0.1.0";
+pub const VERSION: &str = "0.2.0";
 
 const BINARY_USAGE: &str = "flatc binary [OPTIONS] <SCHEMA> <JSON> <OUT>
        flatc binary [OPTIONS] --out-dir <DIR> <SCHEMA> <JSON>...

@@ -54,7 +54,7 @@ impl Progress {
     }
 }
 
-/// The time in so many milliseconds; none where the clock can't be read.
+/// The instant `by` milliseconds from now; none if the clock can't be read.
 fn later(rt: &HostRuntime, by: u64) -> Option<Instant> {
     Instant::now(rt)
         .ok()?
