@@ -7,7 +7,7 @@ ghost use Rattle.fb_resolve.specs.Ids.{have_ids, AreSlots, are_ids_wrong, slots_
 ghost use Rattle.fb_schema.specs.Seen.{field_seen};
 
 use crate::resolved::{ResolvedField, ResolvedTable};
-use crate::slots::{push_slots, slots_in_order, union_in};
+use crate::slots::{push_slots, slot_count, slots_in_order, union_in};
 use fb_schema::FieldInfo;
 use std::alloc::{AllocError, Global};
 
@@ -112,7 +112,7 @@ pub fn table_slots(
     match table.slots {
         Slots::InOrder => slots_in_order(alloc, table.fields),
         Slots::ById => {
-            let mut slots = Vec::with_capacity(alloc, table.fields.len())?;
+            let mut slots = Vec::with_capacity(alloc, slot_count(table.fields.as_slice()))?;
             for field in table.fields {
                 let first = slot_by_id(&field).unwrap_or(0);
                 push_slots(alloc, field, first, &mut slots)?;

@@ -111,6 +111,13 @@ pub(crate) fn push_slots(
     Ok(slots.push(value)?)
 }
 
+/// The number of slots that some fields take: two for a union, whose code has one too.
+pub(crate) fn slot_count(fields: &[ResolvedField<'_, '_>]) -> usize {
+    fields.iter().fold(fields.len(), |count: usize, field| {
+        count.saturating_add(usize::from(union_in(field).is_some()))
+    })
+}
+
 /// The slots of a table without ids, in the order of declaration. The only error is a refused
 /// allocation.
 #[tactic(auto, unfolding(crate::specs::SlotsRead::slots_in_order))]
@@ -121,7 +128,7 @@ pub(crate) fn slots_in_order(
     ensures { IfOk result
         (λ v. map field_seen v.items ≡ slots_in_order 0 fields.entry.items) }
 {
-    let mut slots = Vec::with_capacity(alloc, fields.len())?;
+    let mut slots = Vec::with_capacity(alloc, slot_count(fields.as_slice()))?;
     for field in fields {
         let slot = slots.len() as u64;
         push_slots(alloc, field, slot, &mut slots)?;
