@@ -1,4 +1,3 @@
-pub mod BracketedTextIsNotNull
 pub mod SlotsAreFound
 pub mod CutObjectIsRead
 pub mod NextSlotIsNoted

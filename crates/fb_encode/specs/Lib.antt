@@ -7,3 +7,4 @@ pub mod RootsNoted
 pub mod TextsEncoded
 pub mod MembersRead
 pub mod SlotTexts
+pub mod Outlines

@@ -1,24 +1,15 @@
 -- What is read of a text within a JSON text.
 -- From the FlatBuffers documentation, "JSON parsing": the JSON is read whole before a schema gives it a meaning.
-use Rattle.std.specs.Prelude.{ℕ, ◌≡◌, List, [], Some, Result, Ok, Err, IsUtf8}
+use Rattle.std.specs.Prelude.{ℕ, ◌≡◌, List, [], Result, Ok, Err}
 use Rattle.serde_json.specs.Data.{Data, array, Items, no_items, item}
 use Rattle.fb_layout.specs.Laid.{LaidSchema, StoredKind, StoredShape}
 use Rattle.fb_value.specs.Datum.{Datum}
 use Rattle.fb_tape.specs.Tapes.{Taped}
 use Rattle.fb_json.specs.declared.faults.JsonFault.{JsonFault}
 use Rattle.fb_json.specs.Outcome.{Counted, Fails}
-use Rattle.fb_pieces.specs.Reads.{read_at}
 use Rattle.fb_pieces.specs.Texts.{array_text}
 use Rattle.fb_encode.specs.TreesNoted.{AddsTargets, AreElementsAdded, IsNoted}
-
--- The text is UTF-8, and is read as this tree where so many brackets may be open in it at once.
-pub record IsReadAs (brackets : ℕ) (text : List ℕ) (d : Data) : Type 0 where
-  pub utf8 : IsUtf8 text
-  pub read : read_at brackets text ≡ Some d
-
--- It is read as some tree.
-abbrev pub IsRead : ℕ → List ℕ → Type 0
-IsRead brackets text = (d : Data) × IsReadAs brackets text d
+pub use Rattle.fb_pieces.specs.JsonTexts.{IsReadAs, IsRead}
 
 -- A run of elements is read, in brackets of its own, as the array of these, of which there are some.
 abbrev pub IsRunReadAs : ℕ → List ℕ → Items → Type 0

@@ -139,6 +139,10 @@ fn note_in_brackets(
         walk.old.noting.tape walk.new.noting.tape found) }
     ensures opened { IfOk result (λ found. OnOk found (walk.new.noting.opened ≡ walk.old.noting.opened)) }
 {
+    if let Some(outline) = walk.reader.outline(excerpt, shape)? {
+        let noting = &mut walk.noting;
+        return unless_memory(note_part(source, noting, &outline, shape, place, levels, left));
+    }
     text_is_read_without_brackets();
     let read = walk.reader.read(excerpt)?;
     let Some(tree) = innermost(&read, MOST_BRACKETS - excerpt.brackets) else {

@@ -7,6 +7,7 @@ mod excerpts;
 mod faults;
 mod numbers;
 mod objects;
+mod outlines;
 mod parts;
 mod reader;
 mod slot_texts;

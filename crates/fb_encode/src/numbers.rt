@@ -1,25 +1,27 @@
 //! Vectors of numbers and structs of an excerpt that is long: their elements are read run by run.
-ghost use Rattle.std.specs.Prelude.{◌≡◌, ◌≤◌, ◌<◌, ◌+◌, [], IfOk, OnOk, length, false};
+ghost use Rattle.std.specs.Prelude.{◌≡◌, ◌≤◌, ◌<◌, ◌+◌, ◌-◌, [], IfOk, IfSome, OnOk, length, false};
 ghost use Rattle.serde_json.specs.Data.{Data, Items};
-ghost use Rattle.serde_json.specs.View.{items_view};
+ghost use Rattle.serde_json.specs.View.{items_view, view as tree_view};
 ghost use Rattle.fb_layout.specs.Laid.{align_of, one_of, stored_kind, vector_of};
 ghost use Rattle.fb_layout.specs.Widths.{greatest};
-ghost use Rattle.fb_schema.specs.declared.kinds.Shape.TheVariants.{Many};
+ghost use Rattle.fb_schema.specs.declared.kinds.Shape.TheVariants.{Many, One};
 ghost use Rattle.fb_json.specs.Meant.{count, items_meant, meant};
 ghost use Rattle.fb_pieces.specs.CutTexts.{run_text};
 ghost use Rattle.fb_build.specs.Fields.{IsElement, is_reference};
+ghost use Rattle.fb_encode.specs.Outlines.{IsOutlined};
 ghost use Rattle.fb_encode.specs.TextsRead.{IsNotedOr, IsReadAs, IsRunAdded, IsRunReadAs};
 ghost use Rattle.fb_encode.specs.TreesNoted.{AddsInline};
 
 use crate::elements::{Elements, push_elements};
 use crate::excerpts::{TextWalk, note_at_once, unless_memory};
-use crate::reader::{Excerpt, MOST_BRACKETS, Unread, innermost_elements};
+use crate::reader::{Excerpt, MOST_BRACKETS, Reader, Unread, innermost_elements};
 use crate::vectors::{Found, elements_of, left_for};
 use fb_json::{JsonFault, Source};
 use fb_pieces::{
-    Run, cut_array, cut_array_is_read, cut_array_is_utf8, text_is_read_without_brackets,
+    Run, cut_array, cut_array_is_read, cut_array_is_utf8, elements_make_the_array,
+    text_is_read_without_brackets,
 };
-use fb_schema::Shape;
+use fb_schema::{Kind, Shape};
 use fb_tape::Tape;
 use serde_json::Value as Json;
 
@@ -98,6 +100,7 @@ fn push_run(
     requires element { IsElement source.layout.now (stored_kind source.layout.now.schema elements.kind) }
     requires forward { run.elements.start ≤ run.elements.end }
     requires inside { run.elements.end ≤ length array.text.now }
+    requires some { 0 < array.brackets }
     requires brackets { array.brackets ≤ 127 }
     ensures added { let L = source.entry.layout.now in let stored = stored_kind L.schema elements.kind in
         IfOk result (λ now. (ds : Items)
@@ -109,6 +112,10 @@ fn push_run(
     ensures opened { IfOk result (λ now. OnOk now.left (walk.new.noting.opened ≡ walk.old.noting.opened)) }
 {
     text_is_read_without_brackets();
+    elements_make_the_array();
+    if let Some(outline) = lone_outline(&mut walk.reader, array, run, elements.kind)? {
+        return push_trees(source, &mut walk.noting.tape, &[outline], elements, found);
+    }
     let text = &array.text[run.elements.start..run.elements.end];
     let brackets = MOST_BRACKETS - array.brackets;
     let read = walk.reader.read_in_brackets(text, brackets + 1)?;
@@ -116,6 +123,30 @@ fn push_run(
         return Err(Unread::Piece);
     };
     push_trees(source, &mut walk.noting.tape, trees, elements, found)
+}
+
+/// The outline of a run's one element, if it is long and its content has no meaning.
+fn lone_outline(
+    reader: &mut Reader,
+    array: Excerpt<'_>,
+    run: Run,
+    kind: Kind,
+) -> Result<Option<Json>, Unread>
+    requires forward { run.elements.start ≤ run.elements.end }
+    requires inside { run.elements.end ≤ length array.text.now }
+    requires some { 0 < array.brackets }
+    ensures { IfOk result (λ found. IfSome found (λ tree. IsOutlined (array.entry.brackets - 1)
+        (run_text array.entry.text.now run) (One kind) (tree_view tree))) }
+{
+    if run.count != 1 {
+        return Ok(None);
+    }
+    let element = Excerpt {
+        text: &array.text[run.elements.start..run.elements.end],
+        brackets: array.brackets - 1,
+        at: array.at.saturating_add(run.elements.start),
+    };
+    reader.outline(element, Shape::One(kind))
 }
 
 /// Adds elements that are trees to the vector that was begun. Behind a fault they are only counted.

@@ -22,13 +22,13 @@ ghost use Rattle.fb_encode.specs.TreesNoted.{IsPart, IsSlot};
 
 use crate::entries::{SlotRead, note_slot};
 use crate::excerpts::{TextWalk, note_at_once, note_excerpt};
+use crate::outlines::container_of;
 use crate::reader::{Excerpt, MOST_BRACKETS, Unread, innermost};
 use crate::slot_texts::{SlotTexts, pass_by_text, texts_by_slot};
 use fb_json::{JsonFault, Place, Source, code_of_slot, is_absent};
 use fb_layout::layout_is_well_made;
 use fb_pieces::{
-    Cuts, Member, cut_object, cut_object_is_read, cut_object_is_utf8, leading_blanks,
-    text_is_read_without_brackets,
+    Cuts, Member, cut_object, cut_object_is_read, cut_object_is_utf8, text_is_read_without_brackets,
 };
 use fb_schema::{Kind, Shape, TypeId};
 use serde_json::Value as Json;
@@ -189,6 +189,14 @@ fn note_next(
     if walk.reader.is_long(text) && is_in_pieces(slot.field.shape) && is_bracketed(text.text) {
         return note_reference(source, walk, slot, text, behind, levels);
     }
+    if let Shape::One(Kind::Union(union)) = slot.field.shape {
+        if walk.reader.is_long(text) && is_bracketed(text.text) {
+            return note_member(source, walk, slot, union, text, behind, levels);
+        }
+    }
+    if let Some(outline) = walk.reader.outline(text, slot.field.shape)? {
+        return note_tree(source, walk, slot, Some(&outline), behind, levels);
+    }
     text_is_read_without_brackets();
     let read = walk.reader.read(text)?;
     let Some(tree) = innermost(&read, MOST_BRACKETS - text.brackets) else {
@@ -204,12 +212,11 @@ fn is_in_pieces(shape: Shape) -> bool
     matches!(shape, Shape::Many(_) | Shape::One(Kind::Table(_)))
 }
 
-/// Whether a text begins with a bracket or brace, behind blanks.
+/// Whether a text begins with a bracket or brace, after blanks.
 fn is_bracketed(text: &[u8]) -> bool
     ensures { result ≡ true → (brackets : ℕ) → read_at brackets text.now ≢ Some null }
 {
-    let at = leading_blanks(text);
-    at < text.len() && (text[at] == b'[' || text[at] == b'{')
+    container_of(text).is_some()
 }
 
 /// Notes a slot whose member is a tree, or which has none.
@@ -274,6 +281,47 @@ fn note_reference(
                 code: behind.code,
                 left,
             }))
+        }
+        Err(fault) => Ok(Err(fault)),
+    }
+}
+
+/// Notes a union's member that is long, and is read in pieces under the table that its code names.
+#[cycle(reads)]
+fn note_member(
+    source: Source,
+    walk: &mut TextWalk<'_>,
+    slot: SlotRead<'_>,
+    union: TypeId,
+    text: Excerpt<'_>,
+    behind: Behind,
+    levels: u8,
+) -> Result<Result<Behind, JsonFault>, Unread>
+    requires layout { walk.old.noting.tape.layout ≡ source.layout.now }
+    requires whole { walk.old.noting.tape.unfinished ≡ [] }
+    requires levels { 0 < levels }
+    requires slot { IsSlot source.layout.now slot.owner.0 slot.number (slot_seen source.layout.now slot.field.now) }
+    requires used { slot.field.now.deprecated ≡ false }
+    requires union { slot.field.now.shape ≡ One (Kind.Union union) }
+    requires brackets { text.brackets ≤ 127 }
+    requires bracketed { (brackets : ℕ) → read_at brackets text.text.now ≢ Some null }
+    ensures read { OnOk result (IsRead text.entry.brackets text.entry.text.now) }
+    ensures noted { let L = source.entry.layout.now in (seen : Look) → seen (field_seen slot.entry.field.now).name
+        ≡ text_found L source.entry.unknown (Some text.entry)
+        → IfOk result (IsSlotNotedOr L seen slot.entry (levels - 1) behind walk.old.noting walk.new.noting) }
+{
+    layout_is_well_made(source.layout);
+    let (place, code) = (slot.place(), behind.code);
+    let Some(table) = source.layout.schema().member_by_code(union, code) else {
+        walk.reader.pass_by(text)?;
+        return Ok(Err(JsonFault::UnionMismatch(place)));
+    };
+    walk.noting.opened.push_code(slot.number - 1, code)?;
+    let shape = Shape::One(Kind::Table(table));
+    match note_excerpt(source, walk, text, shape, place, levels - 1, behind.left)? {
+        Ok(left) => {
+            walk.noting.opened.push_reference(slot.number)?;
+            Ok(Ok(Behind { code, left }))
         }
         Err(fault) => Ok(Err(fault)),
     }

@@ -4,10 +4,12 @@ ghost use Rattle.serde_json.specs.Data.{array, string};
 ghost use Rattle.serde_json.specs.Read.{read};
 ghost use Rattle.serde_json.specs.View.{items_view, view as tree_view};
 ghost use Rattle.fb_pieces.specs.InBrackets.{in_arrays, in_brackets};
+ghost use Rattle.fb_encode.specs.Outlines.{IsOutlined};
 ghost use Rattle.fb_encode.specs.TextsRead.{IsRead, IsReadAs};
 
-use fb_pieces::{Cuts, leading_blanks, string_of, text_is_read_without_brackets};
-use fb_schema::Kind;
+use crate::outlines::container_of;
+use fb_pieces::{Cuts, is_json_at, leading_blanks, string_of};
+use fb_schema::{Kind, Shape};
 use json::Scratch;
 use serde_json::Value as Json;
 use std::alloc::{AllocError, Global};
@@ -132,17 +134,37 @@ impl Reader {
         self.read_in_brackets(excerpt.text, MOST_BRACKETS - excerpt.brackets)
     }
 
-    /// Reads an excerpt, and drops what was read.
+    /// Checks an excerpt whose tree has no meaning, so that none is made.
     pub(crate) fn pass_by(&mut self, excerpt: Excerpt<'_>) -> Result<(), Unread>
-        requires { excerpt.brackets ≤ 127 }
         ensures { OnOk result (IsRead excerpt.entry.brackets excerpt.entry.text.now) }
     {
-        text_is_read_without_brackets();
-        let read = self.read(excerpt)?;
-        let Some(_tree) = innermost(&read, MOST_BRACKETS - excerpt.brackets) else {
-            return Err(Unread::Piece);
-        };
-        Ok(())
+        if is_json_at(excerpt.text, excerpt.brackets, &mut *self.scratch)? {
+            Ok(())
+        } else {
+            Err(Unread::Piece)
+        }
+    }
+
+    /// An empty array or object in the place of a long one whose content has no meaning where a value of this shape is
+    /// wanted. None for another text.
+    pub(crate) fn outline(
+        &mut self,
+        excerpt: Excerpt<'_>,
+        shape: Shape,
+    ) -> Result<Option<Json>, Unread>
+        ensures { IfOk result (λ found. IfSome found (λ tree.
+            IsOutlined excerpt.entry.brackets excerpt.entry.text.now shape (tree_view tree))) }
+    {
+        if excerpt.text.len() <= self.most {
+            return Ok(None);
+        }
+        match container_of(excerpt.text) {
+            Some(container) if !container.has_content(shape) => {
+                self.pass_by(excerpt)?;
+                Ok(Some(container.outline(self.alloc)))
+            }
+            _ => Ok(None),
+        }
     }
 }
 

@@ -129,9 +129,8 @@ fn put_text<'t>(
     before
 }
 
-/// Reads a text, if there is one, and drops what was read.
+/// Checks a text, if there is one.
 pub(crate) fn pass_by_text(reader: &mut Reader, text: Option<Excerpt<'_>>) -> Result<(), Unread>
-    requires { IfSome text (λ e. e.brackets ≤ 127) }
     ensures { OnOk result (IfSome text.entry (λ e. IsRead e.brackets e.text.now)) }
 {
     match text {

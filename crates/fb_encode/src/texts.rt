@@ -4,7 +4,9 @@ ghost use Rattle.fb_value.specs.Bounds.{Bounds};
 ghost use Rattle.fb_value.specs.Datum.{Datum};
 ghost use Rattle.fb_tape.specs.Tapes.{Waits};
 ghost use Rattle.fb_build.specs.NotedRoots.{NotesRoot};
-ghost use Rattle.fb_encode.specs.TextsEncoded.{IsTextEncoded, IsTextNoted, IsUnread, TextRefused, first_fault};
+ghost use Rattle.fb_layout.specs.Laid.{LaidSchema};
+ghost use Rattle.fb_encode.specs.TextsEncoded.{IsTextEncoded, IsTextNoted, IsUnnoted, IsUnread, TextRefused};
+ghost use Rattle.fb_encode.specs.TextsEncoded.{first_fault};
 
 use crate::excerpts::{TextWalk, note_excerpt};
 use crate::faults::{EncodeFault, TextFault};
@@ -13,9 +15,11 @@ use crate::trees::{lay_noted, note_root};
 use fb_build::Noting;
 use fb_json::{JsonFault, Place, Source, first_fault_refuses, only_what_is_meant};
 use fb_layout::Layout;
+use fb_pieces::is_json_at;
 use fb_schema::{Kind, Shape};
 use fb_tape::Tape;
 use fb_value::Limits;
+use json::Scratch;
 use serde_json::Value as Json;
 use std::alloc::Global;
 
@@ -29,22 +33,29 @@ fn first_fault(fault: JsonFault) -> TextFault
     }
 }
 
-/// Notes the value that a text means, which is read in pieces, on a tape of nothing. None where a piece can't be read
-/// on its own.
+/// Why the value of a text isn't noted from its pieces.
+enum Unnoted {
+    /// This is the text's fault.
+    Fault(TextFault),
+    /// A piece isn't JSON on its own.
+    Piece,
+}
+
+/// Notes the value that a text means, which is read in pieces, on a tape of nothing.
 fn note_pieces(
     source: Source,
     walk: &mut TextWalk<'_>,
     json: &[u8],
     limits: Limits,
-) -> Option<Result<(), TextFault>>
+) -> Result<(), Unnoted>
     requires layout { walk.old.noting.tape.layout ≡ source.layout.now }
     requires whole { walk.old.noting.tape.unfinished ≡ [] }
     requires waits { Waits walk.old.noting.tape [] }
     requires room { walk.old.noting.tape.room ≡ 0 }
-    ensures noted { IfSome result (λ r. OnOk r
-        (IsTextNoted source.entry.layout.now limits source.entry.unknown json.now walk.new.noting.tape)) }
-    ensures refused { IfSome result (λ r. IfErr r
-        (IsUnread source.entry.layout.now limits source.entry.unknown json.now)) }
+    ensures noted { OnOk result
+        (IsTextNoted source.entry.layout.now limits source.entry.unknown json.now walk.new.noting.tape) }
+    ensures refused { IfErr result
+        (IsUnnoted source.entry.layout.now limits source.entry.unknown json.now) }
 {
     only_what_is_meant();
     first_fault_refuses();
@@ -62,40 +73,32 @@ fn note_pieces(
     let levels = limits.most_depth();
     let cells = limits.most_cells();
     match note_excerpt(source, walk, excerpt, shape, place, levels, cells) {
-        Ok(Ok(_left)) => Some(Ok(())),
-        Ok(Err(fault)) => Some(Err(first_fault(fault))),
-        Err(Unread::Memory) => Some(Err(TextFault::Memory)),
-        Err(Unread::Piece) => None,
+        Ok(Ok(_left)) => Ok(()),
+        Ok(Err(fault)) => Err(Unnoted::Fault(first_fault(fault))),
+        Err(Unread::Memory) => Err(Unnoted::Fault(TextFault::Memory)),
+        Err(Unread::Piece) => Err(Unnoted::Piece),
     }
 }
 
-/// A tape on which the value is noted that a text means, which is read in pieces. None where a piece can't be read on
-/// its own.
+/// A tape on which the value is noted that a text means, which is read in pieces.
 fn note_in_pieces<'l>(
     source: Source<'l>,
     json: &[u8],
     limits: Limits,
     piece: usize,
-) -> Option<Result<Tape<'l>, TextFault>>
-    ensures noted { IfSome result (λ r. IfOk r
-        (IsTextNoted source.entry.layout.now limits source.entry.unknown json.now)) }
-    ensures refused { IfSome result (λ r. IfErr r
-        (IsUnread source.entry.layout.now limits source.entry.unknown json.now)) }
+) -> Result<Tape<'l>, Unnoted>
+    ensures noted { IfOk result (IsTextNoted source.entry.layout.now limits source.entry.unknown json.now) }
+    ensures refused { IfErr result (IsUnnoted source.entry.layout.now limits source.entry.unknown json.now) }
 {
     let Ok(reader) = Reader::over(source.alloc, json, piece) else {
-        return Some(Err(TextFault::Memory));
+        return Err(Unnoted::Fault(TextFault::Memory));
     };
     let mut walk = TextWalk {
         noting: Noting::new(source.alloc, source.layout),
         reader,
     };
-    let noted = note_pieces(source, &mut walk, json, limits);
-    let tape = walk.into_tape();
-    match noted {
-        Some(Ok(())) => Some(Ok(tape)),
-        Some(Err(fault)) => Some(Err(fault)),
-        None => None,
-    }
+    note_pieces(source, &mut walk, json, limits)?;
+    Ok(walk.into_tape())
 }
 
 /// The same of a text that is read at once.
@@ -123,6 +126,17 @@ fn note_at_once<'l>(source: Source<'l>, json: &[u8], limits: Limits) -> Result<T
     }
 }
 
+/// Checks that a text is JSON, and makes no tree.
+fn check_json(alloc: Global, json: &[u8]) -> Result<(), TextFault>
+    ensures { IfErr result (λ f. (L : LaidSchema) (most : Bounds) (unknown : Bool) → IsUnread L most unknown json.now f) }
+{
+    match is_json_at(json, MOST_BRACKETS, &mut Scratch::new(alloc)) {
+        Ok(true) => Ok(()),
+        Ok(false) => Err(TextFault::BadJson),
+        Err(_) => Err(TextFault::Memory),
+    }
+}
+
 /// A tape on which the value is noted that a text means.
 fn note_text<'l>(
     source: Source<'l>,
@@ -134,8 +148,11 @@ fn note_text<'l>(
     ensures refused { IfErr result (IsUnread source.entry.layout.now limits source.entry.unknown json.now) }
 {
     if json.len() > piece {
-        if let Some(noted) = note_in_pieces(source, json, limits, piece) {
-            return noted;
+        match note_in_pieces(source, json, limits, piece) {
+            Ok(tape) => return Ok(tape),
+            Err(Unnoted::Fault(fault)) => return Err(fault),
+            // If the whole is JSON nevertheless, it was cut at a wrong place.
+            Err(Unnoted::Piece) => check_json(source.alloc, json)?,
         }
     }
     note_at_once(source, json, limits)

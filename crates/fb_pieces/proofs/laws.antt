@@ -6,6 +6,7 @@ pub mod TokensSplitAtAComma
 pub mod TokensBeforeAClosingBracket
 pub mod TokensOfAValue
 pub mod ReadTextHasTheTokensOfAValue
+pub mod JsonHasItsNumbersInRange
 pub mod ReadTextClosesItsStrings
 pub mod RunsMakeTheArray
 pub mod ValueIsReadBeforeAComma

@@ -1,6 +1,7 @@
 pub mod Modes
 pub mod Texts
 pub mod Reads
+pub mod JsonTexts
 pub mod LexemesSplit
 pub mod TokensSplit
 pub mod EndsOutside

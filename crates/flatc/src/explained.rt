@@ -1,4 +1,5 @@
 //! What is printed of a refusal where an explanation is asked for.
+use crate::called::eprint_usage;
 use crate::flags::Flags;
 use crate::limits;
 use crate::terminal::{columns, print_explanation};
@@ -9,6 +10,11 @@ use std::alloc::AllocError;
 use std::io;
 
 const USAGE: u8 = 2;
+
+const NO_NUMBER: &str = "error: no refusal has this number
+
+Usage: flatc explain [NUMBER]
+";
 
 fn source_of<'a>(input: &'a Input<'_>) -> Source<'a> {
     Source {
@@ -123,11 +129,7 @@ pub(crate) fn explain_number(rt: &HostRuntime, number: &str) -> u8 {
             Err(_) => 1,
         },
         None => {
-            let _printed = eprintln!(rt;
-                "error: no refusal has this number
-
-Usage: flatc explain [NUMBER]"
-            );
+            let _printed = eprint_usage(rt, NO_NUMBER);
             USAGE
         }
     }

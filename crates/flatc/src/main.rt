@@ -5,6 +5,7 @@ ghost use Rattle.std.specs.Prelude.{◌≡◌};
 ghost use Rattle.flatc_tool.specs.Options.{usual_limits};
 
 mod batches;
+mod called;
 mod explained;
 mod faults;
 mod flags;
@@ -14,6 +15,7 @@ mod messages;
 mod terminal;
 
 use crate::batches::do_batch;
+use crate::called::{eprint_hint, eprint_usage, print_error};
 use crate::explained::{explain_number, explain_refusal, list_numbers, warn};
 use crate::faults::{Buffer, read_fault, write_fault};
 use crate::flags::{Flags, USUAL};
@@ -226,10 +228,10 @@ fn refuse(rt: &HostRuntime, error: &Error, words: &[String]) -> u8 {
     if error.kind() == ErrorKind::OutOfMemory {
         return tell_memory(rt);
     }
-    match error.print(rt) {
+    match print_error(rt, error) {
         Ok(()) if error.use_stderr() => {
             if let Some(hint) = hint_for(words) {
-                let _printed = eprintln!(rt; "\nhint: {hint}");
+                let _printed = eprint_hint(rt, hint);
             }
             USAGE
         }
@@ -244,7 +246,7 @@ fn refuse_words(rt: &HostRuntime, error: &io::Error) -> u8 {
     if error.kind() == io::ErrorKind::OutOfMemory {
         return tell_memory(rt);
     }
-    let _printed = eprint!(rt; "{NOT_UTF8}");
+    let _printed = eprint_usage(rt, NOT_UTF8);
     USAGE
 }
 

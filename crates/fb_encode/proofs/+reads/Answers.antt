@@ -8,6 +8,8 @@ use Rattle.fb_encode.proofs.+reads.Answers.LongVectorIsNoted.{next_run_noted, ru
 use Rattle.fb_encode.proofs.+reads.Answers.SlotIsNoted.{reference_adds_itself, reference_fault_found}
 use Rattle.fb_encode.proofs.+reads.Answers.SlotIsNoted.{absent_adds_nothing, slot_without_text_noted}
 use Rattle.fb_encode.proofs.+reads.Answers.SlotIsNoted.{bracketed_has_a_part, bracketed_noted, text_read, text_noted}
+use Rattle.fb_encode.proofs.+reads.Answers.SlotIsNoted.{code_is_before_its_union, member_adds_itself}
+use Rattle.fb_encode.proofs.+reads.Answers.SlotIsNoted.{member_fault_found, member_unknown, outline_noted, union_noted}
 use Rattle.fb_encode.proofs.+reads.Answers.LongTableIsNoted.{slot_has_a_text, first_within, first_kept}
 use Rattle.fb_encode.proofs.+reads.Answers.LongTableIsNoted.{fields_are_closed}
 use Rattle.fb_encode.proofs.+reads.Goals as goal
@@ -92,3 +94,23 @@ objects::note_members-truncate-requires = first_kept
 
 pub objects::note_members-returns-clause-opened : goal.objects::note_members-returns-clause-opened
 objects::note_members-returns-clause-opened = fields_are_closed
+
+pub objects::note_member-returns-in_default-clause-noted : goal.objects::note_member-returns-in_default-clause-noted
+objects::note_member-returns-in_default-clause-noted = member_unknown
+
+pub objects::note_member-overflow_sub-slot : goal.objects::note_member-overflow_sub-slot
+objects::note_member-overflow_sub-slot = code_is_before_its_union
+
+pub objects::note_member-returns-in_ok-push_reference-in-Ok-clause-noted :
+    goal.objects::note_member-returns-in_ok-push_reference-in-Ok-clause-noted
+objects::note_member-returns-in_ok-push_reference-in-Ok-clause-noted = member_adds_itself
+
+pub objects::note_member-returns-in-Err-clause-noted : goal.objects::note_member-returns-in-Err-clause-noted
+objects::note_member-returns-in-Err-clause-noted = member_fault_found
+
+pub objects::note_next-returns-then-is_bracketed-2-clause-noted :
+    goal.objects::note_next-returns-then-is_bracketed-2-clause-noted
+objects::note_next-returns-then-is_bracketed-2-clause-noted = union_noted
+
+pub objects::note_next-returns-in-Some-2-clause-noted : goal.objects::note_next-returns-in-Some-2-clause-noted
+objects::note_next-returns-in-Some-2-clause-noted = outline_noted

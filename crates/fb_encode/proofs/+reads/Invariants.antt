@@ -47,6 +47,9 @@ decreases-objects::note_next l = 10 * brackets_in l.text + 11
 abbrev pub decreases-objects::note_reference : goal.decreases-objects::note_reference
 decreases-objects::note_reference l = 10 * l.text.brackets + 10
 
+abbrev pub decreases-objects::note_member : goal.decreases-objects::note_member
+decreases-objects::note_member l = 10 * l.text.brackets + 10
+
 abbrev pub invariant-objects::note_members-loop-k : goal.invariant-objects::note_members-loop-k
 invariant-objects::note_members-loop-k l = record {
   found : AreSlotsFoundOr l.source.layout.now l.source.unknown

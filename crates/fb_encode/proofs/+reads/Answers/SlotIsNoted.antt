@@ -1,17 +1,21 @@
 -- The next slot of a long table is noted from its text.
-use Rattle.std.proofs.Common.{◌∙◌, Some, ap, arith, ◌-◌, ◌++◌, ◌∷◌, [], option_map}
+use Rattle.std.proofs.Common.{◌∙◌, Some, ap, arith, ◌-◌, ◌++◌, ◌∷◌, [], option_map, refl, sym}
 use Rattle.serde_json.specs.View.{view as tree_view}
 use Rattle.fb_schema.specs.Seen.{field_seen}
-use Rattle.fb_layout.specs.Laid.{slot_of}
+use Rattle.fb_layout.specs.Laid.{slot_of, stored_shape}
 use Rattle.fb_layout.specs.Seen.{slot_seen}
 use Rattle.fb_layout.proofs.sizes.AlignmentsArePowersOfTwo.{slot_below}
 use Rattle.fb_value.specs.Datum.{a_number}
 use Rattle.fb_tape.specs.OpenFields.{reference_field}
-use Rattle.fb_json.specs.Meant.{meant, slot_place}
+use Rattle.fb_json.specs.Meant.{Look, meant, slot_place}
 use Rattle.fb_build.proofs.fields.AlignmentDividesTheSize.{all_known}
+use Rattle.fb_build.proofs.fields.CodeIsBeforeItsUnion.{slots_paired}
 use Rattle.fb_encode.proofs.entries.PresentEntryIsNoted.{part_of}
 use Rattle.fb_encode.proofs.objects.NextSlotIsNoted.{absent_next, old_next, on_ok, reference_fails, reference_next}
-use Rattle.fb_encode.proofs.objects.NextSlotIsNoted.{used_by}
+use Rattle.fb_encode.proofs.objects.NextSlotIsNoted.{member_fails, member_next, mismatch_fails, used_by}
+use Rattle.fb_encode.proofs.outlines.SlotIsNotedByItsOutline.{noted_by_outline}
+use Rattle.fb_encode.proofs.excerpts.NotedOrRefused.{if_ok_then}
+use Rattle.fb_encode.specs.Outlines.{outline}
 use Rattle.fb_encode.proofs.slot_texts.PiecesAreRead.{inner_is_read, tree_is}
 use Rattle.fb_encode.proofs.objects.SlotsAreFound.{brackets_in}
 use Rattle.fb_encode.proofs.+reads.Goals.{objects::note_next-then-slot-via-then-slot}
@@ -28,9 +32,9 @@ reference_adds_itself t c seen found =
     let opened = rw c.in-Ok.is at c.in_ok-left.ensures.opened in
     let is = tree_is text.brackets text.text.now noted.0 noted.1 in
     reference_next L (field_seen slot.field.now) seen slot.number c.args.behind.code (c.args.levels - 1)
-    c.args.behind.left (slot_place slot.owner.0 slot.number) c.requires.used c.requires.part unknown noted.0
+    c.args.behind.left (slot_place slot.owner.0 slot.number) c.requires.used unknown noted.0
     (λ null. c.requires.bracketed text.brackets (noted.1.read ∙ ap Some null))
-    (found ∙ ap (λ d. Some (d, meant L unknown d)) is) _ _ _ _ c.in-Ok.left noted.2
+    (found ∙ ap (λ d. Some (d, meant L unknown d)) is) c.requires.part _ _ _ _ c.in-Ok.left noted.2
     (c.in_ok-push_reference-in-Ok.ensures.adds ∙ ap (λ os. os ++ (reference_field slot.number ∷ [])) opened)
 
 pub reference_fault_found : goal.objects::note_reference-returns-in-Err-clause-noted
@@ -42,9 +46,9 @@ reference_fault_found t c seen found =
     let noted = rw (c.place-place.ensures, c.in-Err.is) at c.in_ok-left.ensures.noted in
     let is = tree_is text.brackets text.text.now noted.0 noted.1 in
     reference_fails L (field_seen slot.field.now) seen slot.number c.args.behind.code (c.args.levels - 1)
-    c.args.behind.left (slot_place slot.owner.0 slot.number) c.requires.used c.requires.part unknown noted.0
+    c.args.behind.left (slot_place slot.owner.0 slot.number) c.requires.used unknown noted.0
     (λ null. c.requires.bracketed text.brackets (noted.1.read ∙ ap Some null))
-    (found ∙ ap (λ d. Some (d, meant L unknown d)) is) c.in-Err.fault noted.2
+    (found ∙ ap (λ d. Some (d, meant L unknown d)) is) c.requires.part c.in-Err.fault noted.2
 
 pub absent_adds_nothing : goal.objects::note_next-returns-then-slot-clause-noted
 absent_adds_nothing t c seen found =
@@ -129,3 +133,83 @@ text_noted t c seen found =
     let here = rw c.in-Some.is at (found used) in
     rw c.in-Ok.is (c.note_tree-2.ensures.noted seen
     (here ∙ ap (λ d. Some (d, meant L unknown d)) (tree_is text.brackets text.text.now _ is)))
+
+-- ---- a union's member
+
+pub member_unknown : goal.objects::note_member-returns-in_default-clause-noted
+member_unknown t c seen found =
+    let L = c.args.source.layout.now in
+    let unknown = c.args.source.unknown in
+    let slot = c.args.slot in
+    let text = c.args.text in
+    let read = c.in_ok-pass_by.ensures in
+    let is = tree_is text.brackets text.text.now read.0 read.1 in
+    let none = rw c.schema.ensures.schema at (sym c.in_default.ensures) in
+    rw c.place-place.ensures (mismatch_fails L (field_seen slot.field.now) seen slot.number c.args.behind.code
+    (c.args.levels - 1) c.args.behind.left (slot_place slot.owner.0 slot.number) c.requires.used unknown read.0
+    (λ null. c.requires.bracketed text.brackets (read.1.read ∙ ap Some null))
+    (found ∙ ap (λ d. Some (d, meant L unknown d)) is) c.args.union c.requires.union none)
+
+pub code_is_before_its_union : goal.objects::note_member-overflow_sub-slot
+code_is_before_its_union t c =
+    let L = c.args.source.layout.now in
+    let slot = c.args.slot in
+    let paired = slots_paired L c.layout_is_well_made.ensures.declared slot.owner.0 in
+    let led = paired.led slot.number (slot_seen L slot.field.now) c.args.union.0 c.requires.slot
+    (ap (stored_shape L.schema) c.requires.union) in
+    omega (arith, led.2)
+
+pub member_adds_itself : goal.objects::note_member-returns-in_ok-push_reference-in-Ok-clause-noted
+member_adds_itself t c seen found =
+    let L = c.args.source.layout.now in
+    let unknown = c.args.source.unknown in
+    let slot = c.args.slot in
+    let text = c.args.text in
+    let noted = rw (c.place-place.ensures, c.in-Ok.is) at c.in_ok-left.ensures.noted in
+    let opened = rw c.in-Ok.is at c.in_ok-left.ensures.opened in
+    let is = tree_is text.brackets text.text.now noted.0 noted.1 in
+    let known = rw c.schema.ensures.schema at (sym c.in-Some.ensures) in
+    member_next L (field_seen slot.field.now) seen slot.number c.args.behind.code (c.args.levels - 1)
+    c.args.behind.left (slot_place slot.owner.0 slot.number) c.requires.used unknown noted.0
+    (λ null. c.requires.bracketed text.brackets (noted.1.read ∙ ap Some null))
+    (found ∙ ap (λ d. Some (d, meant L unknown d)) is) c.args.union c.requires.union c.in-Some.table.0 known _ _ _
+    c.push_code.new.self _ c.in-Ok.left noted.2 (c.in_ok-push_code.ensures.adds L)
+    (c.in_ok-push_reference-in-Ok.ensures.adds ∙ ap (λ os. os ++ (reference_field slot.number ∷ [])) opened)
+
+pub member_fault_found : goal.objects::note_member-returns-in-Err-clause-noted
+member_fault_found t c seen found =
+    let L = c.args.source.layout.now in
+    let unknown = c.args.source.unknown in
+    let slot = c.args.slot in
+    let text = c.args.text in
+    let noted = rw (c.place-place.ensures, c.in-Err.is) at c.in_ok-left.ensures.noted in
+    let is = tree_is text.brackets text.text.now noted.0 noted.1 in
+    let known = rw c.schema.ensures.schema at (sym c.in-Some.ensures) in
+    member_fails L (field_seen slot.field.now) seen slot.number c.args.behind.code (c.args.levels - 1)
+    c.args.behind.left (slot_place slot.owner.0 slot.number) c.requires.used unknown noted.0
+    (λ null. c.requires.bracketed text.brackets (noted.1.read ∙ ap Some null))
+    (found ∙ ap (λ d. Some (d, meant L unknown d)) is) c.args.union c.requires.union c.in-Some.table.0 known
+    c.in-Err.fault noted.2
+
+pub union_noted : goal.objects::note_next-returns-then-is_bracketed-2-clause-noted
+union_noted t c seen found =
+    let used = used_by c.args.slot.field.now.deprecated c.args.text c.in-Some.text c.requires.old c.in-Some.is in
+    rw c.in-Ok.is (c.note_member.ensures.noted seen (rw c.in-Some.is at (found used)))
+
+-- ---- a long text of whose content nothing has a meaning
+
+pub outline_noted : goal.objects::note_next-returns-in-Some-2-clause-noted
+outline_noted t c seen found =
+    let L = c.args.source.layout.now in
+    let unknown = c.args.source.unknown in
+    let slot = c.args.slot in
+    let text = c.in-Some.text in
+    let o = rw c.in-Some-2.is at c.in_ok-outline.ensures in
+    let used = used_by slot.field.now.deprecated c.args.text text c.requires.old c.in-Some.is in
+    let here = rw c.in-Some.is at (found used) in
+    let is = tree_is text.brackets text.text.now o.tree o.read in
+    let bare : Look = λ name. Some (outline o.tree, meant L unknown (outline o.tree)) in
+    let noted = c.note_tree-in-Some-2.ensures.noted bare (ap (λ d. Some (d, meant L unknown d)) (sym o.same)) in
+    rw c.in-Ok.is (if_ok_then c.note_tree-in-Some-2.result _ _ (noted_by_outline L unknown seen bare slot o.tree
+    (here ∙ ap (λ d. Some (d, meant L unknown d)) is) refl o.meaningless (c.args.levels - 1) c.in-Ok.behind
+    c.args.walk.now.noting c.note_tree-in-Some-2.new.walk.noting) noted)

@@ -51,6 +51,7 @@ push_run-requires c =
       element = c.requires.element;
       forward = within.0;
       inside = within.1;
+      some = c.requires.some;
       brackets = c.requires.brackets;
     }
 

@@ -8,7 +8,7 @@ use Rattle.fb_pieces.specs.declared.cut.Member.{Member}
 use Rattle.fb_encode.specs.declared.reader.Excerpt.{Excerpt}
 use Rattle.fb_encode.proofs.slot_texts.TextsAreAtTheirSlots.{none_put}
 use Rattle.fb_encode.proofs.slot_texts.MembersAreInTheText.{member_within}
-use Rattle.fb_encode.proofs.slot_texts.NextMemberIsPut.{next_in_brackets, next_put}
+use Rattle.fb_encode.proofs.slot_texts.NextMemberIsPut.{next_put}
 use Rattle.fb_encode.proofs.slot_texts.texts_by_slot.Goals as goal
 
 abbrev none : Member
@@ -35,18 +35,6 @@ piece_of-value-requires-clause-within c =
 few : (o : Option Excerpt) (b : ℕ) → b ≤ 127 → IfSome o (λ e. e.brackets ≡ b - 1) → IfSome o (λ e. e.brackets ≤ 127)
 few None b low is = tt
 few (Some e) b low is = omega (arith, low, is)
-
-pub pass_by_text-requires : goal.pass_by_text-requires
-pass_by_text-requires c =
-    let S = c.args.source.layout.now.schema in
-    let t = c.args.owner.0 in
-    few c.put_text-over.result c.args.excerpt.brackets c.requires.brackets
-    (rw c.put_text-over.ensures.over (next_in_brackets S t c.layout_is_well_made.ensures.declared c.args.source.unknown
-    (c.args.excerpt.brackets - 1) c.loop-member.texts.items c.loop-member.known c.args.excerpt.text.now
-    c.args.members.now c.loop-member.member-index none c.loop-member-test.true c.loop-member.invariant
-    c.piece_of-name.result c.piece_of-value.result c.piece_of-name.ensures.text c.piece_of-name.ensures.brackets
-    c.piece_of-value.ensures.text c.piece_of-value.ensures.brackets c.in_ok-field.ensures.name
-    (option_map field_seen (option_copied c.in_ok-field.field)) c.in_ok-field.ensures.field))
 
 pub loop-member-preserved : goal.loop-member-preserved
 loop-member-preserved c =

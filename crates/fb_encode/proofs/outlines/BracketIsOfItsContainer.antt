@@ -1,8 +1,8 @@
--- A text that begins with a bracket, behind blanks, isn't read as null.
+-- A text that begins with a bracket, after blanks, is read as an array or an object.
 use Rattle.std.proofs.Common.{◌≡◌, ◌≢◌, ◌∙◌, ◌<◌, ◌+◌, ℕ, zero, suc, List, [], ◌∷◌, ◌++◌, Option, None, Some, length}
 use Rattle.std.proofs.Common.{take, drop}
 use Rattle.std.proofs.Common.{get_or, option_and_then, option_map, Bool, true, ◌==◌, ◌⊎◌, inl, inr, refl, ap, sym}
-use Rattle.std.proofs.Common.{arith, take-append-drop}
+use Rattle.std.proofs.Common.{IfSome, arith, is_some, take-append-drop}
 use Rattle.std.proofs.Math.Seq.{drop-cons}
 use Rattle.std.specs.List.{list_all}
 use Rattle.std.proofs.lemmas.Bool.{and_parts, eqb-true, or_cases}
@@ -10,10 +10,13 @@ use Rattle.json.specs.Token.{Token}
 use Rattle.json.specs.Word.{is_space}
 use Rattle.json.specs.Json as json
 use Rattle.json.specs.Lex.{between, class, fresh, lex, lex_byte, punctuate, space, tokens}
-use Rattle.serde_json.specs.Data.{Data, Items, Members, array, no_members, null, object}
+use Rattle.serde_json.specs.Data.{Data, Items, Members, array, boolean, no_members, null, number, object, string}
 use Rattle.serde_json.specs.Read.{of_items, of_json, of_members}
 use Rattle.fb_pieces.specs.Blanks.{AreBlanks}
 use Rattle.fb_pieces.specs.Reads.{read_at}
+use Rattle.fb_encode.specs.Outlines.{IsOf}
+use Rattle.fb_encode.specs.declared.outlines.Container.{Container}
+use Rattle.fb_encode.specs.declared.outlines.Container.TheVariants.{Array, Object}
 
 blank_or : (x c : ℕ) (b : Bool) → class c ≡ space → (b ≡ true → class x ≡ space)
     → (b ≡ true) ⊎ ((x == c) ≡ true) → class x ≡ space
@@ -41,33 +44,47 @@ blanks_before (x ∷ blanks) text h =
 abbrev read_of : Option (json.Json × List Token) → Option Data
 read_of r = option_and_then of_json (option_and_then (λ p. json.if_last p.0 p.1) r)
 
-items_not_null : (o : Option Items) → option_map array o ≢ Some null
-items_not_null None is = cc
-items_not_null (Some ds) is = cc
+items_array : (o : Option Items) (t : Data) → option_map array o ≡ Some t → IsOf Array t
+items_array None t is = cc
+items_array (Some ds) null is = cc
+items_array (Some ds) (boolean b) is = cc
+items_array (Some ds) (number n) is = cc
+items_array (Some ds) (string s) is = cc
+items_array (Some ds) (array es) is = tt
+items_array (Some ds) (object ms) is = cc
 
-members_not_null : (o : Option Members) → option_map object o ≢ Some null
-members_not_null None is = cc
-members_not_null (Some ms) is = cc
+members_object : (o : Option Members) (t : Data) → option_map object o ≡ Some t → IsOf Object t
+members_object None t is = cc
+members_object (Some ms) null is = cc
+members_object (Some ms) (boolean b) is = cc
+members_object (Some ms) (number n) is = cc
+members_object (Some ms) (string s) is = cc
+members_object (Some ms) (array es) is = cc
+members_object (Some ms) (object ns) is = tt
 
-array_not_null : (r : Option (json.Items × List Token)) → read_of (json.parse_map json.array r) ≢ Some null
-array_not_null None is = cc
-array_not_null (Some (js, [])) is = items_not_null (of_items js) is
-array_not_null (Some (js, t ∷ ts)) is = cc
+array_read : (r : Option (json.Items × List Token)) (t : Data) → read_of (json.parse_map json.array r) ≡ Some t
+    → IsOf Array t
+array_read None t is = cc
+array_read (Some (js, [])) t is = items_array (of_items js) t is
+array_read (Some (js, u ∷ us)) t is = cc
 
-object_not_null : (r : Option (json.Members × List Token)) → read_of (json.parse_map json.object r) ≢ Some null
-object_not_null None is = cc
-object_not_null (Some (ms, [])) is = members_not_null (of_members ms no_members) is
-object_not_null (Some (ms, t ∷ ts)) is = cc
+object_read : (r : Option (json.Members × List Token)) (t : Data) → read_of (json.parse_map json.object r) ≡ Some t
+    → IsOf Object t
+object_read None t is = cc
+object_read (Some (ms, [])) t is = members_object (of_members ms no_members) t is
+object_read (Some (ms, u ∷ us)) t is = cc
 
-opening_not_null : (levels : ℕ) (ts : List Token) → read_of (json.value levels (Token.begin_array ∷ ts)) ≢ Some null
+opening_read : (levels : ℕ) (ts : List Token) (t : Data) → read_of (json.value levels (Token.begin_array ∷ ts)) ≡ Some t
+    → IsOf Array t
 unfolding json.value
-opening_not_null zero ts = array_not_null None
-opening_not_null (suc levels) ts = array_not_null (json.items (json.value levels) (length ts) ts)
+opening_read zero ts t is = array_read None t is
+opening_read (suc levels) ts t is = array_read (json.items (json.value levels) (length ts) ts) t is
 
-brace_not_null : (levels : ℕ) (ts : List Token) → read_of (json.value levels (Token.begin_object ∷ ts)) ≢ Some null
+brace_read : (levels : ℕ) (ts : List Token) (t : Data) → read_of (json.value levels (Token.begin_object ∷ ts)) ≡ Some t
+    → IsOf Object t
 unfolding json.value
-brace_not_null zero ts = object_not_null None
-brace_not_null (suc levels) ts = object_not_null (json.members (json.value levels) (length ts) ts)
+brace_read zero ts t is = object_read None t is
+brace_read (suc levels) ts t is = object_read (json.members (json.value levels) (length ts) ts) t is
 
 -- ---- the text
 
@@ -94,14 +111,26 @@ module _ (text : List ℕ) (at x : ℕ) (blanks : AreBlanks (take at text)) (wit
   abbrev read_tokens : ℕ → List Token → Option Data
   read_tokens levels ts = read_of (json.value levels ts)
 
-  pub bracketed : x ≡ 91 → (levels : ℕ) → read_at levels text ≢ Some null
-  bracketed opens levels null_is =
+  pub bracketed : x ≡ 91 → (levels : ℕ) (t : Data) → read_at levels text ≡ Some t → IsOf Array t
+  bracketed opens levels t is =
       let first = tokens_behind ∙ ap (λ (y : ℕ). tokens (y ∷ drop (at + 1) text)) opens
       ∙ bracket_first (drop (at + 1) text) in
-      opening_not_null levels _ (sym (ap (read_tokens levels) first) ∙ null_is)
+      opening_read levels _ t (sym (ap (read_tokens levels) first) ∙ is)
 
-  pub braced : x ≡ 123 → (levels : ℕ) → read_at levels text ≢ Some null
-  braced opens levels null_is =
+  pub braced : x ≡ 123 → (levels : ℕ) (t : Data) → read_at levels text ≡ Some t → IsOf Object t
+  braced opens levels t is =
       let first = tokens_behind ∙ ap (λ (y : ℕ). tokens (y ∷ drop (at + 1) text)) opens
       ∙ brace_first (drop (at + 1) text) in
-      brace_not_null levels _ (sym (ap (read_tokens levels) first) ∙ null_is)
+      brace_read levels _ t (sym (ap (read_tokens levels) first) ∙ is)
+
+-- ---- a container isn't null
+
+null_is_none : (container : Container) → IsOf container null → ⊥
+null_is_none Array is = is
+null_is_none Object is = is
+
+pub not_null : (text : List ℕ) (found : Option Container)
+    → IfSome found (λ container. (levels : ℕ) (t : Data) → read_at levels text ≡ Some t → IsOf container t)
+    → is_some found ≡ true → (levels : ℕ) → read_at levels text ≢ Some null
+not_null text None is some levels null_read = cc
+not_null text (Some container) is some levels null_read = null_is_none container (is levels null null_read)

@@ -1,0 +1,4 @@
+pub mod BracketIsOfItsContainer
+pub mod OutlineMeansTheSame
+pub mod SlotIsNotedByItsOutline
+pub mod ValueIsNotedByItsOutline

@@ -1,0 +1,3 @@
+-- What the proofs of src/json_texts.rt use.
+pub mod NumberIsReadByItsSign
+pub mod TextIsReadWithoutATree
