@@ -128,7 +128,8 @@ fn note_at_once<'l>(source: Source<'l>, json: &[u8], limits: Limits) -> Result<T
 
 /// Checks that a text is JSON, and makes no tree.
 fn check_json(alloc: Global, json: &[u8]) -> Result<(), TextFault>
-    ensures { IfErr result (λ f. (L : LaidSchema) (most : Bounds) (unknown : Bool) → IsUnread L most unknown json.now f) }
+    ensures { IfErr result (λ f. (L : LaidSchema) (most : Bounds) (unknown : Bool)
+        → IsUnread L most unknown json.now f) }
 {
     match is_json_at(json, MOST_BRACKETS, &mut Scratch::new(alloc)) {
         Ok(true) => Ok(()),

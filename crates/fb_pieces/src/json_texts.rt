@@ -58,11 +58,7 @@ fn are_in_range(mut reader: Reader<'_>) -> bool
 /// Whether `serde_json` reads a text in which `levels` arrays and objects may be open at once. No tree is made.
 ///
 /// The only error is a refused allocation: `scratch` grows to the text's length.
-pub fn is_json_at(
-    text: &[u8],
-    levels: u8,
-    scratch: &mut Scratch,
-) -> Result<bool, AllocError>
+pub fn is_json_at(text: &[u8], levels: u8, scratch: &mut Scratch) -> Result<bool, AllocError>
     ensures { IfOk result (λ is_json. IsTrue is_json ↔ IsRead levels text.entry.now) }
 {
     let Ok(text) = simdutf8::basic::from_utf8(text) else {

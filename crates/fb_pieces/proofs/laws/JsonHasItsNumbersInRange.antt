@@ -37,7 +37,7 @@ mutual
       list_all-append is_in_range (json_tokens j) (items_tokens js)
       ∙ ap (λ b. b && are_in_range (items_tokens js)) (value_in_range j)
       ∙ some_of_two (of_json j) (λ d. option_map (item d) (of_items js)) (are_in_range (items_tokens js))
-          (λ d. items_in_range js ∙ some_of_map (item d) (of_items js))
+      (λ d. items_in_range js ∙ some_of_map (item d) (of_items js))
 
   members_in_range : (ms : json.Members) (found : Members)
       → are_in_range (members_tokens ms) ≡ is_some (of_members ms found)
@@ -46,4 +46,4 @@ mutual
       list_all-append is_in_range (json_tokens j) (members_tokens ms)
       ∙ ap (λ b. b && are_in_range (members_tokens ms)) (value_in_range j)
       ∙ some_of_two (of_json j) (λ d. of_members ms (put k d found)) (are_in_range (members_tokens ms))
-          (λ d. members_in_range ms (put k d found))
+      (λ d. members_in_range ms (put k d found))
