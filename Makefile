@@ -39,7 +39,9 @@ LIBRARIES = $(DESTDIR)$(PREFIX)/$(LIBDIR)
 help:
 	@sed -n '/^# /!q; s/^# //p' $(MAKEFILE_LIST)
 
-run: build
+run:
+	@echo 'make run: proves all crates first; make try shows the same without proofs, in a minute or three' >&2
+	@$(MAKE) --silent build
 	@tests/example.sh $(PROGRAM)
 
 try:

@@ -7,11 +7,15 @@ The crates are proved side by side, a job each. What a library states is left in
 proof read: a later build proves only what has changed since, and what is above it.
 
 With --over-gate the libraries and programs that rt ci has just proved, and left in this tree, are taken as they are.
+
+tools/seconds.txt has the processor time of each crate's proof, as one run printed it. How long a run takes is estimated
+from that, and from how much faster or slower the crates were that it has proved.
 """
 import argparse
 import contextlib
 import functools
 import hashlib
+import heapq
 import os
 import shutil
 import signal
@@ -183,35 +187,134 @@ class Proof:
         return True
 
 
-def longest_first(crates, names):
-    """Some crates, those first on which the most text rests that is proved one crate after another."""
-    size = {name: sum(os.path.getsize(it) for it in files_of(name)) for name in names}
+@functools.cache
+def noted_seconds():
+    """The crates of tools/seconds.txt, each with the seconds of processor time that its proof took."""
+    with open(f"{ROOT}/tools/seconds.txt", encoding="utf-8") as it:
+        rows = [line.split() for line in it if not line.startswith("#")]
+    return {name: int(seconds) for name, seconds in rows}
+
+
+def size_of(name):
+    return sum(os.path.getsize(it) for it in files_of(name))
+
+
+@functools.cache
+def seconds_of(name):
+    """The seconds of processor time that a crate's proof takes, by its size where they aren't noted."""
+    noted = noted_seconds()
+    if name in noted:
+        return noted[name]
+    known = [it for it in noted if os.path.isdir(f"{ROOT}/crates/{it}")]
+    return size_of(name) * sum(noted[it] for it in known) / max(sum(size_of(it) for it in known), 1)
+
+
+def critical_path_first(crates, names):
+    """Some crates, those first that begin the longest chain of proofs."""
 
     @functools.cache
-    def above(name):
-        return size[name] + max((above(it) for it in names if name in crates[it][1]), default=0)
+    def chain(name):
+        return seconds_of(name) + max((chain(it) for it in names if name in crates[it][1]), default=0)
 
-    return sorted(names, key=above, reverse=True)
+    return sorted(names, key=chain, reverse=True)
 
 
-def tell(began, done, count, name, how):
-    minutes, rest = divmod(round(time.monotonic() - began), 60)
-    print(f"[{done} of {count}, {minutes}:{rest:02}] {name}: {how}", flush=True)
+def next_ready(crates, left, names, proved):
+    """The first crate that is left and has all proved that it stands on."""
+    for name in left:
+        if all(it in proved or it not in names for it in crates[name][1]):
+            return name
+    return None
+
+
+def planned_seconds(crates, names, jobs):
+    """The seconds from the first proof to the last, where each takes as long as seconds_of says."""
+    left, running, proved, now = critical_path_first(crates, names), [], [], 0
+    while left or running:
+        name = next_ready(crates, left, names, proved) if len(running) < jobs else None
+        if name:
+            left.remove(name)
+            heapq.heappush(running, (now + seconds_of(name), name))
+        else:
+            now, name = heapq.heappop(running)
+            proved.append(name)
+    return now
+
+
+class Estimate:
+    """How long a run takes: its plan, times how much longer the proved crates took than the plan has for them."""
+
+    def __init__(self, crates, names, jobs):
+        self.crates, self.names, self.jobs = crates, list(names), jobs
+        self.planned, self.taken = 0, 0
+
+    def leave_out(self, name):
+        if name in self.names:
+            self.names.remove(name)
+
+    def add(self, name, seconds):
+        self.planned += seconds_of(name)
+        self.taken += seconds
+
+    def total(self):
+        pace = self.taken / self.planned if self.planned else 1
+        return pace * planned_seconds(self.crates, self.names, self.jobs)
+
+
+def in_minutes(seconds):
+    minutes = round(seconds / 60)
+    return f"about {minutes} min" if minutes else "less than a minute"
+
+
+def unproved(crates, names):
+    """The crates that aren't proved, or stand on one that isn't."""
+    found = []
+    for name in names:
+        if any(it in found for it in crates[name][1]) or not is_proved(crates, name):
+            found.append(name)
+    return found
+
+
+class Progress:
+    """Lines that say how far a run is."""
+
+    def __init__(self, crates, names, jobs):
+        stale = unproved(crates, names)
+        self.began, self.done, self.count = time.monotonic(), 0, len(names)
+        self.estimate = Estimate(crates, stale, jobs)
+        if stale:
+            print(f"{len(stale)} crates to prove, {jobs} at a time: {in_minutes(self.estimate.total())}", flush=True)
+
+    def tell(self, name, how, left=""):
+        minutes, rest = divmod(round(time.monotonic() - self.began), 60)
+        print(f"[{self.done} of {self.count}, {minutes}:{rest:02}] {name}: {how}{left}", flush=True)
+
+    def was_proved(self, name):
+        self.done += 1
+        self.estimate.leave_out(name)
+        self.tell(name, "proved before")
+
+    def ended(self, name, well, seconds):
+        self.done += well
+        self.estimate.add(name, seconds)
+        left = max(self.estimate.total() - (time.monotonic() - self.began), 0)
+        more = f", {in_minutes(left)} left" if well and self.done < self.count else ""
+        self.tell(name, f"{'proved' if well else 'NOT PROVED'} ({seconds:.0f} s of processor time)", more)
 
 
 def prove(crates, names):
     """Proves crates, each once those below it are; prints how far it is, and what fails. Returns whether all are."""
-    began, jobs, failed = time.monotonic(), jobs_here(), False
-    left, running, proved = longest_first(crates, names), [], []
+    jobs, failed = jobs_here(), False
+    left, running, proved = critical_path_first(crates, names), [], []
+    progress = Progress(crates, names, jobs)
     try:
         while running or (left and not failed):
-            ready = [it for it in left if all(other in proved or other not in names for other in crates[it][1])]
-            if ready and len(running) < jobs and not failed:
-                name = ready[0]
+            name = next_ready(crates, left, names, proved) if len(running) < jobs and not failed else None
+            if name:
                 left.remove(name)
                 if is_proved(crates, name):
                     proved.append(name)
-                    tell(began, len(proved), len(names), name, "proved before")
+                    progress.was_proved(name)
                 else:
                     running.append(Proof(crates, name))
                 continue
@@ -221,8 +324,7 @@ def prove(crates, names):
                 well = it.note(crates)
                 failed = failed or not well
                 proved += [it.name] * well
-                how = f"{'proved' if well else 'NOT PROVED'} ({it.seconds:.0f} s of processor time)"
-                tell(began, len(proved), len(names), it.name, how)
+                progress.ended(it.name, well, it.seconds)
     finally:
         for it in running:
             it.kill()

@@ -14,6 +14,7 @@ import sys
 import tempfile
 from pathlib import Path
 
+import build
 from completions import completion
 from command_help import Described
 from debian import make_packages
@@ -49,8 +50,31 @@ def strip(path, *words):
     subprocess.run(["strip", *words, *UNNEEDED, str(path)], check=True)
 
 
+def is_the_object():
+    """Whether the object is there that the program was linked from."""
+    if not OBJECT.exists():
+        return False
+    link = build.commands_of(build.read_crates(), "flatc")[1]
+    with tempfile.TemporaryDirectory() as room:
+        again = f"{room}/{PROGRAM.name}"
+        subprocess.run([again if it == str(PROGRAM) else it for it in link], check=True)
+        return Path(again).read_bytes() == PROGRAM.read_bytes()
+
+
+def make_object():
+    """Has the program's object. If rt ci kept the program, it left no object: the program is then compiled again."""
+    if is_the_object():
+        return
+    OBJECT.unlink(missing_ok=True)
+    compile_it = build.commands_of(build.read_crates(), "flatc")[0]
+    subprocess.run(compile_it, cwd=ROOT / "crates/flatc", check=True, stdout=subprocess.DEVNULL)
+    if not is_the_object():
+        raise SystemExit("the program in crates/flatc/out isn't the one of this commit: run make build")
+
+
 def link_static(to):
     """Links the program's object statically."""
+    make_object()
     kit = Path(output("rt", "doc")).parent
     archives = [str(kit / "c/libos_c.a"), str(kit / "c/liblibc_c.a")]
     to.parent.mkdir(parents=True, exist_ok=True)
