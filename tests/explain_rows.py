@@ -56,9 +56,9 @@ SCHEMAS = [
     ("a vector with a question mark", "table T { a:[int]¦?; }", "2 BadByte",
      "'?' may not be here: such a field is optional already"),
     ("a number with a question mark", "table T { a:int¦?; }", "2 BadByte",
-     "'?' may not be here: a number is optional with '= null' behind its type"),
+     "'?' may not be here: a number is optional with '= null' after its type"),
     ("a name with a question mark", "table T { a:Color¦?; }", "2 BadByte",
-     "'?' may not be here: a table's field is optional already, and an enum with '= null' behind its type"),
+     "'?' may not be here: a table's field is optional already, and an enum with '= null' after its type"),
     ("a blank that can't be seen", "table T {¦\xa0a:int; }", "2 BadByte",
      "'\\u{a0}' may not be here: no word, number or sign of the language begins with it"),
     ("a default that is a vector", "table T { a:[int] = ¦[]; }", "5 Unexpected",
@@ -141,7 +141,7 @@ SCHEMAS = [
     ("a default of a string", "table T { a:string = ¦3; }\nroot_type T;", "12 BadDefault",
      "the default 3 of field 'a': its type is 'string', and only numbers and enums have a default"),
     ("a struct that is declared later", "struct A { b:¦B; }\nstruct B { x:int; }\ntable T { a:A; }\nroot_type T;",
-     "14 IncompleteStruct", "the struct 'B' is declared behind the struct that has it: move it up"),
+     "14 IncompleteStruct", "the struct 'B' is declared after the struct that has it: move it up"),
     ("a struct in itself", "struct S { a:int; s:¦S; }\ntable T { s:S; }\nroot_type T;", "14 IncompleteStruct",
      "the struct 'S' can't have itself as a field, since it would have no end: use a table"),
     ("structs in one another",
@@ -149,7 +149,7 @@ SCHEMAS = [
      "14 IncompleteStruct", "the struct 'B' has this struct in turn, and neither would have an end: use a table"),
     ("a struct of another namespace that has its name", "namespace a;\nstruct S { s:¦b.S; }\nnamespace b;\n"
      "struct S { x:int; }\ntable T { s:S; }\nroot_type T;", "14 IncompleteStruct",
-     "the struct 'b.S' is declared behind the struct that has it: move it up"),
+     "the struct 'b.S' is declared after the struct that has it: move it up"),
     ("a struct without fields", "struct ¦S { }\ntable T { a:int; }\nroot_type T;", "15 EmptyStruct",
      "the struct 'S' has no field"),
     ("a required number", "table T { a:int (¦required); }\nroot_type T;", "16 BadAttribute",
@@ -224,14 +224,14 @@ TEXTS = [
     ("an escape of a single quote", '{ "name": "O¦\\\'rc" }', "JSON has no escape \\': a single quote needs none"),
     ("an escape of nothing", '{ "name": "O¦\\qrc" }', "JSON has no such escape: a backslash itself is written \\\\"),
     ("an escape of three digits", '{ "name": "O¦\\u041" }',
-     "the escape \\u has four hexadecimal digits behind it"),
+     "the escape \\u has four hexadecimal digits after it"),
     ("the first half of a pair", '{ "name": "O¦\\ud83drc" }',
      "half of a pair of escapes is no character: both are needed, as in \\ud83d\\ude00"),
     ("the second half of a pair", '{ "name": "\\ud83d\\ude00¦\\ude00" }',
      "half of a pair of escapes is no character: both are needed, as in \\ud83d\\ude00"),
     ("a comma that is missing", '{\n  "name": "Orc"\n  ¦"hp": 3\n}', "a comma is missing before this"),
     ("a comma that is missing between elements", '{ "weapons": [{ } ¦{ }] }', "a comma is missing before this"),
-    ("a second value", '{ "name": "Orc" }\n¦{ "name": "Ogre" }', "a JSON text is one value, and this is behind it"),
+    ("a second value", '{ "name": "Orc" }\n¦{ "name": "Ogre" }', "a JSON text is one value, and this is after it"),
     ("a byte order mark", '¦\ufeff{ "name": "Orc" }',
      "a byte order mark may not be before JSON: save the file without one"),
     ("a colon that is missing", '{ "name" ¦"Orc" }', "a colon is missing between a name and its value"),
@@ -247,7 +247,7 @@ TEXTS = [
     ("a zero too many", '{ "hp": ¦03 }', "a number has no zero before its other digits"),
     ("a hexadecimal number", '{ "hp": ¦0x1f }', "numbers of JSON are decimal"),
     ("a plus sign", '{ "hp": ¦+3 }', "a number has no plus sign"),
-    ("a point without a digit behind it", '{ "hp": ¦3. }', "a number has a digit behind its point"),
+    ("a point without a digit behind it", '{ "hp": ¦3. }', "a number has a digit after its point"),
     ("a point without a digit before it", '{ "hp": ¦.5 }', "a number has a digit before its point"),
     ("an exponent without digits", '{ "hp": ¦3e }', "the exponent of a number has digits alone"),
     ("a number with a letter", '{ "hp": ¦3px }', "this isn't a number as JSON writes it"),
@@ -388,7 +388,7 @@ CHANGES = [
       "marked (deprecated)"]),
     ("a field that was inserted before others", "  hp:ubyte", "  mana:ulong;\n  hp:ubyte",
      "96 FieldTypeChanged in type 5 slot 1",
-     ["Monster.mana was inserted (new.fbs:8): later fields lose their places; new fields go behind the others, or each "
+     ["Monster.mana was inserted (new.fbs:8): later fields lose their places; new fields go after the others, or each "
       "field has an (id: ..)"]),
     ("an inserted field, and a new one that is required", "  hp:ubyte = 100;\n  color:Color;\n  pos:Pos;\n"
      "  weapons:[Weapon];\n  equipped:Equipment;\n  old:int (deprecated);\n  big:ulong;\n  ok:bool;\n",
@@ -396,7 +396,7 @@ CHANGES = [
      "  weapons:[Weapon];\n  equipped:Equipment;\n  old:int (deprecated);\n  big:ulong;\n  ok:bool;\n"
      "  more:string (required);\n",
      "96 FieldTypeChanged in type 5 slot 1",
-     ["Monster.mana was inserted (new.fbs:8): later fields lose their places; new fields go behind the others, or each "
+     ["Monster.mana was inserted (new.fbs:8): later fields lose their places; new fields go after the others, or each "
       "field has an (id: ..)", "Monster.more: is new and required (new.fbs:17); old data doesn't have it"]),
 ]
 
@@ -429,12 +429,12 @@ NAMES = [
      ["U.mp was field 1 (old.fbs:3), is field 2 (new.fbs:4): programs no longer see the values that buffers of the old "
       "schema have there"]),
     ("a breach comes first", HP, "  hp:int;\n", "  shield:long;\n  hp:int;\n", "96 FieldTypeChanged in type 0 slot 0",
-     ["U.shield was inserted (new.fbs:2): later fields lose their places; new fields go behind the others, or each "
+     ["U.shield was inserted (new.fbs:2): later fields lose their places; new fields go after the others, or each "
       "field has an (id: ..)"]),
     ("a field that is renamed in place", HP, "hp:int", "health:int", None, []),
     ("a struct's field that is renamed in place", PAIR, "x:int", "left:int", None, []),
     ("a member that is renamed in place", MEMBERS, "{ A, B }", "{ First:A, B }", None, []),
-    ("a field behind the others", HP, "  mp:int;\n", "  mp:int;\n  shield:int;\n", None, []),
+    ("a field after the others", HP, "  mp:int;\n", "  mp:int;\n  shield:int;\n", None, []),
 ]
 
 # Several changes of the schema at once, and the sentences on all of them.

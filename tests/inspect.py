@@ -554,7 +554,7 @@ def size_prefixed(tests):
     write("s.fbs", b"table T { a:int; } root_type T;")
     data = u32(20) + SEVEN
     wanted = [
-        (0, 4, "count of the bytes behind it: 20"),
+        (0, 4, "count of the bytes after it: 20"),
         (4, 8, "root: T at 16"),
         (8, 10, "padding"),
         *vtable("T", 10, 6, 8, ("a", 4)),
@@ -565,7 +565,7 @@ def size_prefixed(tests):
     tests.expect("a count in front", ["inspect", "--size-prefixed", "s.fbs", "b.bin"], 0, out=listing(data, wanted))
     cut = u32(21) + SEVEN
     wanted = [
-        (0, 4, "count of the bytes behind it: 21"),
+        (0, 4, "count of the bytes after it: 21"),
         (0, 0, "FAULT 54 OutOfBounds at 0"),
         (4, 8, "root: T at 16"),
         (8, 24, UNREACHED),

@@ -67,7 +67,7 @@ def explained(tests):
     tests.tell("what the count says", "bytes 0 to 3 say that 12 bytes follow, and 16 do\n" in lines, lines)
     for flags in ([], [PREFIXED]):
         lines = told(tests, ["check", *flags, "--explain", "one.fbs", "two.bin"])
-        tests.tell(f"two messages, {flags}", "2 size-prefixed buffers, one behind the other" in lines, lines)
+        tests.tell(f"two messages, {flags}", "2 size-prefixed buffers, one after the other" in lines, lines)
     write("bad.bin", SEVEN[:18])
     lines = told(tests, ["check", "--explain", "one.fbs", "bad.bin"])
     tests.tell("no word of a count without reason", "prefixed" not in lines, lines)

@@ -16,7 +16,7 @@ impl<'s> Sides<'s> {
     /// Adds what becomes of a field's values, whose slot has another name.
     fn push_new_name(&self, page: &mut Page, was: &FieldInfo, now: &FieldInfo) {
         if was.deprecated {
-            page.push_line(": the name of a deprecated field stands for another one");
+            page.push_line(": the name of a deprecated field now belongs to another one");
             return;
         }
         if now.deprecated {

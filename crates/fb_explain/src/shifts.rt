@@ -186,7 +186,7 @@ impl<'s> Sides<'s> {
         });
         self.new.push_field_line(page, twin.new, shift.first as u64);
         page.push_str(": later fields lose their places; ");
-        page.push_line("new fields go behind the others, or each field has an (id: ..)");
+        page.push_line("new fields go after the others, or each field has an (id: ..)");
     }
 
     /// Adds what was removed or inserted, and where.

@@ -90,7 +90,7 @@ fn push_incomplete(page: &mut Page, types: &[ResolvedType<'_, '_, '_>], name: &[
             " can't have itself as a field, since it would have no end: use a table",
         Misplaced::InACircle =>
             " has this struct in turn, and neither would have an end: use a table",
-        Misplaced::TooLate => " is declared behind the struct that has it: move it up",
+        Misplaced::TooLate => " is declared after the struct that has it: move it up",
     });
 }
 

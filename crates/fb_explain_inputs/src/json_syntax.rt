@@ -156,14 +156,14 @@ impl Scan {
         let in_object = self.open.is_in_object();
         match byte {
             _ if self.open.depth == 0 => {
-                self.refused("a JSON text is one value, and this is behind it")
+                self.refused("a JSON text is one value, and this is after it")
             }
             b',' => self.behind_sign(if in_object { Next::Name } else { Next::Element }),
             b'}' if in_object => self.closed(),
             b']' if !in_object => self.closed(),
             b'}' => self.refused("an array is open here, and ']' closes it"),
             b']' => self.refused("an object is open here, and '}' closes it"),
-            b':' => self.refused("a colon is only behind a member's name"),
+            b':' => self.refused("a colon is only after a member's name"),
             _ if begins_a_value(byte) => self.refused("a comma is missing before this"),
             _ => self.refused(sentence_of(text, self.at)),
         }

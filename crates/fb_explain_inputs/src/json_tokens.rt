@@ -29,7 +29,7 @@ fn unit_at(text: &str, at: usize) -> Option<u32> {
 /// The length of an escape that begins with a `u` behind its backslash.
 fn unit_escape_len(text: &str, at: usize) -> Result<usize, Flaw> {
     let Some(unit) = unit_at(text, at.saturating_add(2)) else {
-        return Err(Flaw::at(at, "the escape \\u has four hexadecimal digits behind it"));
+        return Err(Flaw::at(at, "the escape \\u has four hexadecimal digits after it"));
     };
     match unit {
         0xd800..=0xdbff => {
@@ -140,7 +140,7 @@ fn fraction_sentence(rest: &str) -> Option<&'static str> {
     };
     let len = front_len(digits.as_bytes(), DIGITS);
     if len == 0 {
-        return Some("a number has a digit behind its point");
+        return Some("a number has a digit after its point");
     }
     match rest_of(digits, len) {
         "" => None,
@@ -156,7 +156,7 @@ fn number_sentence(number: &str) -> Option<&'static str> {
         [b'N' | b'I' | b'n' | b'i', ..] => return Some("JSON has no NaN and no Infinity"),
         [b'0', b'x' | b'X', ..] => return Some("numbers of JSON are decimal"),
         [b'0', ..] if len > 1 => return Some("a number has no zero before its other digits"),
-        _ if len == 0 => return Some("a number has a digit behind its sign"),
+        _ if len == 0 => return Some("a number has a digit after its sign"),
         _ => {}
     }
     fraction_sentence(rest_of(digits, len))

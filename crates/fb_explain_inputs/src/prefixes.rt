@@ -60,7 +60,7 @@ pub(crate) fn push_other_framing(page: &mut Page, layout: &Layout, sources: &Sou
         )
         .is_ok();
     if is_bare {
-        page.push_line("without a count in front it is sound: leave out --size-prefixed");
+        page.push_line("without a size prefix it is sound: leave out --size-prefixed");
         return;
     }
     match count_messages(bytes) {
@@ -72,7 +72,7 @@ pub(crate) fn push_other_framing(page: &mut Page, layout: &Layout, sources: &Sou
             page.push_str("these may be ");
             page.push_number(count);
             page.push_line(
-                " size-prefixed buffers, one behind the other: --lines reads a stream of them",
+                " size-prefixed buffers, one after the other: --lines reads a stream of them",
             );
         }
         _ => {}

@@ -17,9 +17,9 @@ fn question_sentence(last: &[u8]) -> &'static str {
         return " may not be here: such a field is optional already";
     }
     if base_named(last).is_some() {
-        return " may not be here: a number is optional with '= null' behind its type";
+        return " may not be here: a number is optional with '= null' after its type";
     }
-    " may not be here: a table's field is optional already, and an enum with '= null' behind its type"
+    " may not be here: a table's field is optional already, and an enum with '= null' after its type"
 }
 
 fn push_bad_byte(page: &mut Page, text: &[u8], offset: usize) {

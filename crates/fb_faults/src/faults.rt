@@ -31,7 +31,7 @@ pub enum ToolFault {
     #[error(transparent)]
     Breach(Breach),
     /// A name that stands for something else in a new schema that conforms.
-    #[error("the name of slot {} of type {} stands for another slot", .0.slot, .0.type_id.0)]
+    #[error("the name of slot {} of type {} now belongs to another slot", .0.slot, .0.type_id.0)]
     NameMoved(MovedName),
     /// The older of two schema texts is refused.
     #[error("old: {0}")]

@@ -22,8 +22,8 @@ pub enum TakeFault {
     /// A read failed.
     #[error("a read failed: {0}")]
     Failed(io::Error),
-    /// There are more bytes than may come.
-    #[error("there are more bytes than may come")]
+    /// There are more bytes than the limit allows.
+    #[error("there are more bytes than the limit allows")]
     TooLong,
     #[error("out of memory")]
     Memory,

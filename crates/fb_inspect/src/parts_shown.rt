@@ -179,7 +179,7 @@ fn push_front(page: &mut Page, scene: Scene<'_>, piece: &Piece) {
     let at = piece.start as usize;
     match piece.what {
         What::Count => {
-            page.push_str("count of the bytes behind it: ");
+            page.push_str("count of the bytes after it: ");
             page.push_number(u64::from(u32_within(scene.bytes, at)));
         }
         What::Root if piece.end < piece.start.saturating_add(4) => {

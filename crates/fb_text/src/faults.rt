@@ -10,7 +10,7 @@ use thiserror::Error;
 pub enum WriteFault {
     #[error("a union's member has no name in the schema, in {0}")]
     NoMemberName(Place),
-    #[error("a write failed, {0} bytes behind the start")]
+    #[error("a write failed after {0} bytes")]
     WriteFailed(u64),
 }
 

@@ -63,31 +63,28 @@ const DEFAULTS: Argument = Argument::Flag("defaults-json", "Include fields with 
 
 const PREFIXED: Argument = Argument::Flag(
     "size-prefixed",
-    "The buffer has its length in front, in four bytes",
+    "A 32-bit count of the buffer's bytes comes first",
 );
 
 const COMPACT: Argument = Argument::Flag("compact", "Print JSON without blanks and line feeds");
 
 const GOING: Argument = Argument::Flag(
     "keep-going",
-    "With --lines, pass over what is refused; the status is still 1",
+    "With --lines, skip refused messages; the status is still 1",
 );
 
-const HEADER: Argument = Argument::Flag(
-    "header",
-    "Show what a buffer's first bytes say, without a schema",
-);
+const HEADER: Argument = Argument::Flag("header", "List only the header, without a schema");
 
 const EXPLAIN: Argument = Argument::Flag(
     "explain",
-    "Explain a refusal in further lines, as is done at a terminal",
+    "Explain a refusal in more lines, as at a terminal",
 );
 
-const TERSE: Argument = Argument::Flag("terse", "Explain nothing, at a terminal either");
+const TERSE: Argument = Argument::Flag("terse", "Never explain a refusal, at a terminal either");
 
 const NAMES: Argument = Argument::Flag(
     "names",
-    "Refuse a name that stands for another field or member than before",
+    "Also refuse a name that now belongs to another field or member",
 );
 
 pub(crate) const BINARY: &JobWords = &JobWords {
@@ -100,7 +97,7 @@ pub(crate) const BINARY: &JobWords = &JobWords {
         PREFIXED,
         Argument::Flag(
             "lines",
-            "Convert a JSON text a line to size-prefixed buffers",
+            "Convert each line of JSON to a size-prefixed buffer",
         ),
         GOING,
         EXPLAIN,
@@ -110,7 +107,7 @@ pub(crate) const BINARY: &JobWords = &JobWords {
         Argument::Paths(
             "JSON",
             true,
-            "The JSON text, and then OUT, where the buffer goes; with -o all JSON texts",
+            "The JSON text, then OUT, the file for the buffer; with -o all JSON texts",
         ),
     ],
 };
@@ -127,7 +124,7 @@ pub(crate) const JSON: &JobWords = &JobWords {
         COMPACT,
         Argument::Flag(
             "lines",
-            "Convert size-prefixed buffers to a compact JSON text a line",
+            "Convert each buffer of a size-prefixed stream to a line of JSON",
         ),
         GOING,
         EXPLAIN,
@@ -146,7 +143,7 @@ pub(crate) const CHECK: &JobWords = &JobWords {
     arguments: &[
         RAW,
         PREFIXED,
-        Argument::Flag("lines", "Check size-prefixed buffers, one behind the other"),
+        Argument::Flag("lines", "Check each buffer of a size-prefixed stream"),
         GOING,
         EXPLAIN,
         TERSE,
@@ -171,7 +168,7 @@ pub(crate) const CONFORM: &JobWords = &JobWords {
 
 pub(crate) const INSPECT: &JobWords = &JobWords {
     name: "inspect",
-    about: "Show what the bytes of a buffer are",
+    about: "List what each byte of a buffer is",
     usage: Some(INSPECT_USAGE),
     notes: Some(DASH),
     arguments: &[
@@ -183,7 +180,7 @@ pub(crate) const INSPECT: &JobWords = &JobWords {
         Argument::Paths(
             "FILE",
             true,
-            "The schema text (.fbs), and then BIN, the buffer; with --header BIN alone",
+            "The schema text (.fbs), then BIN, the buffer; with --header BIN alone",
         ),
     ],
 };
