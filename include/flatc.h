@@ -1,16 +1,16 @@
 /* flatc.h: JSON to FlatBuffers and back under schemas that are read at run time.
  *
  * A schema text is parsed once. Each message is then converted by one call: flatc_encode, flatc_decode, flatc_verify.
- * What each call returns is proved of its code. Nothing proves the program that calls it. The program owes:
+ * What each call returns is proved. The program that calls it isn't checked; it has to keep these rules:
  *
  *  - A handle (flatc_schema, flatc_bytes) is all zeros before its first use, as FLATC_SCHEMA_INIT and FLATC_BYTES_INIT
- *    make it. After that only these calls write it. A copy of the struct is no second handle.
- *  - A handle is in one call at a time, and two handles of one call are not the same one. Any thread may use it;
- *    a lock, a start or a join of a thread orders the calls. Threads that share a schema have a handle each
- *    (flatc_schema_share) and then need no lock.
+ *    make it. After that only these calls may write it. Don't copy the struct: a copy isn't a second handle.
+ *  - A handle is used in one call at a time, and the handles passed to one call are different ones. Any thread may use
+ *    a handle, if the calls are ordered: by a lock, or by starting or joining a thread. Threads that share a schema
+ *    need no lock if each has its own handle (flatc_schema_share).
  *  - An input is `size` bytes that don't change during the call. It may be NULL where size is 0, and needs no
- *    alignment. It doesn't lie in the handle that is passed as `out`: that is cleared first.
- *  - Every other pointer leads to a struct of its type.
+ *    alignment. It isn't part of the bytes held by `out`, which is cleared first.
+ *  - No other pointer is NULL: each points to a valid struct of its type, `options` and `fault` too.
  *  - malloc, realloc and free come from one allocator. No call is made from a signal handler, nor in the forked child
  *    of a process with threads.
  *
@@ -39,8 +39,8 @@ typedef uint32_t flatc_status;
 #define FLATC_REFUSED 1u     /* The input is refused; the fault says why. The same input is refused each time. */
 #define FLATC_NO_MEMORY 2u   /* Memory ran out. */
 #define FLATC_NO_SCHEMA 3u   /* A schema's handle is empty. */
-#define FLATC_BAD_OPTIONS 4u /* The `size` of the options is none that they may have, or the depth is not 1 to 127. */
-#define FLATC_NO_FAULT 5u    /* The fault is none that a call wrote. */
+#define FLATC_BAD_OPTIONS 4u /* options->size is below 4 or above sizeof(flatc_options), or max_depth isn't 1 to 127 */
+#define FLATC_NO_FAULT 5u    /* The flatc_fault wasn't written by a call. */
 
 /* A schema, or none. The struct stays as it is in later versions. */
 typedef struct flatc_schema {
@@ -59,12 +59,13 @@ typedef struct flatc_bytes {
 } flatc_bytes;
 #define FLATC_BYTES_INIT {NULL, 0, NULL, false}
 
-/* Why a call refused. Only what `has_..` names is there; the rest is 0. */
+/* Why a call refused. A field without its `has_..` is 0. A call that returns FLATC_REFUSED
+ * writes it, and one that returns FLATC_OK doesn't. After any other status its content is unspecified. */
 typedef struct flatc_fault {
     uint64_t offset;  /* in bytes from the start of the schema text or the buffer */
     uint64_t type_id; /* the number of a declared type, from 0 */
     uint16_t slot;    /* the slot of a field in that type */
-    uint8_t number;   /* no other fault has it, in any version */
+    uint8_t number;   /* no other fault has this number, in any version */
     bool has_offset;
     bool has_type;
     bool has_slot;
@@ -73,18 +74,20 @@ typedef struct flatc_fault {
 } flatc_fault;
 #define FLATC_FAULT_INIT {0, 0, 0, 0, false, false, false, {0}, {0}}
 
-/* How a message is converted. A later version may add fields at the end, and then still takes this struct.
- * Fields that end after the first `size` bytes have their defaults; all of the struct is readable nonetheless. */
+/* How a message is converted; start from FLATC_OPTIONS_INIT. A later version may add fields at the end, and still
+ * accepts this struct. Fields outside the first `size` bytes have their defaults, but the whole struct must be
+ * readable. Zero isn't a default: with a max_depth of 0 a call returns FLATC_BAD_OPTIONS, and with a max_cells of 0 it
+ * accepts nothing. */
 typedef struct flatc_options {
     uint32_t size;      /* sizeof(flatc_options); at least 4 */
-    uint32_t max_cells; /* the most cells; 100000000 by default. A table, a vector and a
-                         * string are one each, and so is each byte of a string and each
+    uint32_t max_cells; /* maximum number of cells; 100000000 by default. Each table, vector and
+                         * string counts one, and so does each byte of a string and each
                          * element of a vector */
     uint8_t max_depth;  /* how deep tables may be nested, 1 to 127; 64 by default */
     bool unknown_json;  /* flatc_encode: ignores unknown JSON fields */
     bool raw_binary;    /* flatc_decode, flatc_verify: skips the file identifier check */
     bool defaults_json; /* flatc_decode: includes fields with default values */
-    bool size_prefixed; /* flatc_encode, _decode, _verify: a 32-bit count of the buffer's bytes is in front of it */
+    bool size_prefixed; /* flatc_encode, _decode, _verify: the buffer begins with its length, as 32 bits */
     bool compact;       /* flatc_decode: no blanks and line feeds outside strings */
 } flatc_options;
 #define FLATC_OPTIONS_INIT {(uint32_t)sizeof(flatc_options), 100000000u, 64, false, false, false, false, false}
@@ -98,7 +101,7 @@ uint32_t flatc_version(void);
 flatc_status flatc_schema_parse(flatc_schema *schema, const void *text, size_t size, flatc_fault *fault);
 
 /* Makes `to` a second handle of the schema, for another thread. The schema is freed with its last handle. What `to`
- * held is freed first.
+ * held is freed first. If the status isn't FLATC_OK, `to` is empty.
  * OK, NO_MEMORY, NO_SCHEMA. */
 flatc_status flatc_schema_share(flatc_schema *from, flatc_schema *to);
 
@@ -108,14 +111,14 @@ void flatc_bytes_clear(flatc_bytes *bytes);
 
 /* Converts a JSON text (UTF-8) to a FlatBuffer: bytes that encode exactly the value that the text means.
  * If the status isn't FLATC_OK, `out` is empty.
- * OK, REFUSED (there is no such buffer: the first fault of the JSON text, of the value that it means, or that the
- * buffer would be too big), NO_MEMORY, NO_SCHEMA, BAD_OPTIONS. */
+ * OK, REFUSED (the text isn't JSON, doesn't fit the schema, exceeds a limit, or the buffer would be longer than
+ * 2147483647 bytes: the first fault), NO_MEMORY, NO_SCHEMA, BAD_OPTIONS. */
 flatc_status flatc_encode(flatc_schema *schema, const void *json, size_t size, const flatc_options *options,
                           flatc_bytes *out, flatc_fault *fault);
 
 /* Verifies a FlatBuffer and converts it to JSON (UTF-8, no zero byte after it).
  * If the status isn't FLATC_OK, `out` is empty.
- * OK, REFUSED (the bytes encode no value, or a union in it has a member that the schema doesn't name: the first
+ * OK, REFUSED (the bytes encode no value, or the value has a union code that the schema doesn't declare: the first
  * fault), NO_MEMORY, NO_SCHEMA, BAD_OPTIONS. */
 flatc_status flatc_decode(flatc_schema *schema, const void *buffer, size_t size, const flatc_options *options,
                           flatc_bytes *out, flatc_fault *fault);
@@ -125,9 +128,11 @@ flatc_status flatc_decode(flatc_schema *schema, const void *buffer, size_t size,
 flatc_status flatc_verify(flatc_schema *schema, const void *buffer, size_t size, const flatc_options *options,
                           flatc_fault *fault);
 
-/* Whether a new schema conforms to an old one: programs of the new schema read what those of the old one write, and
- * the other way round.
- * OK, REFUSED (the first breach, types and slots by the old schema's numbers), NO_SCHEMA. */
+/* Whether a new schema conforms to an old one: programs with the new schema read the old one's data, and the other way
+ * round. Only union members that its schema doesn't declare are refused by flatc_decode. Names aren't compared, as
+ * they are by `flatc conform --names`. The two handles are different.
+ * OK, REFUSED (the first breach; types and slots have the old schema's numbers, except the slot of a new required
+ * field), NO_SCHEMA. */
 flatc_status flatc_conform(flatc_schema *old_schema, flatc_schema *new_schema, flatc_fault *fault);
 
 /* A fault's name, with zeros after it. */
@@ -135,17 +140,17 @@ typedef struct flatc_name {
     char text[32];
 } flatc_name;
 
-/* The name of the fault that has this number. False, and nothing is written, if the calls write no such fault. */
+/* The name of the fault with this number. Returns false and writes nothing if no call reports such a fault. */
 bool flatc_fault_name(uint8_t number, flatc_name *name);
 
 /* The sentence of a fault: what is wrong and where, in one line without a line feed.
  * OK, NO_MEMORY, NO_FAULT. If the status isn't FLATC_OK, `out` is empty. */
 flatc_status flatc_fault_message(const flatc_fault *fault, flatc_bytes *out);
 
-/* What is wrong and where, in lines for people, as `flatc --explain` writes them: of at most 120 columns, each ended by
- * a line feed, with nothing in them that could drive a terminal. `schema` is the schema text, of flatc_conform the old
- * one's; `input` is the JSON text, the buffer or the new schema's text; the options are those of the call that
- * refused. It reads the inputs again and takes as long as a call or two.
+/* A human-readable explanation, as `flatc --explain` prints it: lines of at most 120 columns, each ended by a line
+ * feed, without control characters. `schema` is the schema text; for flatc_conform, the old one. `input` is the JSON
+ * text, the buffer or the new schema's text; for flatc_schema_parse, NULL and 0. The options are those of the call
+ * that refused. It reads the inputs again, and takes as long as one or two calls.
  * OK, NO_MEMORY, BAD_OPTIONS, NO_FAULT. If the status isn't FLATC_OK, `out` is empty. */
 flatc_status flatc_explain(const flatc_fault *fault, const void *schema, size_t schema_size, const void *input,
                            size_t input_size, const flatc_options *options, flatc_bytes *out);

@@ -1,11 +1,12 @@
-// flatc.hpp: flatc.h with C++'s ownership. Needs C++17 and nothing else.
+// flatc.hpp: an RAII wrapper over flatc.h. Needs C++17 and nothing else.
 //
 //     flatc::Schema schema(text);
 //     flatc::Bytes buffer = schema.encode(R"({"name": "Orc"})");
 //     std::string_view json = schema.decode(buffer).text();   // lives as long as the Bytes
 //
-// A call that refuses throws flatc::Refused, one that runs out of memory std::bad_alloc. A Schema may be used by one
-// thread at a time; share() makes another for another thread.
+// A call that refuses throws flatc::Refused, and one that runs out of memory std::bad_alloc. Bad options throw
+// std::invalid_argument, and a Schema that was moved from std::logic_error. A Schema may be used by one thread at a
+// time; share() makes another for another thread.
 #ifndef FLATC_HPP
 #define FLATC_HPP
 
@@ -47,6 +48,7 @@ public:
     std::string_view text() const & noexcept { return {reinterpret_cast<const char *>(raw_.data), raw_.size}; }
     std::string text() && { return {reinterpret_cast<const char *>(raw_.data), raw_.size}; }
 
+    /// The handle, for calls of flatc.h.
     flatc_bytes *raw() noexcept { return &raw_; }
 
 private:
@@ -72,7 +74,7 @@ public:
     std::optional<std::uint64_t> slot() const noexcept { return if_there(fault_.has_slot, fault_.slot); }
     const flatc_fault &fault() const noexcept { return fault_; }
 
-    /// What is wrong and where, in lines for people; see flatc_explain.
+    /// A human-readable explanation; see flatc_explain.
     std::string explain(std::string_view schema, std::string_view input, const Options &options = {}) const {
         Bytes lines;
         throw_other(flatc_explain(&fault_, schema.data(), schema.size(), input.data(), input.size(), &options,
@@ -131,13 +133,14 @@ public:
         return decode(buffer.data(), buffer.size(), options);
     }
 
+    /// Throws Refused unless the bytes encode a value.
     void verify(const void *buffer, std::size_t size, const Options &options = {}) {
         flatc_fault fault = FLATC_FAULT_INIT;
         check(flatc_verify(&raw_, buffer, size, &options, &fault), fault);
     }
     void verify(const Bytes &buffer, const Options &options = {}) { verify(buffer.data(), buffer.size(), options); }
 
-    /// Whether a new schema conforms to this one. The two are different objects.
+    /// Throws Refused unless `newer`, which is another object, conforms to this schema.
     void conform(Schema &newer) {
         flatc_fault fault = FLATC_FAULT_INIT;
         check(flatc_conform(&raw_, &newer.raw_, &fault), fault);

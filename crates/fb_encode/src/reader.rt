@@ -57,13 +57,16 @@ pub(crate) struct Reader {
 
 impl Reader {
     /// What reads excerpts of a JSON text.
-    pub(crate) fn over(alloc: Global, json: &[u8], most: usize) -> Result<Reader, AllocError> {
+    pub(crate) fn over(alloc: Global, json: &[u8], most: usize) -> Result<Reader, Unread> {
+        let Some(cuts) = Cuts::of(alloc, json, most)? else {
+            return Err(Unread::Piece);
+        };
         Ok(Reader {
             alloc,
             bracketed: Vec::new(alloc),
             most,
-            scratch: Box::new(alloc, Scratch::new(alloc))?,
-            cuts: Cuts::of(alloc, json, most)?,
+            scratch: Box::new(alloc, Scratch::new(alloc)).map_err(AllocError::from)?,
+            cuts,
         })
     }
 
@@ -131,6 +134,10 @@ impl Reader {
         ensures tree { IfOk result (λ tree.
             read (in_brackets (127 - excerpt.entry.brackets) excerpt.entry.text.now) ≡ Some (tree_view tree)) }
     {
+        // A tree takes many times its text: none is made of a long text that isn't JSON.
+        if excerpt.text.len() > self.most {
+            self.pass_by(excerpt)?;
+        }
         self.read_in_brackets(excerpt.text, MOST_BRACKETS - excerpt.brackets)
     }
 

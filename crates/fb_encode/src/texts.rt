@@ -7,6 +7,7 @@ ghost use Rattle.fb_build.specs.NotedRoots.{NotesRoot};
 ghost use Rattle.fb_layout.specs.Laid.{LaidSchema};
 ghost use Rattle.fb_encode.specs.TextsEncoded.{IsTextEncoded, IsTextNoted, IsUnnoted, IsUnread, TextRefused};
 ghost use Rattle.fb_encode.specs.TextsEncoded.{first_fault};
+ghost use Rattle.fb_encode.specs.TextsRead.{IsRead};
 
 use crate::excerpts::{TextWalk, note_excerpt};
 use crate::faults::{EncodeFault, TextFault};
@@ -41,6 +42,18 @@ enum Unnoted {
     Piece,
 }
 
+impl From<Unread> for Unnoted {
+    ghost from_gives = { λ _ unnoted. (L : LaidSchema) (most : Bounds) (unknown : Bool) (json : List ℕ)
+        → IsUnnoted L most unknown json unnoted };
+
+    fn from(unread: Unread) -> Unnoted {
+        match unread {
+            Unread::Memory => Unnoted::Fault(TextFault::Memory),
+            Unread::Piece => Unnoted::Piece,
+        }
+    }
+}
+
 /// Notes the value that a text means, which is read in pieces, on a tape of nothing.
 fn note_pieces(
     source: Source,
@@ -72,11 +85,9 @@ fn note_pieces(
     let shape = Shape::One(Kind::Table(root));
     let levels = limits.most_depth();
     let cells = limits.most_cells();
-    match note_excerpt(source, walk, excerpt, shape, place, levels, cells) {
-        Ok(Ok(_left)) => Ok(()),
-        Ok(Err(fault)) => Err(Unnoted::Fault(first_fault(fault))),
-        Err(Unread::Memory) => Err(Unnoted::Fault(TextFault::Memory)),
-        Err(Unread::Piece) => Err(Unnoted::Piece),
+    match note_excerpt(source, walk, excerpt, shape, place, levels, cells)? {
+        Ok(_left) => Ok(()),
+        Err(fault) => Err(Unnoted::Fault(first_fault(fault))),
     }
 }
 
@@ -90,9 +101,7 @@ fn note_in_pieces<'l>(
     ensures noted { IfOk result (IsTextNoted source.entry.layout.now limits source.entry.unknown json.now) }
     ensures refused { IfErr result (IsUnnoted source.entry.layout.now limits source.entry.unknown json.now) }
 {
-    let Ok(reader) = Reader::over(source.alloc, json, piece) else {
-        return Err(Unnoted::Fault(TextFault::Memory));
-    };
+    let reader = Reader::over(source.alloc, json, piece)?;
     let mut walk = TextWalk {
         noting: Noting::new(source.alloc, source.layout),
         reader,
@@ -126,10 +135,11 @@ fn note_at_once<'l>(source: Source<'l>, json: &[u8], limits: Limits) -> Result<T
     }
 }
 
-/// Checks that a text is JSON, and makes no tree.
+/// Checks that a text is JSON, without a tree.
 fn check_json(alloc: Global, json: &[u8]) -> Result<(), TextFault>
-    ensures { IfErr result (λ f. (L : LaidSchema) (most : Bounds) (unknown : Bool)
+    ensures refused { IfErr result (λ f. (L : LaidSchema) (most : Bounds) (unknown : Bool)
         → IsUnread L most unknown json.now f) }
+    ensures json { OnOk result (IsRead 127 json.now) }
 {
     match is_json_at(json, MOST_BRACKETS, &mut Scratch::new(alloc)) {
         Ok(true) => Ok(()),

@@ -35,7 +35,7 @@ pub struct Member {
     pub is_last: bool,
 }
 
-/// The runs of an array's text that has cuts. None where the text isn't an array's, or it has none.
+/// The runs of an array's text that has cuts. None where the text isn't an array's, or it has no cuts or no elements.
 pub fn cut_array(
     alloc: Global,
     text: &[u8],
@@ -56,6 +56,9 @@ pub fn cut_array(
         let Some(run) = run_before(text, from, end.at.saturating_sub(at), end.count) else {
             return Ok(None);
         };
+        if runs.is_empty() && are_blanks(&text[from..run.elements.end]) {
+            return Ok(None);
+        }
         runs.push(run)?;
         from = run.elements.end + 1;
         if run.is_last {

@@ -31,8 +31,8 @@ pub struct Cuts {
 impl Cuts {
     /// The cuts of a text, by one walk over it. Long is what has more than `most` bytes. A run is as many elements as
     /// have at most `most` bytes together, or one that has more; twice as many where none has brackets, or one where
-    /// these are strings that aren't short.
-    pub fn of(alloc: Global, text: &[u8], most: usize) -> Result<Cuts, AllocError> {
+    /// these are strings that aren't short. None where brackets nest too deep for JSON, or close nothing.
+    pub fn of(alloc: Global, text: &[u8], most: usize) -> Result<Option<Cuts>, AllocError> {
         let mut cutter = Cutter::new(alloc, most);
         let mut walk = Walk::START;
         let mut at = 0;
@@ -57,10 +57,10 @@ impl Cuts {
                     at = behind;
                     walk = Walk::START;
                 }
-                Next::Nothing => return Ok(Cuts::none(alloc)),
+                Next::Nothing => return Ok(None),
             }
         }
-        Ok(cutter.into_cuts())
+        Ok(Some(cutter.into_cuts()))
     }
 
     /// No cuts.

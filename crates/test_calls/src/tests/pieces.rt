@@ -18,8 +18,8 @@ const ELEMENTS: &[(&str, &[u8])] = &[
     ("[1]", b"1."),
     ("[1,2,3]", b"1|2|3."),
     ("[ 1 , 2\n]", b" 1 | 2\n."),
-    ("[]", b"."),
-    ("[ ]", b" ."),
+    ("[]", b"?"),
+    ("[ ]", b"?"),
     ("[1,]", b"1|."),
     ("[,]", b"|."),
     ("[[1,2],[[],[3]]]", b"[1,2]|[[],[3]]."),
@@ -213,7 +213,9 @@ fn is_cut(
     form: Shown,
     want: &[u8],
 ) -> Result<bool, AllocError> {
-    let cuts = Cuts::of(alloc, text, most)?;
+    let Some(cuts) = Cuts::of(alloc, text, most)? else {
+        return Ok(want == b"?".as_slice());
+    };
     let shown = match form {
         Shown::Runs => runs_of(alloc, text, 0, &cuts, false)?,
         Shown::Counts => runs_of(alloc, text, 0, &cuts, true)?,
@@ -309,7 +311,7 @@ fn what_is_nested_deeper_than_json_may_be_has_no_cuts(rt: HostRuntime) -> Result
 #[test]
 fn a_text_within_another_is_cut_where_it_is(rt: HostRuntime) -> Result<(), Fail> {
     let whole = b"{\"a\":[1,2],\"b\": [\"x\",[3,4]] }";
-    let cuts = Cuts::of(rt.alloc(), whole, 0)?;
+    let cuts = Cuts::of(rt.alloc(), whole, 0)?.unwrap();
     let shown = runs_of(rt.alloc(), &whole[15..28], 15, &cuts, false)?;
     assert!(rt; shown.as_slice() == b"\"x\"|[3,4].".as_slice());
     Ok(())
