@@ -3,152 +3,319 @@
 
 usage: tests/long_texts.py PROGRAM
 
-Each text is also tried with short values, and has to be reported alike. The last line is 'N passed, M failed'.
+Each text is also tried with short values, and has to have the same outcome. The last line is 'N passed, M failed'.
 """
 import os
 import subprocess
 import sys
+from typing import Callable, NamedTuple
 
-from harness import Tests, program_of, write
+from harness import ROOT, Tests, content, program_of, write
 
+sys.path.append(f"{ROOT}/bench")
+from bench import Runner  # noqa: E402
+
+# Types are numbered A 0, P 1, Q 2, B 3, W 4, E 5, T 6, and T's slots from v 0 to q 12.
 SCHEMA = b"""
 table A { a:int; }
 struct P { x:int; y:int; }
+struct Q { p:P; z:int; }
 table B { v:[A]; w:W; }
 union W { A, B }
 enum E : byte { Red, Green }
 table T {
-  v:[A]; name:string; n:int; p:P; u:W; old:[A] (deprecated); numbers:[int]; points:[P]; names:[string]; e:E; a:A;
+  v:[A]; name:string; n:int; p:P; u:W; old:[A] (deprecated); numbers:[int]; points:[P]; names:[string]; e:E; a:A; q:Q;
 }
 root_type T;
 """
 # Bytes of a long value, and of a short one.
-LONG, SHORT = 8_000_000, 80
-# A buffer has so many times the bytes of such a text.
-BUFFER = 1.5
+LONG, SHORT = 10_000_000, 80
 # How many times text and buffer a run takes at most.
 MOST = 3
+# A buffer of tables, numbers and structs has so many times the bytes of their text; one of which nothing is kept, none.
+TABLES, NUMBERS, NOTHING = 1.5, 2, 0
+# How many times the processor time of a right text one takes that is refused.
+TIMES = 1.3
 IGNORING = ("--unknown-json",)
 
+BAD = "113 BadJson"
+UNKNOWN = "74 UnknownMember in type 6"
+MISMATCH = "77 UnionMismatch in type 6 slot 5"
 
-def tables(size):
-    return b"[" + b",".join([b'{"a":1}'] * (size // 8)) + b"]"
+
+def shape(slot):
+    return f"70 WrongShape in type 6 slot {slot}"
 
 
-def pairs(size):
-    return b"[" + b",".join([b"[1,2]"] * (size // 6)) + b"]"
+def repeated(element, last=None):
+    """An array of as many elements as have about so many bytes, and then another one."""
+    return lambda size: b"[" + b",".join([element] * (size // (len(element) + 1)) + ([last] if last else [])) + b"]"
+
+
+TABLE, PAIR = b'{"a":1}', b"[1,2]"
+tables, pairs = repeated(TABLE), repeated(PAIR)
 
 
 def members(size):
     return b"{" + b",".join(b'"m%d":1' % number for number in range(size // 12)) + b"}"
 
 
-def ending(end):
-    """A text with a long vector that ends so."""
-    return lambda size: b'{"v":' + tables(size) + end
+def string(size):
+    return b'"' + b"x" * size + b'"'
 
 
-def beginning(begin):
-    """A text that begins so and then has a long vector."""
-    return lambda size: b"{" + begin + b',"v":' + tables(size) + b"}"
+def blanks(size):
+    return b"[" + b" " * size + b"]"
 
 
-def holding(name, value, more=b""):
-    """A text whose member of this name is long."""
-    return lambda size: b'{"' + name + b'":' + value(size) + more + b"}"
+def nested(depth):
+    return b"[" * depth + b"]" * depth
 
 
-def nested(value):
-    return lambda size: b'{"v":' + value(size) + b"}"
+def text(before, value, after):
+    """A text with a long value in it."""
+    return lambda size: before + value(size) + after
 
 
-BAD = "113 BadJson"
-SHAPE = "70 WrongShape"
-UNKNOWN = "74 UnknownMember"
-MISMATCH = "77 UnionMismatch"
-# A plain name, the text for a size of its long value, flags, and the fault; none of a text that is converted.
-TEXTS = (
-    ("nothing wrong", ending(b"}"), (), None),
-    ("the last byte is missing", ending(b""), (), BAD),
-    ("a comma too many", ending(b",}"), (), BAD),
-    ("a zero before a digit at the end", ending(b',"n":01}'), (), BAD),
-    ("a zero before a digit at the start", beginning(b'"n":01'), (), BAD),
-    ("a number that is too large at the end", ending(b',"n":1e999}'), (), BAD),
-    ("a number that is too large at the start", beginning(b'"n":1e999'), (), BAD),
-    ("a number of 400 digits", ending(b',"n":' + b"9" * 400 + b"}"), (), BAD),
-    ("a bad escape", ending(b',"name":"\\x"}'), (), BAD),
-    ("a lone surrogate", ending(b',"name":"\\ud800"}'), (), BAD),
-    ("127 brackets", ending(b',"z":' + b"[" * 126 + b"]" * 126 + b"}"), (), UNKNOWN),
-    ("127 brackets, ignored", ending(b',"z":' + b"[" * 126 + b"]" * 126 + b"}"), IGNORING, None),
-    ("128 brackets", ending(b',"z":' + b"[" * 127 + b"]" * 127 + b"}"), (), BAD),
-    ("text after it", ending(b"} 1"), (), BAD),
-    ("no UTF-8", ending(b',"name":"\xff"}'), (), BAD),
-    ("an unknown name at the end", ending(b',"z":1}'), (), UNKNOWN),
-    ("an unknown name at the start", beginning(b'"z":1'), (), UNKNOWN),
-    ("a number for the last table", lambda size: b'{"v":' + tables(size)[:-1] + b",1]}", (), SHAPE),
-    ("a number for the first table", lambda size: b'{"v":[1,' + tables(size)[1:] + b"}", (), SHAPE),
-    ("an unknown array", holding(b"z", tables), (), UNKNOWN),
-    ("an unknown array, ignored", holding(b"z", tables), IGNORING, None),
-    ("an unknown object, ignored", holding(b"z", members), IGNORING, None),
-    ("an array for a number", holding(b"n", tables), (), SHAPE),
-    ("an object for a number", holding(b"n", members), (), SHAPE),
-    ("an array for a string", holding(b"name", pairs), (), SHAPE),
-    ("an array for an enum", holding(b"e", pairs), (), SHAPE),
-    ("an array for a struct", holding(b"p", pairs), (), SHAPE),
-    ("an array for a table", holding(b"a", pairs), (), SHAPE),
-    ("an object for a vector", holding(b"v", members), (), SHAPE),
-    ("an array for a code", holding(b"u_type", pairs), (), SHAPE),
-    ("an array in a vector of numbers", lambda size: b'{"numbers":[1,' + pairs(size) + b",2]}", (), SHAPE),
-    ("an array in a vector of structs", lambda size: b'{"points":[' + pairs(size) + b"]}", (), SHAPE),
-    ("an array in a vector of strings", lambda size: b'{"names":["a",' + pairs(size) + b"]}", (), SHAPE),
-    ("an array in a vector of tables", lambda size: b'{"v":[{},' + pairs(size) + b"]}", (), SHAPE),
-    ("a deprecated field", holding(b"old", tables), (), UNKNOWN),
-    ("a deprecated field, ignored", holding(b"old", tables), IGNORING, None),
-    ("a name that comes again", lambda size: b'{"v":' + tables(size) + b',"v":[]}', (), None),
-    ("an array as root", tables, (), SHAPE),
-    ("a union's member", lambda size: b'{"u_type":"B","u":{"v":' + tables(size) + b"}}", (), None),
-    ("a union's member before its code", lambda size: b'{"u":{"v":' + tables(size) + b'},"u_type":"B"}', (), None),
-    ("a union in a union", lambda size: b'{"u_type":"B","u":{"w_type":"B","w":{"v":' + tables(size) + b"}}}", (), None),
-    ("a union's member without its code", lambda size: b'{"u":{"v":' + tables(size) + b"}}", (), MISMATCH),
-    ("an array for a union's member", lambda size: b'{"u_type":"A","u":' + pairs(size) + b"}", (), SHAPE),
-    ("a fault in a union's member", lambda size: b'{"u_type":"B","u":{"v":' + tables(size)[:-1] + b",1]}}", (), SHAPE),
+def member(name, value):
+    return text(b'{"' + name + b'":', value, b"}")
+
+
+def in_member(value):
+    """A text with a long value as the vector of a union's member."""
+    return text(b'{"u_type":"B","u":{"v":', value, b"}}")
+
+
+# What is no JSON, as the value of a member or element.
+BROKEN = (
+    ("a zero before a digit", b"01"),
+    ("a number that is too large", b"1e999"),
+    ("a number of 400 digits", b"9" * 400),
+    ("a bad escape", b'"\\x"'),
+    ("a lone surrogate", b'"\\ud800"'),
+    ("no UTF-8", b'"\xff"'),
+    ("too many brackets", nested(127)),
 )
+# Where a long value stands that is checked without a tree: what is before it and after it, and flags.
+CHECKED = (
+    ("an unknown member", b'{"z":', b"}", ()),
+    ("an ignored member", b'{"z":', b"}", IGNORING),
+    ("an ignored deprecated field", b'{"old":', b"}", IGNORING),
+    ("a value for a number", b'{"n":', b"}", ()),
+    ("a value for a string", b'{"name":', b"}", ()),
+    ("the first of two values", b'{"v":', b',"v":[]}', ()),
+    ("a member without its code", b'{"u":', b"}", ()),
+    ("a value after a fault", b'{"name":1,"v":', b"}", ()),
+    ("an element for a number", b'{"numbers":[1,', b"]}", ()),
+    ("an element for a struct", b'{"points":[', b"]}", ()),
+    ("an element for a string", b'{"names":[', b"]}", ()),
+    ("the root", b"", b"", ()),
+)
+class Row(NamedTuple):
+    """A text with a long value."""
+
+    name: str
+    # the text for a size of its long value
+    of_size: Callable[[int], bytes]
+    # the line of its refusal; it is empty if the text is converted
+    line: str = ""
+    # how many times its text a buffer without the fault has
+    share: float = TABLES
+    flags: tuple = ()
+    # a text with the same buffer
+    same: bytes = b""
 
 
-def run(words):
-    """The status of a run, what it reported and its peak in KiB."""
-    to = {"stdin": subprocess.DEVNULL, "stdout": subprocess.DEVNULL, "stderr": subprocess.PIPE}
-    child = subprocess.Popen(words, text=True, **to)
-    reported = child.stderr.read()
-    _, status, used = os.wait4(child.pid, 0)
-    child.returncode = os.waitstatus_to_exitcode(status)
-    return child.returncode, reported, used.ru_maxrss
+ROWS = [
+    Row("a vector of tables", member(b"v", tables)),
+    Row("a vector of numbers", member(b"numbers", repeated(b"7")), share=NUMBERS),
+    Row("a vector of structs", member(b"points", repeated(b'{"x":1,"y":2}')), share=NUMBERS),
+    Row("a vector of strings", member(b"names", repeated(b'"some words"'))),
+    Row("a string", member(b"name", string), share=1),
+    Row(
+        "an array of blanks before a vector",
+        text(b'{"v":[' + b" " * 20_000 + b'],"numbers":', repeated(b"7"), b"}"),
+        share=NUMBERS,
+    ),
+    Row("a vector of blanks", member(b"v", blanks), share=NOTHING, same=b'{"v":[]}'),
+    Row("the last byte is missing", text(b'{"v":', tables, b""), BAD),
+    Row("it ends within the vector", text(b'{"v":', lambda size: tables(size)[:-size // 2], b""), BAD),
+    Row("it ends within a string", text(b'{"v":', tables, b',"name":"Or'), BAD),
+    Row("a comma too many", text(b'{"v":', tables, b",}"), BAD),
+    Row("a comma too many in the vector", text(b'{"v":', lambda size: tables(size)[:-1] + b",]", b"}"), BAD),
+    Row("no comma", text(b'{"v":', tables, b'"n":1}'), BAD),
+    Row("no colon", text(b'{"v":', tables, b',"n" 1}'), BAD),
+    Row("another closing bracket", text(b'{"v":', lambda size: tables(size)[:-1] + b"}", b"}"), BAD),
+    Row("a bracket too many", text(b'{"v":', tables, b"]}"), BAD),
+    Row("a brace too many", text(b'{"v":', tables, b"}}"), BAD),
+    Row("a value after it", text(b'{"v":', tables, b"} 1"), BAD),
+    Row("too many brackets in an element", member(b"v", repeated(TABLE, b'{"a":' + nested(126) + b"}")), BAD),
+    Row(
+        "too many brackets in a union's member",
+        text(b'{"u_type":"B","u":{"v":', tables, b',"w":' + nested(127) + b"}}"),
+        BAD,
+    ),
+    Row("as many brackets as JSON has", text(b'{"v":', tables, b',"z":' + nested(126) + b"}"), UNKNOWN),
+    Row("as many brackets as JSON has, ignored", text(b'{"v":', tables, b',"z":' + nested(126) + b"}"), flags=IGNORING),
+    Row("an unknown name at the end", text(b'{"v":', tables, b',"z":1}'), UNKNOWN),
+    Row("an unknown name at the start", text(b'{"z":1,"v":', tables, b"}"), UNKNOWN),
+    Row("a number for the last table", member(b"v", repeated(TABLE, b"1")), shape(0)),
+    Row("a number for the first table", text(b'{"v":[1,', lambda size: tables(size)[1:], b"}"), shape(0)),
+    Row("an array for the last table", member(b"v", repeated(TABLE, b"[]")), shape(0)),
+    Row("an unknown array", member(b"z", tables), UNKNOWN, share=NOTHING),
+    Row("an unknown object", member(b"z", members), UNKNOWN, share=NOTHING),
+    Row("an unknown string", member(b"z", string), UNKNOWN, share=NOTHING),
+    Row("an unknown array, ignored", member(b"z", tables), share=NOTHING, flags=IGNORING, same=b"{}"),
+    Row("an unknown object, ignored", member(b"z", members), share=NOTHING, flags=IGNORING, same=b"{}"),
+    Row("an unknown string, ignored", member(b"z", string), share=NOTHING, flags=IGNORING, same=b"{}"),
+    Row("an unknown array in a table", text(b'{"a":{"z":', tables, b"}}"), "74 UnknownMember in type 0", share=NOTHING),
+    Row(
+        "an unknown array in a table, ignored",
+        text(b'{"a":{"z":', tables, b"}}"),
+        share=NOTHING,
+        flags=IGNORING,
+        same=b'{"a":{}}',
+    ),
+    Row(
+        "an unknown array in a table of a vector, ignored",
+        text(b'{"v":[{"a":1,"z":', tables, b"}]}"),
+        share=NOTHING,
+        flags=IGNORING,
+        same=b'{"v":[{"a":1}]}',
+    ),
+    Row("an array for a number", member(b"n", tables), shape(2), share=NOTHING),
+    Row("an object for a number", member(b"n", members), shape(2), share=NOTHING),
+    Row("an array for a string", member(b"name", pairs), shape(1), share=NOTHING),
+    Row("an object for a string", member(b"name", members), shape(1), share=NOTHING),
+    Row("an array for an enum", member(b"e", pairs), shape(10), share=NOTHING),
+    Row("an array for a struct", member(b"p", pairs), shape(3), share=NOTHING),
+    Row("an array for a table", member(b"a", pairs), shape(11), share=NOTHING),
+    Row("an object for a vector", member(b"v", members), shape(0), share=NOTHING),
+    Row("an array for a code", member(b"u_type", pairs), shape(4), share=NOTHING),
+    Row("an array in a vector of numbers", text(b'{"numbers":[1,', pairs, b",2]}"), shape(7), share=NOTHING),
+    Row("an object in a vector of numbers", text(b'{"numbers":[1,', members, b",2]}"), shape(7), share=NOTHING),
+    Row("an array in a vector of structs", text(b'{"points":[', pairs, b"]}"), shape(8), share=NOTHING),
+    Row("an array in a vector of strings", text(b'{"names":["a",', pairs, b"]}"), shape(9), share=NOTHING),
+    Row("an object in a vector of strings", text(b'{"names":["a",', members, b"]}"), shape(9), share=NOTHING),
+    Row("an array in a vector of tables", text(b'{"v":[{},', pairs, b"]}"), shape(0), share=NOTHING),
+    Row("a deprecated field", member(b"old", tables), UNKNOWN, share=NOTHING),
+    Row("a deprecated field, ignored", member(b"old", tables), share=NOTHING, flags=IGNORING, same=b"{}"),
+    Row("the first of two values", text(b'{"v":', tables, b',"v":[]}'), share=NOTHING, same=b'{"v":[]}'),
+    Row("the second of two values", text(b'{"v":[],"v":', tables, b"}")),
+    Row("an array as root", tables, "70 WrongShape in type 6", share=NOTHING),
+    Row("a union's member", in_member(tables)),
+    Row("a union's member by its number", text(b'{"u_type":2,"u":{"v":', tables, b"}}")),
+    Row("a union's member before its code", text(b'{"u":{"v":', tables, b'},"u_type":"B"}')),
+    Row("a union in a union", text(b'{"u_type":"B","u":{"w_type":"B","w":{"v":', tables, b"}}}")),
+    Row("a union's member without its code", text(b'{"u":{"v":', tables, b"}}"), MISMATCH, share=NOTHING),
+    Row("a union's member with no code", text(b'{"u_type":"NONE","u":{"v":', tables, b"}}"), MISMATCH, share=NOTHING),
+    Row(
+        "a union's member with an unknown code",
+        text(b'{"u_type":"C","u":{"v":', tables, b"}}"),
+        "73 UnknownName in type 6 slot 4",
+        share=NOTHING,
+    ),
+    Row(
+        "a union's member with null for its code",
+        text(b'{"u_type":null,"u":{"v":', tables, b"}}"),
+        MISMATCH,
+        share=NOTHING,
+    ),
+    Row("an array for a union's member", text(b'{"u_type":"A","u":', pairs, b"}"), shape(5), share=NOTHING),
+    Row("a fault in a union's member", in_member(repeated(TABLE, b"1")), "70 WrongShape in type 3 slot 0"),
+    Row(
+        "an unknown array in a union's member",
+        text(b'{"u_type":"A","u":{"z":', tables, b"}}"),
+        "74 UnknownMember in type 0",
+        share=NOTHING,
+    ),
+]
+for what, value in BROKEN:
+    broken = repeated(TABLE, b'{"a":' + value + b"}")
+    ROWS += [
+        Row(f"{what}, at the start", text(b'{"n":' + value + b',"v":', tables, b"}"), BAD),
+        Row(f"{what}, in the middle", text(b'{"v":', tables, b',"n":' + value + b',"names":["a"]}'), BAD),
+        Row(f"{what}, at the end", text(b'{"v":', tables, b',"n":' + value + b"}"), BAD),
+        Row(f"{what}, in the last table", member(b"v", broken), BAD),
+        Row(f"{what}, in a union's member", in_member(broken), BAD),
+    ]
+    for where, before, after, flags in CHECKED:
+        checked = text(before, repeated(PAIR, value), after)
+        ROWS.append(Row(f"{what}, in {where}", checked, BAD, share=NOTHING, flags=flags))
 
 
-def try_text(tests, name, text, flags, fault):
+class Taken:
+    """Runs a program by bench/runner.c, and says how it ended and what it took."""
+
+    def __init__(self, tests):
+        self.program = tests.program
+        self.runner = Runner(".").program
+
+    def of(self, words, stdin=subprocess.DEVNULL):
+        """The status and the line of a refusal; the seconds of processor time; the peak in KiB."""
+        streams = {"stdin": stdin, "stdout": subprocess.PIPE, "stderr": subprocess.PIPE}
+        done = subprocess.run([self.runner, self.program, *words], text=True, check=False, **streams)
+        *lines, figures = done.stderr.splitlines()
+        seconds, _, peak = figures.split()
+        return (done.returncode, "\n".join(lines)), float(seconds), int(peak)
+
+
+def clear(path):
+    if os.path.exists(path):
+        os.remove(path)
+
+
+def try_row(tests, taken, nothing, row):
     """The outcome of a text with short values, and the same one of a long text, in little memory."""
-    words = [tests.program, "binary", *flags, "s.fbs"]
-    write("short.json", text(SHORT))
-    write("long.json", text(LONG))
-    status, reported, nothing = run([*words, "short.json", "short.bin"])
-    good = (status, reported.split(" in ")[0].rstrip("\n")) == (1 if fault else 0, fault or "")
-    tests.tell(f"{name}, short", good, f"status {status}, reported {reported!r}")
-    *outcome, peak = run([*words, "long.json", "long.bin"])
-    tests.tell(f"{name}, long", outcome == [status, reported], f"{outcome}, where {[status, reported]} was expected")
-    size = len(text(LONG)) // 1024
-    most = nothing + MOST * size * (1 + BUFFER)
-    tests.tell(f"the memory of {name}", peak <= most, f"{peak} KiB for {size} KiB of text, over {most:.0f} KiB")
+    words = ["binary", *row.flags, "s.fbs"]
+    want = (1 if row.line else 0, row.line)
+    write("short.json", row.of_size(SHORT))
+    outcome, _, _ = taken.of([*words, "short.json", "short.bin"])
+    tests.tell(f"{row.name}, short", outcome == want, f"{outcome}, not {want}")
+    json = row.of_size(LONG)
+    write("long.json", json)
+    clear("long.bin")
+    outcome, seconds, peak = taken.of([*words, "long.json", "long.bin"])
+    tests.tell(f"{row.name}, long", outcome == want, f"{outcome}, not {want}")
+    tests.tell(f"OUT of {row.name}", os.path.exists("long.bin") != bool(row.line), "is there, or isn't")
+    size = len(json) / 1024
+    most = nothing + MOST * size * (1 + row.share)
+    tests.tell(f"the memory of {row.name}", peak <= most, f"{peak} KiB for {size:.0f} KiB of text, over {most:.0f} KiB")
+    if row.same:
+        write("same.json", row.same)
+        taken.of([*words, "same.json", "same.bin"])
+        tests.tell(f"the buffer of {row.name}", content("long.bin") == content("same.bin"), "is another")
+    return seconds
 
 
-def try_texts(tests):
+def try_rows(tests):
     write("s.fbs", SCHEMA)
-    for row in TEXTS:
-        try_text(tests, *row)
+    write("none.json", b"{}")
+    taken = Taken(tests)
+    _, _, nothing = taken.of(["binary", "s.fbs", "none.json", "none.bin"])
+    seconds = {row.name: try_row(tests, taken, nothing, row) for row in ROWS}
+    right = seconds["a vector of tables"]
+    for row in ROWS:
+        took = seconds[row.name]
+        if row.line:
+            tests.tell(f"the time of {row.name}", took <= TIMES * right, f"{took} s, and {right} s of a right text")
+
+
+def by_pipe(tests):
+    """A text from a pipe takes as much."""
+    write("s.fbs", SCHEMA)
+    write("cut.json", b'{"v":' + tables(LONG))
+    taken = Taken(tests)
+    _, _, from_file = taken.of(["binary", "s.fbs", "cut.json", "out.bin"])
+    with subprocess.Popen(["cat", "cut.json"], stdout=subprocess.PIPE) as cat:
+        outcome, _, peak = taken.of(["binary", "s.fbs", "-", "out.bin"], stdin=cat.stdout)
+    tests.tell("a pipe's outcome", outcome == (1, BAD), f"{outcome}")
+    tests.tell("a pipe's memory", peak <= from_file + 2 * LONG / 1024, f"{peak} KiB, {from_file} KiB from a file")
 
 
 def main():
     tests = Tests("long texts", program_of(sys.argv, __doc__))
-    return tests.main([try_texts])
+    return tests.main([try_rows, by_pipe])
 
 
 if __name__ == "__main__":
