@@ -34,7 +34,7 @@ python3 tools/dependencies.py | tee "$logs/dependencies" || status=1
 python3 bench/picture.py --check | tee "$logs/picture" || status=1
 python3 tools/mutations.py --not-compiled | tee "$logs/not-compiled" || status=1
 for part in command pages git_hook texts outputs streams batches lines prefixed inspect terminal hostile explain \
-    told_alike called google shells hooks costs; do
+    told_alike program_name google shells hooks costs; do
     python3 "tests/$part.py" "$program" | tee "$logs/$part" || status=1
 done
 for part in growths soak pieces; do

@@ -50,15 +50,15 @@ pub fn cut_array(
     let Some(ends) = cuts.runs_of(at.saturating_add(opening)) else {
         return Ok(None);
     };
-    let mut runs = Vec::with_capacity(alloc, ends.len())?;
     let mut from = opening + 1;
+    if is_closed(&text[from..]) {
+        return Ok(None);
+    }
+    let mut runs = Vec::with_capacity(alloc, ends.len())?;
     for end in ends {
         let Some(run) = run_before(text, from, end.at.saturating_sub(at), end.count) else {
             return Ok(None);
         };
-        if runs.is_empty() && are_blanks(&text[from..run.elements.end]) {
-            return Ok(None);
-        }
         runs.push(run)?;
         from = run.elements.end + 1;
         if run.is_last {
@@ -103,7 +103,12 @@ pub fn cut_object(
     Ok(None)
 }
 
-/// Where this bracket is, if a text begins with it behind blanks.
+/// Whether an array whose bracket opens before a text closes there, without elements.
+fn is_closed(text: &[u8]) -> bool {
+    text.get(leading_blanks(text)) == Some(&b']')
+}
+
+/// Where this bracket is, if a text begins with it after blanks.
 fn opening(text: &[u8], bracket: u8) -> Option<usize>
     ensures opens { IfSome result (λ at. OpensAt text.now bracket at) }
     ensures within { IfSome result (λ at. at < length text.now) }

@@ -1,7 +1,7 @@
 //! What is printed of a refusal where an explanation is asked for.
-use crate::called::eprint_usage;
 use crate::flags::Flags;
 use crate::limits;
+use crate::program_name::eprint_usage;
 use crate::terminal::{columns, print_explanation};
 use fb_explain::{FileFailure, Lost, Source, Sources, explain, fault_page, warnings};
 use flatc_files::{Gone, Input, Job, Texts};

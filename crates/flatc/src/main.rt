@@ -5,23 +5,23 @@ ghost use Rattle.std.specs.Prelude.{◌≡◌};
 ghost use Rattle.flatc_tool.specs.Options.{usual_limits};
 
 mod batches;
-mod called;
 mod explained;
 mod faults;
 mod flags;
 mod hints;
 mod inspected;
 mod messages;
+mod program_name;
 mod terminal;
 
 use crate::batches::do_batch;
-use crate::called::{eprint_hint, eprint_usage, print_error};
 use crate::explained::{explain_number, explain_refusal, list_numbers, warn};
 use crate::faults::{Buffer, read_fault, write_fault};
 use crate::flags::{Flags, USUAL};
 use crate::hints::hint_for;
 use crate::inspected::inspect;
 use crate::messages::do_stream;
+use crate::program_name::{eprint_hint, eprint_usage, print_error};
 use crate::terminal::is_explained;
 use clap::Error;
 use clap::error::ErrorKind;

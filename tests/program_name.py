@@ -1,7 +1,7 @@
 #!/usr/bin/env python3
 """The name by which the program is called, in its usage, its help and its hints.
 
-usage: tests/called.py PROGRAM
+usage: tests/program_name.py PROGRAM
 
 The last line is 'N passed, M failed'.
 """
@@ -45,16 +45,17 @@ NAMES = [
 ]
 
 
-def told(program, name, words):
-    """The status and the text of a run under a name."""
-    done = subprocess.run([name, *words], executable=program, stdout=subprocess.PIPE, stderr=subprocess.STDOUT)
-    return done.returncode, done.stdout.decode()
+def run(program, name, words):
+    """The status of a run under a name, and what it printed: where it failed, on standard error alone."""
+    done = subprocess.run([name, *words], executable=program, capture_output=True, check=False)
+    printed, other = (done.stderr, done.stdout) if done.returncode else (done.stdout, done.stderr)
+    return done.returncode, printed.decode() + ("on the other stream: " + other.decode() if other else "")
 
 
 def renamed(tests):
     for name, said in NAMES:
         for words, status, lines in LINES:
-            have, text = told(tests.program, name, words)
+            have, text = run(tests.program, name, words)
             missing = [it for it in lines if it.replace("NAME", said) not in text.splitlines()]
             tests.tell(f"{words} as {name!r}", have == status and not missing, f"status {have}, {missing}: {text}")
 
@@ -62,9 +63,9 @@ def renamed(tests):
 def alike(tests):
     """Nothing but the name differs."""
     for words, _, _ in LINES:
-        _, usual = told(tests.program, "flatc", words)
-        _, other = told(tests.program, "OTHER", words)
-        tests.tell(f"{words} but for the name", other != usual or "Google" in usual, other)
+        _, usual = run(tests.program, "flatc", words)
+        _, other = run(tests.program, "OTHER", words)
+        tests.tell(f"{words} has the name", other != usual, other)
         tests.tell(f"{words} is the same text", other.replace("OTHER", "flatc") == usual, other)
 
 
@@ -75,7 +76,7 @@ def linked(tests):
 
 
 def main():
-    tests = Tests("called", program_of(sys.argv, __doc__))
+    tests = Tests("program name", program_of(sys.argv, __doc__))
     return tests.main((renamed, alike, linked))
 
 

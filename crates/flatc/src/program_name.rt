@@ -1,0 +1,79 @@
+//! The name by which the program was called, in texts that say how it is used.
+use clap::Error;
+use std::alloc::AllocError;
+use std::env::Env;
+use std::io;
+
+/// The name that these texts are written with.
+const NAME: &str = "flatc";
+
+// In bytes. A longer path isn't read.
+const LONGEST_PATH: usize = 1024;
+
+/// What is before the name in a usage, which begins a line and may go on in more lines.
+const IN_USAGE: &[&str] = &["\nUsage: ", "\n       "];
+
+/// What is before the name in a hint.
+const IN_HINT: &[&str] = &[": "];
+
+/// The last component of a path, or the usual name if that can't be printed as it is.
+fn file_name(path: &str) -> &str {
+    match path.rsplit('/').next() {
+        Some(name) if !name.is_empty() && !name.chars().any(|c| c.is_control()) => name,
+        _ => NAME,
+    }
+}
+
+/// The name by which the program was called, or the usual one if it can't be read.
+fn program_name<'b>(rt: &HostRuntime, room: &'b mut [u8]) -> &'b str {
+    match rt.arg(0, room) {
+        Ok(len) => room
+            .get(..len)
+            .and_then(|bytes| str::from_utf8(bytes).ok())
+            .map_or(NAME, file_name),
+        Err(_) => NAME,
+    }
+}
+
+/// A text with the program's name in place of the usual one, after each of these.
+fn with_program_name(rt: &HostRuntime, text: &str, before: &[&str]) -> Result<String, AllocError> {
+    let alloc = rt.alloc();
+    let mut room = [0u8; LONGEST_PATH];
+    let name = program_name(rt, &mut room);
+    let mut named = String::from_str(alloc, text)?;
+    for before in before {
+        let old = format!(in alloc; "{before}{NAME} ")?;
+        let new = format!(in alloc; "{before}{name} ")?;
+        named = named.replace(alloc, old.as_str(), new.as_str())?;
+    }
+    Ok(named)
+}
+
+/// Prints clap's message to the stream that it belongs on, under the program's name. Without memory for that it has the
+/// usual one.
+pub(crate) fn print_error(rt: &HostRuntime, error: &Error) -> io::Result<()> {
+    let Ok(text) = format!(in rt.alloc(); "{error}") else {
+        return error.print(rt);
+    };
+    match with_program_name(rt, text.as_str(), IN_USAGE) {
+        Ok(named) if error.use_stderr() => eprint!(rt; "{named}"),
+        Ok(named) => print!(rt; "{named}"),
+        Err(_) => error.print(rt),
+    }
+}
+
+/// Prints a text with a usage on standard error, under the program's name.
+pub(crate) fn eprint_usage(rt: &HostRuntime, text: &str) -> io::Result<()> {
+    match with_program_name(rt, text, IN_USAGE) {
+        Ok(named) => eprint!(rt; "{named}"),
+        Err(_) => eprint!(rt; "{text}"),
+    }
+}
+
+/// Prints a hint on standard error, under the program's name.
+pub(crate) fn eprint_hint(rt: &HostRuntime, hint: &str) -> io::Result<()> {
+    match with_program_name(rt, hint, IN_HINT) {
+        Ok(named) => eprintln!(rt; "\nhint: {named}"),
+        Err(_) => eprintln!(rt; "\nhint: {hint}"),
+    }
+}
