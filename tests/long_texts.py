@@ -36,6 +36,7 @@ MOST = 3
 TABLES, NUMBERS, NOTHING = 1.5, 2, 0
 # How many times the processor time of a right text one takes that is refused.
 TIMES = 1.3
+RUNS = 5
 IGNORING = ("--unknown-json",)
 
 BAD = "113 BadJson"
@@ -288,16 +289,25 @@ def try_row(tests, taken, nothing, row):
     return seconds
 
 
+def least_of(taken, row):
+    """The least processor time of some runs: on a busy machine one may be slow."""
+    write("long.json", row.of_size(LONG))
+    words = ["binary", *row.flags, "s.fbs", "long.json", "long.bin"]
+    return min(taken.of(words)[1] for _ in range(RUNS))
+
+
 def try_rows(tests):
     write("s.fbs", SCHEMA)
     write("none.json", b"{}")
     taken = Taken(tests)
     _, _, nothing = taken.of(["binary", "s.fbs", "none.json", "none.bin"])
     seconds = {row.name: try_row(tests, taken, nothing, row) for row in ROWS}
-    right = seconds["a vector of tables"]
+    right = least_of(taken, ROWS[0])
     for row in ROWS:
-        took = seconds[row.name]
         if row.line:
+            took = seconds[row.name]
+            if took > TIMES * right:
+                took = least_of(taken, row)
             tests.tell(f"the time of {row.name}", took <= TIMES * right, f"{took} s, and {right} s of a right text")
 
 
