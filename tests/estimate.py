@@ -1,14 +1,14 @@
 #!/usr/bin/env python3
-"""How well make run estimates its time: tools/seconds.txt against the log of another run, tests/make_run.log.
+"""How well make run estimates its time: tools/seconds.txt against the log of another run.
 
-usage: tests/estimate.py
+usage: tests/estimate.py LOG
 
 The last line is 'N passed, M failed'.
 """
 import re
 import sys
 
-from harness import ROOT, Tests, content
+from harness import ROOT, Tests, content, program_of
 
 sys.path.append(f"{ROOT}/tools")
 
@@ -22,7 +22,7 @@ WRONG = 0.25
 
 def estimates(tests):
     """After each crate the time of the whole run is estimated well."""
-    log = content(f"{ROOT}/tests/make_run.log").decode()
+    log = content(tests.program).decode()
     count, jobs = (int(it) for it in HEAD.search(log).groups())
     found = LINE.findall(log)
     lines = [(60 * int(minutes) + int(rest), name, int(seconds)) for minutes, rest, name, seconds in found]
@@ -42,7 +42,7 @@ def estimates(tests):
 
 
 def main():
-    return Tests("estimate", None).main([estimates])
+    return Tests("estimate", program_of(sys.argv, __doc__)).main([estimates])
 
 
 if __name__ == "__main__":

@@ -7,8 +7,8 @@
 # it explains, that explaining changes nothing else, its usage under another name, its lines beside those of Google's
 # flatc, its man page and completions, its hooks for pre-commit and CI, how costs grow, and how much memory it takes,
 # also for long texts that are refused; the calls with growths refused, some thousand damaged buffers, some thousand
-# JSON texts in pieces, the library for C with its examples, what a release has, and how long make run says that it
-# takes. The last line counts all of it: 'N passed, M failed'.
+# JSON texts in pieces, the library for C with its examples, and what a release has. The last line counts all of it:
+# 'N passed, M failed'.
 set -uo pipefail
 cd "$(dirname "$0")/.."
 program=crates/flatc/out/flatc
@@ -45,7 +45,6 @@ python3 tests/long_texts.py "$program" | tee "$logs/long_texts" || status=1
 make --silent lib BUILD=--over-gate || status=1
 python3 tests/library.py lib "$program" | tee "$logs/library" || status=1
 python3 tests/release.py | tee "$logs/release" || status=1
-python3 tests/estimate.py | tee "$logs/estimate" || status=1
 
 passed=0
 failed=0
