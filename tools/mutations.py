@@ -8,8 +8,8 @@ usage: tools/mutations.py [CRATE..]      tries the edits of all crates, or of th
 
 An edit has the form that rt gives those in must-fail/: lines 'file: src/lib.rt', and then pairs of lines 'old: TEXT'
 and 'new: TEXT', where the old text is in that file exactly once. The crates below are proved first, as tools/build.py
-does. Each crate is proved once, and over what that leaves each of its edits is tried: in the modules that it changes,
-and in the whole crate where these are still proved. The last line is 'N refused, M not refused'.
+does. Of each crate the modules that edits change are proved once, and over what that leaves each edit is tried: in the
+modules that it changes, and in the whole crate where these are still proved. The last line is 'N refused, M not refused'.
 
 What was refused is noted in tools/mutations.tried, with a sum of what the trial read: the toolchain, the edit, the
 crate, and what the crates below it state (their specs, and their sources without the bodies of functions).
@@ -207,6 +207,14 @@ def modules_of(paths):
     return [it[1].replace("/", "::") for it in found]
 
 
+def only_edited(edits, name):
+    """The words by which the prover checks only the modules that edits change; none where that is the whole crate."""
+    changed = [modules_of(edited(it, f"{ROOT}/crates/{name}")[0] or ()) for it in edits]
+    if not all(changed):
+        return []
+    return [word for it in sorted({it for them in changed for it in them}) for word in ("--only", it)]
+
+
 def check(words, folder):
     """Whether a crate is proved: None where the prover gives no verdict. And what is said of it."""
     status, lines = run(words, folder)
@@ -250,7 +258,7 @@ def try_crate(crates, name, edits):
     words, jobs = words_of(crates, name, "check"), jobs_here()
     with tempfile.TemporaryDirectory(prefix=f"seed-{name}-") as seed:
         more = ["--jobs", str(min(jobs, MOST_JOBS_OF_A_CRATE)), "--incremental", seed]
-        proved, lines = check([*words, *more], f"{ROOT}/crates/{name}")
+        proved, lines = check([*words, *more, *only_edited(edits, name)], f"{ROOT}/crates/{name}")
         if not proved:
             print(f"{name} isn't proved:", *lines[-6:], sep="\n")
             return 0
