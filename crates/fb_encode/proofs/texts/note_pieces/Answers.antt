@@ -4,12 +4,12 @@ use Rattle.fb_encode.proofs.trees.RootIsNoted.{at_root, root_noted}
 use Rattle.fb_encode.proofs.texts.FirstFaultIsRefused.{text_refused}
 use Rattle.fb_encode.proofs.texts.note_pieces.Goals as goal
 
-pub returns-in-Ok-Ok-clause-noted : goal.returns-in-Ok-Ok-clause-noted
-returns-in-Ok-Ok-clause-noted c =
+pub returns-in-Ok-clause-noted : goal.returns-in-Ok-clause-noted
+returns-in-Ok-clause-noted c =
     let L = c.args.source.layout.now in
     let root = c.root-root.ensures ∙ ap (λ (s : DeclaredSchema). s.root) c.schema.ensures.schema in
     let made = c.requires in
-    let found = rw c.in-Ok-Ok.field-0-is at c.in-Ok-Ok.ensures.noted in (
+    let found = rw c.in-Ok.field-0-is at c.in-Ok.ensures.noted in (
       found.0,
       found.1,
       root_noted L c.args.limits c.args.source.unknown found.0 c.root-root.result.0 c.most_depth-levels.result
@@ -17,13 +17,13 @@ returns-in-Ok-Ok-clause-noted c =
           made.waits made.room found.2 c.only_what_is_meant.ensures c.schema.ensures.made,
     )
 
-pub returns-in-Ok-Err-clause-refused : goal.returns-in-Ok-Err-clause-refused
-returns-in-Ok-Err-clause-refused c =
+pub returns-in-Err-clause-refused : goal.returns-in-Err-clause-refused
+returns-in-Err-clause-refused c =
     let L = c.args.source.layout.now in
     let root = c.root-root.ensures ∙ ap (λ (s : DeclaredSchema). s.root) c.schema.ensures.schema in
-    let found = rw c.in-Ok-Err.field-0-is at c.in-Ok-Err.ensures.noted in
+    let found = rw c.in-Err.field-0-is at c.in-Err.ensures.noted in
     let same = at_root L c.args.limits c.args.source.unknown found.0 c.root-root.result.0 c.most_depth-levels.result
     c.most_cells-cells.result root c.most_depth-levels.ensures.exact c.most_cells-cells.ensures in
     rw c.first_fault.ensures (text_refused L c.args.limits c.args.source.unknown c.args.json.now found.0 found.1
-    c.first_fault_refuses.ensures c.in-Ok-Err.fault
+    c.first_fault_refuses.ensures c.in-Err.fault
     (rw (← same) found.2))

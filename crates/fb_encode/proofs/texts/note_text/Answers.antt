@@ -5,5 +5,5 @@ pub returns-in_err-check_json-in-Err-Piece-clause-refused :
     goal.returns-in_err-check_json-in-Err-Piece-clause-refused
 returns-in_err-check_json-in-Err-Piece-clause-refused c =
     let p = err_from_is_err_and c.from_residual.result c.from_residual.ensures.1 in
-    rw (p.1, p.2) (c.in_err-check_json-in-Err-Piece.ensures c.args.source.layout.now c.args.limits
+    rw (p.1, p.2) (c.in_err-check_json-in-Err-Piece.ensures.refused c.args.source.layout.now c.args.limits
     c.args.source.unknown)
