@@ -1,16 +1,14 @@
 -- Where the content of a tree has no meaning, its outline means the same.
-use Rattle.std.proofs.Common.{◌≡◌, ◌∙◌, ℕ, zero, suc, Bool, true, false, Option, None, Some, Result, Ok, Err, refl, sym, ap}
+use Rattle.std.proofs.Common.{◌≡◌, ◌∙◌, ℕ, zero, suc, Bool, true, false, Option, None, Some, Ok, refl, sym, ap}
 use Rattle.std.proofs.Common.{if◌then◌else◌}
 use Rattle.serde_json.specs.Data.{Data, Items, Members, null, boolean, number, string, array, object, no_items}
 use Rattle.serde_json.specs.Data.{no_members}
-use Rattle.fb_schema.specs.declared.kinds.Kind.{Kind}
 use Rattle.fb_schema.specs.declared.kinds.Kind.TheVariants.{Scalar, Enum, Struct, Table, Union, Code, Text}
 use Rattle.fb_schema.specs.declared.kinds.Shape.{Shape}
 use Rattle.fb_schema.specs.declared.kinds.Shape.TheVariants.{One, Many}
 use Rattle.fb_schema.specs.Schema.{DeclaredField, DeclaredSchema, Name}
 use Rattle.fb_layout.specs.Laid.{LaidSchema, Slot, member_by_code, slot_of}
 use Rattle.fb_value.specs.Datum.{a_member}
-use Rattle.fb_json.specs.declared.faults.JsonFault.{JsonFault}
 use Rattle.fb_json.specs.declared.faults.Place.{Place}
 use Rattle.fb_json.specs.Leaves.{code_told}
 use Rattle.fb_json.specs.Meant.{Look, Meaner, as_member, code_after, code_in, entry_meant, meant, object_meant}

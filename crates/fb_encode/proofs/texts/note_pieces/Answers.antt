@@ -9,7 +9,7 @@ returns-in-Ok-clause-noted c =
     let L = c.args.source.layout.now in
     let root = c.root-root.ensures ∙ ap (λ (s : DeclaredSchema). s.root) c.schema.ensures.schema in
     let made = c.requires in
-    let found = rw c.in-Ok.field-0-is at c.in-Ok.ensures.noted in (
+    let found = rw c.in-Ok.is at c.in_ok-_left.ensures.noted in (
       found.0,
       found.1,
       root_noted L c.args.limits c.args.source.unknown found.0 c.root-root.result.0 c.most_depth-levels.result
@@ -21,7 +21,7 @@ pub returns-in-Err-clause-refused : goal.returns-in-Err-clause-refused
 returns-in-Err-clause-refused c =
     let L = c.args.source.layout.now in
     let root = c.root-root.ensures ∙ ap (λ (s : DeclaredSchema). s.root) c.schema.ensures.schema in
-    let found = rw c.in-Err.field-0-is at c.in-Err.ensures.noted in
+    let found = rw c.in-Err.is at c.in_ok-_left.ensures.noted in
     let same = at_root L c.args.limits c.args.source.unknown found.0 c.root-root.result.0 c.most_depth-levels.result
     c.most_cells-cells.result root c.most_depth-levels.ensures.exact c.most_cells-cells.ensures in
     rw c.first_fault.ensures (text_refused L c.args.limits c.args.source.unknown c.args.json.now found.0 found.1
