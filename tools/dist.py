@@ -62,19 +62,14 @@ def is_the_object():
 
 
 def make_object():
-    """Has the program's object. If rt ci kept the program, it left no object: the program is then compiled again."""
-    if is_the_object():
-        return
-    OBJECT.unlink(missing_ok=True)
-    compile_it = build.commands_of(build.read_crates(), "flatc")[0]
-    subprocess.run(compile_it, cwd=ROOT / "crates/flatc", check=True, stdout=subprocess.DEVNULL)
+    """Has the program's object. If rt ci kept the program, it left no object: the program is then built again."""
     if not is_the_object():
-        raise SystemExit("the program in crates/flatc/out isn't the one of this commit: run make build")
+        for words in build.commands_of(build.read_crates(), "flatc"):
+            subprocess.run(words, cwd=ROOT / "crates/flatc", check=True, stdout=subprocess.DEVNULL)
 
 
 def link_static(to):
     """Links the program's object statically."""
-    make_object()
     kit = Path(output("rt", "doc")).parent
     archives = [str(kit / "c/libos_c.a"), str(kit / "c/liblibc_c.a")]
     to.parent.mkdir(parents=True, exist_ok=True)
@@ -180,6 +175,7 @@ def main():
     os.umask(0o022)
     epoch = os.environ.setdefault("SOURCE_DATE_EPOCH", output("git", "log", "-1", "--format=%ct"))
     os.environ |= {"LC_ALL": "C", "TZ": "UTC"}
+    make_object()
     folder.mkdir(parents=True, exist_ok=True)
     for it in [*folder.glob("*flatc*"), *folder.glob("SHA256SUMS")]:
         it.unlink()
