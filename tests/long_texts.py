@@ -14,11 +14,13 @@ from harness import Tests, program_of, write
 SCHEMA = b"""
 table A { a:int; }
 struct P { x:int; y:int; }
+struct Q { p:P; n:int; }
 table B { v:[A]; w:W; }
 union W { A, B }
 enum E : byte { Red, Green }
 table T {
-  v:[A]; name:string; n:int; p:P; u:W; old:[A] (deprecated); numbers:[int]; points:[P]; names:[string]; e:E; a:A;
+  v:[A]; name:string; n:int; p:P; u:W; old:[A] (deprecated); numbers:[int]; points:[P]; names:[string]; e:E; a:A; q:Q;
+  boxes:[Q];
 }
 root_type T;
 """
@@ -43,6 +45,10 @@ def members(size):
     return b"{" + b",".join(b'"m%d":1' % number for number in range(size // 12)) + b"}"
 
 
+def string(size):
+    return b'"' + b"a" * size + b'"'
+
+
 def ending(end):
     """A text with a long vector that ends so."""
     return lambda size: b'{"v":' + tables(size) + end
@@ -62,10 +68,17 @@ def nested(value):
     return lambda size: b'{"v":' + value(size) + b"}"
 
 
+def within(begin, value, end):
+    """A text with a long value between these."""
+    return lambda size: begin + value(size) + end
+
+
 BAD = "113 BadJson"
 SHAPE = "70 WrongShape"
 UNKNOWN = "74 UnknownMember"
+MISSING = "75 MissingMember"
 MISMATCH = "77 UnionMismatch"
+RANGE = "72 OutOfRange"
 # A plain name, the text for a size of its long value, flags, and the fault; none of a text that is converted.
 TEXTS = (
     ("nothing wrong", ending(b"}"), (), None),
@@ -111,6 +124,31 @@ TEXTS = (
     ("a union in a union", lambda size: b'{"u_type":"B","u":{"w_type":"B","w":{"v":' + tables(size) + b"}}}", (), None),
     ("a union's member without its code", lambda size: b'{"u":{"v":' + tables(size) + b"}}", (), MISMATCH),
     ("an array for a union's member", lambda size: b'{"u_type":"A","u":' + pairs(size) + b"}", (), SHAPE),
+    ("an unknown array in a struct", within(b'{"p":{"x":1,"y":2,"z":', pairs, b"}}"), (), UNKNOWN),
+    ("an unknown array in a struct, ignored", within(b'{"p":{"x":1,"y":2,"z":', pairs, b"}}"), IGNORING, None),
+    ("an unknown object in a struct", within(b'{"p":{"z":', members, b',"x":1,"y":2}}'), (), UNKNOWN),
+    ("an unknown object in a struct, ignored", within(b'{"p":{"z":', members, b',"x":1,"y":2}}'), IGNORING, None),
+    ("an unknown string in a struct", within(b'{"p":{"x":1,"y":2,"z":', string, b"}}"), (), UNKNOWN),
+    ("an unknown array in a vector of structs", within(b'{"points":[{"x":1,"y":2,"z":', pairs, b"}]}"), (), UNKNOWN),
+    ("an unknown array in a vector of structs, ignored",
+     within(b'{"points":[{"x":1,"y":2},{"x":3,"z":', pairs, b',"y":4},{"x":5,"y":6}]}'), IGNORING, None),
+    ("an unknown array in a struct of a struct",
+     within(b'{"q":{"p":{"x":1,"y":2,"z":', pairs, b'},"n":3}}'), (), UNKNOWN),
+    ("an unknown array in a struct of a struct, ignored",
+     within(b'{"q":{"p":{"x":1,"y":2,"z":', pairs, b'},"n":3}}'), IGNORING, None),
+    ("an unknown array in structs of a vector, ignored",
+     within(b'{"boxes":[{"n":3,"p":{"x":1,"z":', pairs, b',"y":2}}]}'), IGNORING, None),
+    ("an array for a field of a struct", within(b'{"p":{"x":', pairs, b',"y":2}}'), (), SHAPE),
+    ("an object for a field of a struct", within(b'{"p":{"x":1,"y":', members, b"}}"), (), SHAPE),
+    ("a string for a field of a struct", within(b'{"p":{"x":1,"y":', string, b"}}"), (), SHAPE),
+    ("an array for a struct of a struct", within(b'{"q":{"p":', pairs, b',"n":3}}'), (), SHAPE),
+    ("a field of a struct that comes again", within(b'{"p":{"x":', pairs, b',"x":1,"y":2}}'), (), None),
+    ("a struct without a field", within(b'{"p":{"x":1,"z":', pairs, b"}}"), IGNORING, MISSING),
+    ("a struct without a field, and an unknown array", within(b'{"p":{"x":1,"z":', pairs, b"}}"), (), UNKNOWN),
+    ("a number that is too large for a field of a struct",
+     within(b'{"p":{"x":1,"z":', pairs, b',"y":3000000000}}'), IGNORING, RANGE),
+    ("bad JSON in a struct", within(b'{"p":{"x":1,"y":2,"z":', pairs, b",}}"), IGNORING, BAD),
+    ("bad JSON in a struct of a struct", within(b'{"q":{"p":{"x":1,"y":2,"z":[', pairs, b'},"n":3}}'), IGNORING, BAD),
     ("a fault in a union's member", lambda size: b'{"u_type":"B","u":{"v":' + tables(size)[:-1] + b",1]}}", (), SHAPE),
 )
 

@@ -1,7 +1,7 @@
 -- What is read of a text within a JSON text.
 -- From the FlatBuffers documentation, "JSON parsing": the JSON is read whole before a schema gives it a meaning.
 use Rattle.std.specs.Prelude.{ℕ, ◌≡◌, List, [], Result, Ok, Err}
-use Rattle.serde_json.specs.Data.{Data, array, Items, no_items, item}
+use Rattle.serde_json.specs.Data.{array, Items, no_items, item}
 use Rattle.fb_layout.specs.Laid.{LaidSchema, StoredKind, StoredShape}
 use Rattle.fb_value.specs.Datum.{Datum}
 use Rattle.fb_tape.specs.Tapes.{Taped}
