@@ -1,6 +1,6 @@
 //! Texts of the members of a table or struct, each at the slot or field that its name finds.
-ghost use Rattle.std.specs.Prelude.{◌≡◌, ◌≤◌, ◌<◌, ◌-◌, ◌||◌, Err, IfOk, IfSome, None, OnOk, if◌then◌else◌, length, map};
-ghost use Rattle.std.specs.Prelude.{option_copied, option_map, replicate};
+ghost use Rattle.std.specs.Prelude.{◌≡◌, ◌≤◌, ◌<◌, ◌-◌, ◌||◌, Err, IfOk, IfSome, None, OnOk, if◌then◌else◌, map};
+ghost use Rattle.std.specs.Prelude.{length, option_copied, option_map, replicate};
 ghost use Rattle.serde_json.specs.Data.{string};
 ghost use Rattle.fb_schema.specs.Found.{field_named};
 ghost use Rattle.fb_schema.specs.Schema.{body_at};
@@ -21,7 +21,8 @@ use fb_pieces::{Cuts, Member, Piece, cut_object};
 use fb_schema::{FieldInfo, TypeId};
 use std::alloc::{AllocError, Global};
 
-/// The texts of a table's members by its slots, or of a struct's by its fields, and the fault of a name that no slot in use has.
+/// The texts of a table's members by its slots, or of a struct's by its fields, and the fault of a name that no slot in
+/// use has.
 #[derive(Drop)]
 pub(crate) struct SlotTexts<'t> {
     pub(crate) texts: Vec<Option<Excerpt<'t>>>,

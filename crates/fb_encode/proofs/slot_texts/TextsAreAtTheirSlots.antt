@@ -206,7 +206,9 @@ module _ (S : DeclaredSchema) (t : ℕ) (declared : IsDeclared S) (fs : List Dec
 
   -- the field of a slot of this name
   this_slot : (k : ℕ) (f : DeclaredField) → slice_get fs k ≡ Some f → f.name ≡ name → o ≡ Some f
-  this_slot k f there same = found ∙ (ap (field_named (body_at S t)) (sym same) ∙ (found_as S t declared k f (in_fields fs (body_at S t) of k f there)).0)
+  this_slot k f there same =
+      found ∙ (ap (field_named (body_at S t)) (sym same)
+      ∙ (found_as S t declared k f (in_fields fs (body_at S t) of k f there)).0)
 
   with_field : (k : ℕ) (f : DeclaredField) → slice_get fs k ≡ Some f → f.name ≡ name
       → f.deprecated ≡ false → texts_with texts o e ≡ set texts k (Some e)

@@ -36,7 +36,8 @@ module _ (L : LaidSchema) (unknown : Bool) (t d : Data) where
         (found now : Result ℕ JsonFault) → IsRunAdded L stored AddsAll (lone d) 1 a b found now
         → IsRunAdded L stored AddsAll (lone t) 1 a b found now
     added_by stored AddsAll a b (Ok left) now added =
-        subst (λ (given : Counted (List Datum)). AreElementsAddedOr L stored AddsAll given 1 a b now) (lone_is left) added
+        subst (λ (given : Counted (List Datum)). AreElementsAddedOr L stored AddsAll given 1 a b now) (lone_is left)
+        added
     added_by stored AddsAll a b (Err f) now added = added
 
 pub run_by_stand_in : (L : LaidSchema) (stored : StoredKind) (AddsAll : Taped → Taped → List Datum → Type 0)

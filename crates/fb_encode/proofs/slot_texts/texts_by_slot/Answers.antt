@@ -39,8 +39,8 @@ loop-member-preserved c =
     let over = rw c.put_text-over.ensures.over at c.in_ok-pass_by_text.ensures in
     rw (c.put_text-over.ensures.texts, c.known_with-known.ensures)
     (next_put S t c.layout_is_well_made.ensures.declared (map field_seen c.args.slots.now) c.requires.slots
-    c.args.source.unknown (c.args.excerpt.brackets - 1) c.loop-member.texts.items c.loop-member.known c.args.excerpt.text.now
-    c.args.members.now c.loop-member.member-index none c.loop-member-test.true c.loop-member.invariant
+    c.args.source.unknown (c.args.excerpt.brackets - 1) c.loop-member.texts.items c.loop-member.known
+    c.args.excerpt.text.now c.args.members.now c.loop-member.member-index none c.loop-member-test.true c.loop-member.invariant
     c.piece_of-name.result c.piece_of-value.result c.piece_of-name.ensures.text c.piece_of-name.ensures.brackets
     c.piece_of-value.ensures.text c.piece_of-value.ensures.brackets c.in_ok-field.ensures.name
     (option_map field_seen (option_copied c.in_ok-field.field)) c.in_ok-field.ensures.field over)

@@ -6,4 +6,5 @@ use Rattle.fb_encode.proofs.slot_texts.texts_by_slot.Given as goal
 
 abbrev pub invariant-loop-member : goal.invariant-loop-member
 invariant-loop-member l = ArePutSoFar l.source.layout.now.schema l.owner.0 (map field_seen l.slots)
-    l.source.unknown (l.excerpt.brackets - 1) l.texts.items l.known (map (member_texts l.excerpt.text.now) (take l.member-index l.members))
+    l.source.unknown (l.excerpt.brackets - 1) l.texts.items l.known
+    (map (member_texts l.excerpt.text.now) (take l.member-index l.members))
