@@ -57,6 +57,8 @@ fn own_fields(
         source.entry.unknown excerpt.entry.brackets excerpt.entry.text.now (One (Struct structure)) (tree_view tree))) }
 {
     let Some(members) = members_of(source.alloc, excerpt, &reader.cuts)? else {
+        // No tree is begun of a text that isn't JSON.
+        reader.pass_by(excerpt)?;
         return Ok(None);
     };
     layout_is_well_made(source.layout);
