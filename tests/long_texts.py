@@ -15,16 +15,17 @@ from harness import ROOT, Tests, content, program_of, write
 sys.path.append(f"{ROOT}/bench")
 from bench import Runner  # noqa: E402
 
-# Types are numbered A 0, P 1, Q 2, B 3, W 4, E 5, T 6, and T's slots from v 0 to q 12.
+# Types are numbered A 0, P 1, Q 2, B 3, W 4, E 5, T 6, and T's slots from v 0 to boxes 13.
 SCHEMA = b"""
 table A { a:int; }
 struct P { x:int; y:int; }
-struct Q { p:P; z:int; }
+struct Q { p:P; n:int; }
 table B { v:[A]; w:W; }
 union W { A, B }
 enum E : byte { Red, Green }
 table T {
   v:[A]; name:string; n:int; p:P; u:W; old:[A] (deprecated); numbers:[int]; points:[P]; names:[string]; e:E; a:A; q:Q;
+  boxes:[Q];
 }
 root_type T;
 """
@@ -42,6 +43,8 @@ IGNORING = ("--unknown-json",)
 BAD = "113 BadJson"
 UNKNOWN = "74 UnknownMember in type 6"
 MISMATCH = "77 UnionMismatch in type 6 slot 5"
+STRANGE = "74 UnknownMember in type 1"
+FIELD = "70 WrongShape in type 1 slot 0"
 
 
 def shape(slot):
@@ -110,6 +113,9 @@ CHECKED = (
     ("an element for a number", b'{"numbers":[1,', b"]}", ()),
     ("an element for a struct", b'{"points":[', b"]}", ()),
     ("an element for a string", b'{"names":[', b"]}", ()),
+    ("an unknown member of a struct", b'{"p":{"x":1,"y":2,"z":', b"}}", ()),
+    ("an ignored member of a struct", b'{"p":{"x":1,"y":2,"z":', b"}}", IGNORING),
+    ("a field of a struct", b'{"p":{"x":', b',"y":2}}', ()),
     ("the root", b"", b"", ()),
 )
 class Row(NamedTuple):
@@ -223,6 +229,71 @@ ROWS = [
         share=NOTHING,
     ),
     Row("an array for a union's member", text(b'{"u_type":"A","u":', pairs, b"}"), shape(5), share=NOTHING),
+    Row("an unknown array in a struct", text(b'{"p":{"x":1,"y":2,"z":', pairs, b"}}"), STRANGE, share=NOTHING),
+    Row(
+        "an unknown array in a struct, ignored",
+        text(b'{"p":{"x":1,"y":2,"z":', pairs, b"}}"),
+        share=NOTHING,
+        flags=IGNORING,
+        same=b'{"p":{"x":1,"y":2}}',
+    ),
+    Row("an unknown object in a struct", text(b'{"p":{"z":', members, b',"x":1,"y":2}}'), STRANGE, share=NOTHING),
+    Row("an unknown string in a struct", text(b'{"p":{"x":1,"y":2,"z":', string, b"}}"), STRANGE, share=NOTHING),
+    Row(
+        "an unknown array in a vector of structs",
+        text(b'{"points":[{"x":1,"y":2,"z":', pairs, b"}]}"),
+        STRANGE,
+        share=NOTHING,
+    ),
+    Row(
+        "an unknown array in a vector of structs, ignored",
+        text(b'{"points":[{"x":1,"y":2},{"x":3,"z":', pairs, b',"y":4},{"x":5,"y":6}]}'),
+        share=NOTHING,
+        flags=IGNORING,
+        same=b'{"points":[{"x":1,"y":2},{"x":3,"y":4},{"x":5,"y":6}]}',
+    ),
+    Row(
+        "an unknown array in a struct of a struct",
+        text(b'{"q":{"p":{"x":1,"y":2,"z":', pairs, b'},"n":3}}'),
+        STRANGE,
+        share=NOTHING,
+    ),
+    Row(
+        "an unknown array in structs of a vector, ignored",
+        text(b'{"boxes":[{"n":3,"p":{"x":1,"z":', pairs, b',"y":2}}]}'),
+        share=NOTHING,
+        flags=IGNORING,
+        same=b'{"boxes":[{"n":3,"p":{"x":1,"y":2}}]}',
+    ),
+    Row("an array for a field of a struct", text(b'{"p":{"x":', pairs, b',"y":2}}'), FIELD, share=NOTHING),
+    Row("a string for a field of a struct", text(b'{"p":{"x":', string, b',"y":2}}'), FIELD, share=NOTHING),
+    Row(
+        "an array for a struct of a struct",
+        text(b'{"q":{"p":', pairs, b',"n":3}}'),
+        "70 WrongShape in type 2 slot 0",
+        share=NOTHING,
+    ),
+    Row(
+        "a field of a struct that comes again",
+        text(b'{"p":{"x":', pairs, b',"x":1,"y":2}}'),
+        share=NOTHING,
+        same=b'{"p":{"x":1,"y":2}}',
+    ),
+    Row(
+        "a struct without a field, and an ignored array",
+        text(b'{"p":{"x":1,"z":', pairs, b"}}"),
+        "75 MissingMember in type 1 slot 1",
+        share=NOTHING,
+        flags=IGNORING,
+    ),
+    Row(
+        "a number that is too large in a struct, and an ignored array",
+        text(b'{"p":{"x":1,"z":', pairs, b',"y":3000000000}}'),
+        "72 OutOfRange in type 1 slot 1",
+        share=NOTHING,
+        flags=IGNORING,
+    ),
+    Row("a comma too many in a struct", text(b'{"p":{"x":1,"y":2,"z":', pairs, b",}}"), BAD, share=NOTHING),
     Row("a fault in a union's member", in_member(repeated(TABLE, b"1")), "70 WrongShape in type 3 slot 0"),
     Row(
         "an unknown array in a union's member",

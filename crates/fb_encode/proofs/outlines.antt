@@ -1,4 +1,2 @@
 pub mod BracketIsOfItsContainer
 pub mod OutlineMeansTheSame
-pub mod SlotIsNotedByItsOutline
-pub mod ValueIsNotedByItsOutline

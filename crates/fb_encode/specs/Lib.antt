@@ -8,3 +8,4 @@ pub mod TextsEncoded
 pub mod MembersRead
 pub mod SlotTexts
 pub mod Outlines
+pub mod StandIns

@@ -1,4 +1,4 @@
--- Long texts in brackets of whose content nothing has a meaning under a schema: an empty array or object is in its place.
+-- Texts in brackets of whose content nothing has a meaning under a schema: an empty array or object is in its place.
 use Rattle.std.specs.Prelude.{◌≡◌, ℕ, List, Bool, true, false, ⊤}
 use Rattle.serde_json.specs.Data.{Data, null, boolean, number, string, array, object, no_items, no_members}
 use Rattle.fb_schema.specs.declared.kinds.Kind.TheVariants.{Struct, Table, Union}

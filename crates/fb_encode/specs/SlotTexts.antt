@@ -1,4 +1,4 @@
--- The texts of a table's members by its slots, and what each slot is noted as.
+-- The texts of a table's members by its slots, or of a struct's by its fields, and what each slot is noted as.
 use Rattle.std.specs.Prelude.{ℕ, ◌≡◌, ◌≤◌, true, false, Bool, List, Option, None, Some, Result, Ok, Err, length, map}
 use Rattle.std.specs.Prelude.{option_map, slice_get, slice_set, if◌then◌else◌}
 use Rattle.std.specs.List.{slice_index_or}

@@ -11,6 +11,7 @@ mod outlines;
 mod parts;
 mod reader;
 mod slot_texts;
+mod stand_ins;
 mod tables;
 mod texts;
 mod trees;

@@ -8,13 +8,14 @@ ghost use Rattle.fb_schema.specs.declared.kinds.Shape.TheVariants.{Many, One};
 ghost use Rattle.fb_json.specs.Meant.{count, items_meant, meant};
 ghost use Rattle.fb_pieces.specs.CutTexts.{run_text};
 ghost use Rattle.fb_build.specs.Fields.{IsElement, is_reference};
-ghost use Rattle.fb_encode.specs.Outlines.{IsOutlined};
+ghost use Rattle.fb_encode.specs.StandIns.{IsStandIn};
 ghost use Rattle.fb_encode.specs.TextsRead.{IsNotedOr, IsReadAs, IsRunAdded, IsRunReadAs};
 ghost use Rattle.fb_encode.specs.TreesNoted.{AddsInline};
 
 use crate::elements::{Elements, push_elements};
 use crate::excerpts::{TextWalk, note_at_once, unless_memory};
 use crate::reader::{Excerpt, MOST_BRACKETS, Reader, Unread, innermost_elements};
+use crate::stand_ins::stand_in;
 use crate::vectors::{Found, elements_of, left_for};
 use fb_json::{JsonFault, Source};
 use fb_pieces::{
@@ -113,8 +114,8 @@ fn push_run(
 {
     text_is_read_without_brackets();
     elements_make_the_array();
-    if let Some(outline) = lone_outline(&mut walk.reader, array, run, elements.kind)? {
-        return push_trees(source, &mut walk.noting.tape, &[outline], elements, found);
+    if let Some(tree) = lone_stand_in(source, &mut walk.reader, array, run, elements.kind)? {
+        return push_trees(source, &mut walk.noting.tape, &[tree], elements, found);
     }
     let text = &array.text[run.elements.start..run.elements.end];
     let brackets = MOST_BRACKETS - array.brackets;
@@ -125,8 +126,9 @@ fn push_run(
     push_trees(source, &mut walk.noting.tape, trees, elements, found)
 }
 
-/// The outline of a run's one element, if it is long and its content has no meaning.
-fn lone_outline(
+/// The tree in the place of a run's one element, if there is one.
+fn lone_stand_in(
+    source: Source,
     reader: &mut Reader,
     array: Excerpt<'_>,
     run: Run,
@@ -135,8 +137,10 @@ fn lone_outline(
     requires forward { run.elements.start ≤ run.elements.end }
     requires inside { run.elements.end ≤ length array.text.now }
     requires some { 0 < array.brackets }
-    ensures { IfOk result (λ found. IfSome found (λ tree. IsOutlined (array.entry.brackets - 1)
-        (run_text array.entry.text.now run) (One kind) (tree_view tree))) }
+    requires brackets { array.brackets ≤ 127 }
+    ensures { let L = source.entry.layout.now in IfOk result (λ found. IfSome found (λ tree. IsStandIn L
+        source.entry.unknown (array.entry.brackets - 1) (run_text array.entry.text.now run) (One kind)
+        (tree_view tree))) }
 {
     if run.count != 1 {
         return Ok(None);
@@ -146,7 +150,7 @@ fn lone_outline(
         brackets: array.brackets - 1,
         at: array.at.saturating_add(run.elements.start),
     };
-    reader.outline(element, Shape::One(kind))
+    stand_in(source, reader, element, Shape::One(kind))
 }
 
 /// Adds elements that are trees to the vector that was begun. Behind a fault they are only counted.

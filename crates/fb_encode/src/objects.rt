@@ -24,40 +24,19 @@ use crate::entries::{SlotRead, note_slot};
 use crate::excerpts::{TextWalk, note_at_once, note_excerpt};
 use crate::outlines::container_of;
 use crate::reader::{Excerpt, MOST_BRACKETS, Unread, innermost};
-use crate::slot_texts::{SlotTexts, pass_by_text, texts_by_slot};
+use crate::slot_texts::{SlotTexts, members_of, pass_by_text, texts_by_slot};
+use crate::stand_ins::stand_in;
 use fb_json::{JsonFault, Place, Source, code_of_slot, is_absent};
 use fb_layout::layout_is_well_made;
-use fb_pieces::{
-    Cuts, Member, cut_object, cut_object_is_read, cut_object_is_utf8, text_is_read_without_brackets,
-};
+use fb_pieces::{cut_object_is_read, cut_object_is_utf8, text_is_read_without_brackets};
 use fb_schema::{Kind, Shape, TypeId};
 use serde_json::Value as Json;
-use std::alloc::{AllocError, Global};
 
 /// What is left behind a slot: the union code that was told last, and the cells.
 #[derive(Clone, Copy)]
 struct Behind {
     code: u8,
     left: u32,
-}
-
-/// The members of an object's text, if it can be cut and has some.
-fn members_of(
-    alloc: Global,
-    excerpt: Excerpt<'_>,
-    cuts: &Cuts,
-) -> Result<Option<Vec<Member>>, AllocError>
-    ensures cut { IfOk result (λ cut. IfSome cut (λ members.
-        IsCutIntoMembers excerpt.entry.text.now members.items)) }
-    ensures some { IfOk result (λ cut. IfSome cut (λ members. 0 < length members.items)) }
-{
-    let Some(members) = cut_object(alloc, excerpt.text, excerpt.at, cuts)? else {
-        return Ok(None);
-    };
-    if members.is_empty() {
-        return Ok(None);
-    }
-    Ok(Some(members))
 }
 
 /// What is left before the first slot of a table.
@@ -194,8 +173,8 @@ fn note_next(
             return note_member(source, walk, slot, union, text, behind, levels);
         }
     }
-    if let Some(outline) = walk.reader.outline(text, slot.field.shape)? {
-        return note_tree(source, walk, slot, Some(&outline), behind, levels);
+    if let Some(tree) = stand_in(source, &mut walk.reader, text, slot.field.shape)? {
+        return note_tree(source, walk, slot, Some(&tree), behind, levels);
     }
     text_is_read_without_brackets();
     let read = walk.reader.read(text)?;

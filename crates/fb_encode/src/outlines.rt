@@ -1,4 +1,4 @@
-//! Long texts in brackets where a schema wants something else: they are checked, and no tree is made of them.
+//! Texts in brackets where a schema wants something else: they are checked, and no tree is made of them.
 ghost use Rattle.std.specs.Prelude.{◌≡◌, ℕ, IfSome, Some};
 ghost use Rattle.serde_json.specs.Data.{Data};
 ghost use Rattle.serde_json.specs.View.{view as tree_view};

@@ -152,8 +152,8 @@ impl Reader {
         }
     }
 
-    /// An empty array or object in the place of a long one whose content has no meaning where a value of this shape is
-    /// wanted. None for another text.
+    /// An empty array or object in the place of one whose content has no meaning where a value of this shape is wanted.
+    /// None for another text.
     pub(crate) fn outline(
         &mut self,
         excerpt: Excerpt<'_>,
@@ -162,9 +162,6 @@ impl Reader {
         ensures { IfOk result (λ found. IfSome found (λ tree.
             IsOutlined excerpt.entry.brackets excerpt.entry.text.now shape (tree_view tree))) }
     {
-        if excerpt.text.len() <= self.most {
-            return Ok(None);
-        }
         match container_of(excerpt.text) {
             Some(container) if !container.has_content(shape) => {
                 self.pass_by(excerpt)?;

@@ -1,12 +1,13 @@
-//! Texts of a table's members, each at the slot that its name finds.
+//! Texts of the members of a table or struct, each at the slot or field that its name finds.
 ghost use Rattle.std.specs.Prelude.{◌≡◌, ◌≤◌, ◌<◌, ◌-◌, ◌||◌, Err, IfOk, IfSome, None, OnOk, if◌then◌else◌, map};
-ghost use Rattle.std.specs.Prelude.{option_copied, option_map, replicate};
+ghost use Rattle.std.specs.Prelude.{length, option_copied, option_map, replicate};
 ghost use Rattle.serde_json.specs.Data.{string};
 ghost use Rattle.fb_schema.specs.Found.{field_named};
-ghost use Rattle.fb_schema.specs.Schema.{body_at, slots_in};
+ghost use Rattle.fb_schema.specs.Schema.{body_at};
 ghost use Rattle.fb_schema.specs.Seen.{field_seen};
 ghost use Rattle.fb_json.specs.declared.faults.JsonFault.TheVariants.{UnknownMember};
 ghost use Rattle.fb_json.specs.Meant.{if_known, is_used, names_known, type_place};
+ghost use Rattle.fb_json.specs.SlotMembers.{AreFieldsOf};
 ghost use Rattle.fb_pieces.specs.CutTexts.{member_texts, piece_text};
 ghost use Rattle.fb_pieces.specs.ReadByPieces.{IsCutIntoMembers};
 ghost use Rattle.fb_encode.specs.MembersRead.{AreNamesRead, AreValuesRead, name_read, object_read};
@@ -16,15 +17,35 @@ ghost use Rattle.fb_encode.specs.TextsRead.{IsRead, IsReadAs};
 use crate::reader::{Excerpt, Reader, Unread};
 use fb_json::{JsonFault, Place, Source};
 use fb_layout::layout_is_well_made;
-use fb_pieces::{Member, Piece};
+use fb_pieces::{Cuts, Member, Piece, cut_object};
 use fb_schema::{FieldInfo, TypeId};
 use std::alloc::{AllocError, Global};
 
-/// The texts of a table's members by its slots, and the fault of a name that no slot in use has.
+/// The texts of a table's members by its slots, or of a struct's by its fields, and the fault of a name that no slot in
+/// use has.
 #[derive(Drop)]
 pub(crate) struct SlotTexts<'t> {
     pub(crate) texts: Vec<Option<Excerpt<'t>>>,
     pub(crate) known: Result<(), JsonFault>,
+}
+
+/// The members of an object's text, if it can be cut and has some.
+pub(crate) fn members_of(
+    alloc: Global,
+    excerpt: Excerpt<'_>,
+    cuts: &Cuts,
+) -> Result<Option<Vec<Member>>, AllocError>
+    ensures cut { IfOk result (λ cut. IfSome cut (λ members.
+        IsCutIntoMembers excerpt.entry.text.now members.items)) }
+    ensures some { IfOk result (λ cut. IfSome cut (λ members. 0 < length members.items)) }
+{
+    let Some(members) = cut_object(alloc, excerpt.text, excerpt.at, cuts)? else {
+        return Ok(None);
+    };
+    if members.is_empty() {
+        return Ok(None);
+    }
+    Ok(Some(members))
 }
 
 /// No texts for so many slots.
@@ -45,7 +66,7 @@ pub(crate) fn texts_by_slot<'t>(
     members: &[Member],
 ) -> Result<SlotTexts<'t>, Unread>
     requires cut { IsCutIntoMembers excerpt.text.now members.now }
-    requires slots { map field_seen slots.now ≡ slots_in (body_at source.layout.now.schema owner.0) }
+    requires slots { AreFieldsOf (map field_seen slots.now) (body_at source.layout.now.schema owner.0) }
     requires some { 0 < excerpt.brackets }
     requires brackets { excerpt.brackets ≤ 127 }
     ensures names { OnOk result (AreNamesRead (excerpt.entry.brackets - 1)

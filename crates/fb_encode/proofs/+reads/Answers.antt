@@ -9,7 +9,7 @@ use Rattle.fb_encode.proofs.+reads.Answers.SlotIsNoted.{reference_adds_itself, r
 use Rattle.fb_encode.proofs.+reads.Answers.SlotIsNoted.{absent_adds_nothing, slot_without_text_noted}
 use Rattle.fb_encode.proofs.+reads.Answers.SlotIsNoted.{bracketed_has_a_part, bracketed_noted, text_read, text_noted}
 use Rattle.fb_encode.proofs.+reads.Answers.SlotIsNoted.{code_is_before_its_union, member_adds_itself}
-use Rattle.fb_encode.proofs.+reads.Answers.SlotIsNoted.{member_fault_found, member_unknown, outline_noted, union_noted}
+use Rattle.fb_encode.proofs.+reads.Answers.SlotIsNoted.{member_fault_found, member_unknown, stand_in_noted, union_noted}
 use Rattle.fb_encode.proofs.+reads.Answers.LongTableIsNoted.{slot_has_a_text, first_within, first_kept}
 use Rattle.fb_encode.proofs.+reads.Answers.LongTableIsNoted.{fields_are_closed}
 use Rattle.fb_encode.proofs.+reads.Goals as goal
@@ -113,4 +113,4 @@ pub objects::note_next-returns-then-is_bracketed-2-clause-noted :
 objects::note_next-returns-then-is_bracketed-2-clause-noted = union_noted
 
 pub objects::note_next-returns-in-Some-2-clause-noted : goal.objects::note_next-returns-in-Some-2-clause-noted
-objects::note_next-returns-in-Some-2-clause-noted = outline_noted
+objects::note_next-returns-in-Some-2-clause-noted = stand_in_noted

@@ -18,7 +18,7 @@ use Rattle.fb_encode.specs.TextsRead.{IsRead}
 use Rattle.fb_encode.proofs.objects.SlotsAreFound.{brackets_in}
 
 -- a member, and what it gives
-abbrev with_meaning : LaidSchema → Bool → Data → Data × Meaner
+abbrev pub with_meaning : LaidSchema → Bool → Data → Data × Meaner
 with_meaning L unknown d = (d, meant L unknown d)
 
 picked : (L : LaidSchema) (unknown : Bool) (o : Ordering) (d : Data) (rest : Option Data)
@@ -29,7 +29,7 @@ picked L unknown Less d rest more h = h
 picked L unknown Equal d rest more h = refl
 picked L unknown Greater d rest more h = h
 
-looked : (L : LaidSchema) (unknown : Bool) (ms : Members) (k : Name)
+pub looked : (L : LaidSchema) (unknown : Bool) (ms : Members) (k : Name)
     → look L unknown ms k ≡ option_map (with_meaning L unknown) (get_member k ms)
 looked L unknown no_members k = refl
 looked L unknown (member l d ms) k = picked L unknown (slice_cmp nat_cmp k l) d (get_member k ms) (look L unknown ms k)
@@ -89,15 +89,19 @@ module _ (texts : List (Option Excerpt)) (k : ℕ) (o : Option Excerpt) (within 
         let both : Some o ≡ Some None = sym there ∙ are.old k f slot old in
         cc
 
-    found_of : (L : LaidSchema) (unknown : Bool) (f : DeclaredField) → slice_get fs k ≡ Some f
-        → f.deprecated ≡ false → look L unknown (object_read brackets ms) f.name ≡ text_found L unknown o
-    found_of L unknown f slot used =
+    pub member_of : (f : DeclaredField) → slice_get fs k ≡ Some f → f.deprecated ≡ false
+        → get_member f.name (object_read brackets ms) ≡ option_map excerpt_tree o
+    member_of f slot used =
         let both : Some (option_map excerpt_tree o) ≡ Some (get_member f.name (object_read brackets ms)) =
         sym (slice_get-map (option_map excerpt_tree) texts k ∙ ap (option_map (option_map excerpt_tree)) there)
         ∙ are.each k f slot used in
-        let same : get_member f.name (object_read brackets ms) ≡ option_map excerpt_tree o = cc in
+        cc
+
+    found_of : (L : LaidSchema) (unknown : Bool) (f : DeclaredField) → slice_get fs k ≡ Some f
+        → f.deprecated ≡ false → look L unknown (object_read brackets ms) f.name ≡ text_found L unknown o
+    found_of L unknown f slot used =
         looked L unknown (object_read brackets ms) f.name
-        ∙ (ap (option_map (with_meaning L unknown)) same ∙ meaning_of L unknown o)
+        ∙ (ap (option_map (with_meaning L unknown)) (member_of f slot used) ∙ meaning_of L unknown o)
 
     pub own_text : (L : LaidSchema) (unknown : Bool) (f : DeclaredField) → slice_get fs k ≡ Some f
         → IsOwnText L unknown brackets (object_read brackets ms) f o

@@ -10,6 +10,7 @@ use Rattle.fb_schema.specs.WellDeclared.{IsDeclared}
 use Rattle.fb_json.specs.declared.faults.JsonFault.{JsonFault}
 use Rattle.fb_json.specs.declared.faults.JsonFault.TheVariants.{UnknownMember}
 use Rattle.fb_json.specs.Meant.{is_used, type_place}
+use Rattle.fb_json.specs.SlotMembers.{AreFieldsOf}
 use Rattle.fb_pieces.specs.declared.cut.Member.{Member}
 use Rattle.fb_pieces.specs.CutTexts.{member_texts, piece_text}
 use Rattle.fb_encode.specs.declared.reader.Excerpt.{Excerpt}
@@ -28,10 +29,11 @@ members_more text members i d within =
     sym (ap (map (member_texts text)) (take_more members i d within)
     ∙ map-append (member_texts text) (take i members) (get_or members i d ∷ []))
 
-module _ (S : DeclaredSchema) (t : ℕ) (declared : IsDeclared S) (unknown : Bool) (brackets : ℕ)
+module _ (S : DeclaredSchema) (t : ℕ) (declared : IsDeclared S) (fs : List DeclaredField)
+    (of : AreFieldsOf fs (body_at S t)) (unknown : Bool) (brackets : ℕ)
     (texts : List (Option Excerpt)) (known : Result (Unit {0}) JsonFault) (text : List ℕ) (members : List Member)
     (i : ℕ) (d : Member) (within : i < length members)
-    (so_far : ArePutSoFar S t unknown brackets texts known (texts_before text members i)) (name value : Excerpt)
+    (so_far : ArePutSoFar S t fs unknown brackets texts known (texts_before text members i)) (name value : Excerpt)
     (name_is : name.text.now ≡ piece_text text (get_or members i d).name) (name_in : name.brackets ≡ brackets)
     (value_is : value.text.now ≡ piece_text text (get_or members i d).value) (value_in : value.brackets ≡ brackets)
     (named : IsReadAs name.brackets name.text.now (string (name_read name.brackets name.text.now)))
@@ -48,13 +50,13 @@ module _ (S : DeclaredSchema) (t : ℕ) (declared : IsDeclared S) (unknown : Boo
 
   pub next_in_brackets : IfSome (text_over texts o value) (λ x. x.brackets ≡ brackets)
   next_in_brackets =
-      over_in_brackets S t declared unknown brackets texts known (texts_before text members i) so_far
+      over_in_brackets S t declared fs of unknown brackets texts known (texts_before text members i) so_far
       (member_texts text (get_or members i d)) value value_is value_in named_here o found_here
 
   pub next_put : IfSome (text_over texts o value) (λ x. IsRead x.brackets x.text.now)
-      → ArePutSoFar S t unknown brackets (texts_with texts o value)
+      → ArePutSoFar S t fs unknown brackets (texts_with texts o value)
       (if unknown || is_used o then known else Err (UnknownMember (type_place t))) (texts_before text members (i + 1))
   next_put over =
       rw (← (members_more text members i d within))
-      (one_more S t declared unknown brackets texts known (texts_before text members i) so_far
+      (one_more S t declared fs of unknown brackets texts known (texts_before text members i) so_far
       (member_texts text (get_or members i d)) value value_is value_in named_here o found_here over)

@@ -39,7 +39,7 @@ and_twice : (a b : Bool) → (a && b) ≡ (a && (a && b))
 and_twice true b = refl
 and_twice false b = refl
 
-known_put : (body : DeclaredBody) (n : List ℕ) (d : Data) (ms : Members)
+pub known_put : (body : DeclaredBody) (n : List ℕ) (d : Data) (ms : Members)
     → names_known body (put n d ms) ≡ (is_used (field_named body n) && names_known body ms)
 unfolding names_known
 known_put body n d no_members = refl

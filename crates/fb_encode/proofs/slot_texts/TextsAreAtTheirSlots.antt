@@ -13,24 +13,25 @@ use Rattle.std.proofs.lemmas.Slice.Eq.{bytes_eq-Decides}
 use Rattle.serde_json.specs.Data.{put, string}
 use Rattle.serde_json.specs.Find.{get_member}
 use Rattle.serde_json.proofs.Views.{get_member-put, get_member-put_other}
-use Rattle.fb_schema.specs.Schema.{DeclaredField, DeclaredSchema, body_at, slots_in}
+use Rattle.fb_schema.specs.Schema.{DeclaredField, DeclaredSchema, body_at}
 use Rattle.fb_schema.specs.Found.{field_named}
 use Rattle.fb_schema.specs.WellDeclared.{IsDeclared}
 use Rattle.fb_json.specs.declared.faults.JsonFault.{JsonFault}
 use Rattle.fb_json.specs.declared.faults.JsonFault.TheVariants.{UnknownMember}
 use Rattle.fb_json.specs.Meant.{if_known, is_used, names_known, type_place}
+use Rattle.fb_json.specs.SlotMembers.{AreFieldsOf}
 use Rattle.fb_encode.specs.declared.reader.Excerpt.{Excerpt}
 use Rattle.fb_encode.specs.MembersRead.{AreNamesRead, AreValuesRead, name_read, object_read, tree_read}
 use Rattle.fb_encode.specs.SlotTexts.{AreTextsOf, AreTextsRead, excerpt_tree, text_over, texts_with}
 use Rattle.fb_encode.specs.TextsRead.{IsRead, IsReadAs}
-use Rattle.fb_encode.proofs.slot_texts.NamedSlotIsFound.{found_as, named_at}
+use Rattle.fb_encode.proofs.slot_texts.NamedSlotIsFound.{found_as, in_fields, named_at}
 use Rattle.fb_encode.proofs.slot_texts.OneMemberMore.{known_more, object_more}
 
 -- the same of the members before a place
-pub record ArePutSoFar (S : DeclaredSchema) (t : ℕ) (unknown : Bool) (brackets : ℕ) (texts : List (Option Excerpt))
-    (known : Result (Unit {0}) JsonFault) (ms : List (List ℕ × List ℕ)) : Type 0 where
+pub record ArePutSoFar (S : DeclaredSchema) (t : ℕ) (fs : List DeclaredField) (unknown : Bool) (brackets : ℕ)
+    (texts : List (Option Excerpt)) (known : Result (Unit {0}) JsonFault) (ms : List (List ℕ × List ℕ)) : Type 0 where
   pub names : AreNamesRead brackets ms
-  pub texts_are : AreTextsOf brackets texts (slots_in (body_at S t)) ms
+  pub texts_are : AreTextsOf brackets texts fs ms
   pub values : AreTextsRead texts → AreValuesRead brackets ms
   pub known_is : known ≡ if_known (unknown || names_known (body_at S t) (object_read brackets ms)) (type_place t)
 
@@ -43,19 +44,19 @@ none_at n k x within =
     slice_get-get_or (replicate n x) k x (omega (arith, length-replicate n x, within))
     ∙ ap Some (get_or-replicate n k x x within)
 
-pub none_put : (S : DeclaredSchema) (t : ℕ) (unknown : Bool) (brackets n : ℕ) → n ≡ length (slots_in (body_at S t))
-    → ArePutSoFar S t unknown brackets (replicate n None) (if_known true (type_place t)) []
+pub none_put : (S : DeclaredSchema) (t : ℕ) (fs : List DeclaredField) (unknown : Bool) (brackets n : ℕ)
+    → n ≡ length fs → ArePutSoFar S t fs unknown brackets (replicate n None) (if_known true (type_place t)) []
 unfolding names_known
-none_put S t unknown brackets n long = record {
+none_put S t fs unknown brackets n long = record {
   names = All-nil (λ m. IsReadAs brackets m.0 (string (name_read brackets m.0)));
   texts_are = record {
     all = length-replicate n None ∙ long;
     each = λ k f there used.
-        let within : k < n = omega (arith, slice_get_within (slots_in (body_at S t)) k f there, long) in
+        let within : k < n = omega (arith, slice_get_within fs k f there, long) in
         slice_get-map (option_map excerpt_tree) (replicate n None) k
         ∙ ap (option_map (option_map excerpt_tree)) (none_at n k None within);
     old = λ k f there unused.
-        none_at n k None (omega (arith, slice_get_within (slots_in (body_at S t)) k f there, long));
+        none_at n k None (omega (arith, slice_get_within fs k f there, long));
     brackets_are = λ k e there.
         let inside = slice_get_within (replicate n None) k (Some e) there in
         let within : k < n = omega (arith, inside, length-replicate {A = Option Excerpt} n None) in
@@ -183,9 +184,10 @@ module _ (texts : List (Option Excerpt)) (e : Excerpt) where
 
 -- ---- one member more
 
-module _ (S : DeclaredSchema) (t : ℕ) (declared : IsDeclared S) (unknown : Bool) (brackets : ℕ)
+module _ (S : DeclaredSchema) (t : ℕ) (declared : IsDeclared S) (fs : List DeclaredField)
+    (of : AreFieldsOf fs (body_at S t)) (unknown : Bool) (brackets : ℕ)
     (texts : List (Option Excerpt)) (known : Result (Unit {0}) JsonFault) (ms : List (List ℕ × List ℕ))
-    (so_far : ArePutSoFar S t unknown brackets texts known ms) (m : List ℕ × List ℕ) (e : Excerpt)
+    (so_far : ArePutSoFar S t fs unknown brackets texts known ms) (m : List ℕ × List ℕ) (e : Excerpt)
     (text_is : e.text.now ≡ m.1) (brackets_is : e.brackets ≡ brackets)
     (named : IsReadAs brackets m.0 (string (name_read brackets m.0))) (o : Option DeclaredField)
     (found : o ≡ field_named (body_at S t) (name_read brackets m.0)) where
@@ -196,24 +198,27 @@ module _ (S : DeclaredSchema) (t : ℕ) (declared : IsDeclared S) (unknown : Boo
   tree_here = ap (λ b. tree_read b e.text.now) brackets_is ∙ ap (tree_read brackets) text_is
 
   -- a slot of another name is as it was
-  other_slot : (k : ℕ) (f : DeclaredField) → slice_get (slots_in (body_at S t)) k ≡ Some f → f.name ≢ name
+  other_slot : (k : ℕ) (f : DeclaredField) → slice_get fs k ≡ Some f → f.name ≢ name
       → slice_get (texts_with texts o e) k ≡ slice_get texts k
   other_slot k f there apart =
-      untouched texts e o k (λ g is used at. apart (named_at S t declared name g f k (sym found ∙ is) there at))
+      untouched texts e o k (λ g is used at. apart (named_at S t declared name g f k (sym found ∙ is)
+      (in_fields fs (body_at S t) of k f there) at))
 
   -- the field of a slot of this name
-  this_slot : (k : ℕ) (f : DeclaredField) → slice_get (slots_in (body_at S t)) k ≡ Some f → f.name ≡ name → o ≡ Some f
-  this_slot k f there same = found ∙ (ap (field_named (body_at S t)) (sym same) ∙ (found_as S t declared k f there).0)
+  this_slot : (k : ℕ) (f : DeclaredField) → slice_get fs k ≡ Some f → f.name ≡ name → o ≡ Some f
+  this_slot k f there same =
+      found ∙ (ap (field_named (body_at S t)) (sym same)
+      ∙ (found_as S t declared k f (in_fields fs (body_at S t) of k f there)).0)
 
-  with_field : (k : ℕ) (f : DeclaredField) → slice_get (slots_in (body_at S t)) k ≡ Some f → f.name ≡ name
+  with_field : (k : ℕ) (f : DeclaredField) → slice_get fs k ≡ Some f → f.name ≡ name
       → f.deprecated ≡ false → texts_with texts o e ≡ set texts k (Some e)
   with_field k f there same used =
-      let at = (found_as S t declared k f there).1 in
+      let at = (found_as S t declared k f (in_fields fs (body_at S t) of k f there)).1 in
       ap (λ (x : Option DeclaredField). texts_with texts x e) (this_slot k f there same)
       ∙ (ap (λ (b : Bool). if b then texts else set texts f.slot (Some e)) used
       ∙ ap (λ (n : ℕ). set texts n (Some e)) at)
 
-  each_more : (k : ℕ) (f : DeclaredField) → slice_get (slots_in (body_at S t)) k ≡ Some f → f.deprecated ≡ false
+  each_more : (k : ℕ) (f : DeclaredField) → slice_get fs k ≡ Some f → f.deprecated ≡ false
       → slice_get (map (option_map excerpt_tree) (texts_with texts o e)) k
       ≡ Some (get_member f.name (object_read brackets (ms ++ m ∷ [])))
   each_more k f there used =
@@ -226,7 +231,7 @@ module _ (S : DeclaredSchema) (t : ℕ) (declared : IsDeclared S) (unknown : Boo
       by true is =
           let same : f.name ≡ name = (bytes_eq-Decides f.name name).0 is in
           let within : k < length texts =
-          omega (arith, slice_get_within (slots_in (body_at S t)) k f there, so_far.texts_are.all) in
+          omega (arith, slice_get_within fs k f there, so_far.texts_are.all) in
           let here : slice_get (texts_with texts o e) k ≡ Some (Some e) =
           ap (λ xs. slice_get xs k) (with_field k f there same used) ∙ put_here texts k (Some e) within in
           ap (option_map (option_map excerpt_tree)) here
@@ -240,7 +245,7 @@ module _ (S : DeclaredSchema) (t : ℕ) (declared : IsDeclared S) (unknown : Boo
           ∙ (sym (slice_get-map (option_map excerpt_tree) texts k) ∙ (so_far.texts_are.each k f there used
           ∙ ap Some (sym (get_member-put_other f.name name (tree_read brackets m.1) (object_read brackets ms) apart))))
 
-  old_more : (k : ℕ) (f : DeclaredField) → slice_get (slots_in (body_at S t)) k ≡ Some f → f.deprecated ≡ true
+  old_more : (k : ℕ) (f : DeclaredField) → slice_get fs k ≡ Some f → f.deprecated ≡ true
       → slice_get (texts_with texts o e) k ≡ Some None
   old_more k f there unused = by (bytes_eq f.name name) refl
     where
@@ -267,7 +272,7 @@ module _ (S : DeclaredSchema) (t : ℕ) (declared : IsDeclared S) (unknown : Boo
   over_in_brackets = of_text_over texts e (λ x. x.brackets ≡ brackets) o brackets_is so_far.texts_are.brackets_are
 
   pub one_more : IfSome (text_over texts o e) (λ x. IsRead x.brackets x.text.now)
-      → ArePutSoFar S t unknown brackets (texts_with texts o e)
+      → ArePutSoFar S t fs unknown brackets (texts_with texts o e)
       (if unknown || is_used o then known else Err (UnknownMember (type_place t))) (ms ++ m ∷ [])
   one_more over = record {
     names = All-append (λ m. IsReadAs brackets m.0 (string (name_read brackets m.0))) ms (m ∷ []) so_far.names

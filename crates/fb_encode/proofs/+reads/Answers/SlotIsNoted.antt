@@ -13,9 +13,8 @@ use Rattle.fb_build.proofs.fields.CodeIsBeforeItsUnion.{slots_paired}
 use Rattle.fb_encode.proofs.entries.PresentEntryIsNoted.{part_of}
 use Rattle.fb_encode.proofs.objects.NextSlotIsNoted.{absent_next, old_next, on_ok, reference_fails, reference_next}
 use Rattle.fb_encode.proofs.objects.NextSlotIsNoted.{member_fails, member_next, mismatch_fails, used_by}
-use Rattle.fb_encode.proofs.outlines.SlotIsNotedByItsOutline.{noted_by_outline}
+use Rattle.fb_encode.proofs.stand_ins.SlotIsNotedByItsStandIn.{noted_by_stand_in}
 use Rattle.fb_encode.proofs.excerpts.NotedOrRefused.{if_ok_then}
-use Rattle.fb_encode.specs.Outlines.{outline}
 use Rattle.fb_encode.proofs.slot_texts.PiecesAreRead.{inner_is_read, tree_is}
 use Rattle.fb_encode.proofs.objects.SlotsAreFound.{brackets_in}
 use Rattle.fb_encode.proofs.+reads.Goals.{objects::note_next-then-slot-via-then-slot}
@@ -196,20 +195,21 @@ union_noted t c seen found =
     let used = used_by c.args.slot.field.now.deprecated c.args.text c.in-Some.text c.requires.old c.in-Some.is in
     rw c.in-Ok.is (c.note_member.ensures.noted seen (rw c.in-Some.is at (found used)))
 
--- ---- a long text of whose content nothing has a meaning
+-- ---- a text with a tree in its place
 
-pub outline_noted : goal.objects::note_next-returns-in-Some-2-clause-noted
-outline_noted t c seen found =
+pub stand_in_noted : goal.objects::note_next-returns-in-Some-2-clause-noted
+stand_in_noted t c seen found =
     let L = c.args.source.layout.now in
     let unknown = c.args.source.unknown in
     let slot = c.args.slot in
     let text = c.in-Some.text in
-    let o = rw c.in-Some-2.is at c.in_ok-outline.ensures in
+    let o = rw c.in-Some-2.is at c.in_ok-tree.ensures in
     let used = used_by slot.field.now.deprecated c.args.text text c.requires.old c.in-Some.is in
     let here = rw c.in-Some.is at (found used) in
     let is = tree_is text.brackets text.text.now o.tree o.read in
-    let bare : Look = λ name. Some (outline o.tree, meant L unknown (outline o.tree)) in
-    let noted = c.note_tree-in-Some-2.ensures.noted bare (ap (λ d. Some (d, meant L unknown d)) (sym o.same)) in
-    rw c.in-Ok.is (if_ok_then c.note_tree-in-Some-2.result _ _ (noted_by_outline L unknown seen bare slot o.tree
-    (here ∙ ap (λ d. Some (d, meant L unknown d)) is) refl o.meaningless (c.args.levels - 1) c.in-Ok.behind
+    let d = tree_view c.in-Some-2.tree in
+    let bare : Look = λ name. Some (d, meant L unknown d) in
+    let noted = c.note_tree-in-Some-2.ensures.noted bare refl in
+    rw c.in-Ok.is (if_ok_then c.note_tree-in-Some-2.result _ _ (noted_by_stand_in L unknown seen bare slot o.tree d
+    (here ∙ ap (λ d. Some (d, meant L unknown d)) is) refl o.alike (c.args.levels - 1) c.in-Ok.behind
     c.args.walk.now.noting c.note_tree-in-Some-2.new.walk.noting) noted)

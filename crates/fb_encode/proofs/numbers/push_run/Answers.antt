@@ -5,7 +5,7 @@ use Rattle.fb_layout.specs.Laid.{stored_kind}
 use Rattle.fb_json.proofs.slots.OneSlotOrFieldMore.{counted}
 use Rattle.fb_pieces.specs.CutTexts.{run_text}
 use Rattle.fb_encode.proofs.excerpts.NotedOrRefused.{if_ok_both}
-use Rattle.fb_encode.proofs.outlines.ValueIsNotedByItsOutline.{run_by_outline}
+use Rattle.fb_encode.proofs.stand_ins.ValueIsNotedByItsStandIn.{run_by_stand_in}
 use Rattle.fb_encode.proofs.vectors.RunsAreRead.{run_of_element, run_of_trees}
 use Rattle.fb_encode.specs.TreesNoted.{AddsInline}
 use Rattle.fb_encode.proofs.numbers.push_run.Goals as goal
@@ -34,14 +34,14 @@ returns-in-Some-clause-added c =
     let elements = c.args.elements in
     let kind = stored_kind L.schema elements.kind in
     let array = c.args.array in
-    let o = rw c.in-Some.is at c.in_ok-outline.ensures in
+    let o = rw c.in-Some.is at c.in_ok-tree.ensures in
     let is = run_of_element c.elements_make_the_array.ensures array.brackets (run_text array.text.now c.args.run)
     o.tree c.requires.some o.read in
     if_ok_both c.push_trees.result _ _ _ (λ now added more. (
       item o.tree no_items,
       is,
       more,
-      run_by_outline L kind (AddsInline L kind) c.args.source.unknown elements.kind elements.place elements.levels o.tree
-          (tree_view c.in-Some.outline) o.same o.meaningless c.args.walk.now.noting.tape c.push_trees.new.tape
-          c.args.found.left now.left added,
+      run_by_stand_in L kind (AddsInline L kind) c.args.source.unknown elements.kind elements.place elements.levels
+          o.tree (tree_view c.in-Some.tree) o.alike c.args.walk.now.noting.tape c.push_trees.new.tape c.args.found.left
+          now.left added,
     )) c.push_trees.ensures.added c.push_trees.ensures.counted

@@ -1,8 +1,7 @@
-use Rattle.std.proofs.Common.{◌≡◌, ◌≤◌, ◌∙◌, ◌+◌, ◌-◌, ℕ, ap, sym, arith, length, false, Option}
+use Rattle.std.proofs.Common.{◌≡◌, ◌≤◌, ◌+◌, ◌-◌, ℕ, sym, arith, length, map, false, Option}
 use Rattle.std.proofs.Common.{IfSome, None, Some}
 use Rattle.std.proofs.Common.{option_copied, option_map}
 use Rattle.std.proofs.lemmas.List.{length-map, take_all}
-use Rattle.fb_schema.specs.Schema.{body_at, slots_in}
 use Rattle.fb_schema.specs.Seen.{field_seen}
 use Rattle.fb_pieces.specs.declared.cut.Member.{Member}
 use Rattle.fb_encode.specs.declared.reader.Excerpt.{Excerpt}
@@ -16,11 +15,8 @@ none = record { name = record { start = 0; end = 0 }; value = record { start = 0
 
 pub loop-member-init : goal.loop-member-init
 loop-member-init c =
-    let S = c.args.source.layout.now.schema in
-    let t = c.args.owner.0 in
-    let long : length c.args.slots.now ≡ length (slots_in (body_at S t)) =
-    sym (length-map c.args.slots.now field_seen) ∙ ap length c.requires.slots in
-    rw c.in_ok-texts.ensures (none_put S t c.args.source.unknown _ (length c.args.slots.now) long)
+    rw c.in_ok-texts.ensures (none_put c.args.source.layout.now.schema c.args.owner.0 (map field_seen c.args.slots.now)
+    c.args.source.unknown _ (length c.args.slots.now) (sym (length-map c.args.slots.now field_seen)))
 
 pub piece_of-name-requires-clause-within : goal.piece_of-name-requires-clause-within
 piece_of-name-requires-clause-within c =
@@ -42,9 +38,9 @@ loop-member-preserved c =
     let t = c.args.owner.0 in
     let over = rw c.put_text-over.ensures.over at c.in_ok-pass_by_text.ensures in
     rw (c.put_text-over.ensures.texts, c.known_with-known.ensures)
-    (next_put S t c.layout_is_well_made.ensures.declared c.args.source.unknown
-    (c.args.excerpt.brackets - 1) c.loop-member.texts.items c.loop-member.known c.args.excerpt.text.now
-    c.args.members.now c.loop-member.member-index none c.loop-member-test.true c.loop-member.invariant
+    (next_put S t c.layout_is_well_made.ensures.declared (map field_seen c.args.slots.now) c.requires.slots
+    c.args.source.unknown (c.args.excerpt.brackets - 1) c.loop-member.texts.items c.loop-member.known
+    c.args.excerpt.text.now c.args.members.now c.loop-member.member-index none c.loop-member-test.true c.loop-member.invariant
     c.piece_of-name.result c.piece_of-value.result c.piece_of-name.ensures.text c.piece_of-name.ensures.brackets
     c.piece_of-value.ensures.text c.piece_of-value.ensures.brackets c.in_ok-field.ensures.name
     (option_map field_seen (option_copied c.in_ok-field.field)) c.in_ok-field.ensures.field over)
@@ -62,7 +58,7 @@ returns-clause-values c read =
 pub returns-clause-texts : goal.returns-clause-texts
 returns-clause-texts c =
     let all = take_all c.loop-member.member-index c.args.members.now (omega (arith, c.loop-member-test.false)) in
-    rw (← all, c.requires.slots) c.loop-member.invariant.texts_are
+    rw (← all) c.loop-member.invariant.texts_are
 
 pub returns-clause-known : goal.returns-clause-known
 returns-clause-known c =

@@ -1,5 +1,5 @@
--- A value, or an element, whose content has no meaning is noted, or refused, as its outline is.
-use Rattle.std.proofs.Common.{◌≡◌, ◌∙◌, ◌∷◌, ℕ, Bool, false, List, Result, Ok, Err, ap, subst, sym}
+-- A value, or an element, is noted, or refused, as one in its place that means the same.
+use Rattle.std.proofs.Common.{◌≡◌, ◌∷◌, ℕ, Bool, List, Result, Ok, Err, ap, subst, sym}
 use Rattle.serde_json.specs.Data.{Data, item, no_items}
 use Rattle.fb_schema.specs.declared.kinds.Kind.{Kind}
 use Rattle.fb_schema.specs.declared.kinds.Shape.{Shape}
@@ -11,21 +11,18 @@ use Rattle.fb_json.specs.declared.faults.JsonFault.{JsonFault}
 use Rattle.fb_json.specs.declared.faults.Place.{Place}
 use Rattle.fb_json.specs.Meant.{items_meant, meant}
 use Rattle.fb_json.specs.Outcome.{◌>>=◌, Counted}
-use Rattle.fb_encode.specs.Outlines.{has_content, outline}
+use Rattle.fb_encode.specs.StandIns.{AreAlike}
 use Rattle.fb_encode.specs.TextsRead.{AreElementsAddedOr, IsNotedOr, IsRunAdded}
-use Rattle.fb_encode.proofs.outlines.OutlineMeansTheSame.{same_meaning}
 
-module _ (L : LaidSchema) (unknown : Bool) (t d : Data) (is : d ≡ outline t) where
-  pub noted_by_outline : (stored : StoredShape) (shape : Shape) (at : Place) (levels left : ℕ) (a b : Taped)
-      (r : Result ℕ JsonFault) → has_content shape t ≡ false
+module _ (L : LaidSchema) (unknown : Bool) (t d : Data) where
+  pub noted_by_stand_in : (stored : StoredShape) (shape : Shape) (at : Place) (levels left : ℕ) (a b : Taped)
+      (r : Result ℕ JsonFault) → AreAlike L unknown shape t d
       → IsNotedOr L stored (meant L unknown d shape at levels left) a b r
       → IsNotedOr L stored (meant L unknown t shape at levels left) a b r
-  noted_by_outline stored shape at levels left a b r none =
-      subst (λ (given : Counted Datum). IsNotedOr L stored given a b r)
-      (ap (λ (e : Data). meant L unknown e shape at levels left) is
-      ∙ sym (same_meaning L unknown at levels left t shape none))
+  noted_by_stand_in stored shape at levels left a b r alike =
+      subst (λ (given : Counted Datum). IsNotedOr L stored given a b r) (sym (alike.value at levels left))
 
-  module _ (kind : Kind) (at : Place) (levels : ℕ) (none : has_content (One kind) t ≡ false) where
+  module _ (kind : Kind) (at : Place) (levels : ℕ) (alike : AreAlike L unknown (One kind) t d) where
     abbrev lone : Data → ℕ → Counted (List Datum)
     lone e rest = items_meant L unknown (item e no_items) kind at levels rest
 
@@ -33,20 +30,20 @@ module _ (L : LaidSchema) (unknown : Bool) (t d : Data) (is : d ≡ outline t) w
     lone_is rest =
         ap (λ (r : Counted Datum). r >>= λ x.
         items_meant L unknown no_items kind at levels x.1 >>= λ xs. Ok (x.0 ∷ xs.0, xs.1))
-        (ap (λ (e : Data). meant L unknown e (One kind) at levels rest) is
-        ∙ sym (same_meaning L unknown at levels rest t (One kind) none))
+        (sym (alike.value at levels rest))
 
     added_by : (stored : StoredKind) (AddsAll : Taped → Taped → List Datum → Type 0) (a b : Taped)
         (found now : Result ℕ JsonFault) → IsRunAdded L stored AddsAll (lone d) 1 a b found now
         → IsRunAdded L stored AddsAll (lone t) 1 a b found now
     added_by stored AddsAll a b (Ok left) now added =
-        subst (λ (given : Counted (List Datum)). AreElementsAddedOr L stored AddsAll given 1 a b now) (lone_is left) added
+        subst (λ (given : Counted (List Datum)). AreElementsAddedOr L stored AddsAll given 1 a b now) (lone_is left)
+        added
     added_by stored AddsAll a b (Err f) now added = added
 
-pub run_by_outline : (L : LaidSchema) (stored : StoredKind) (AddsAll : Taped → Taped → List Datum → Type 0)
-    (unknown : Bool) (kind : Kind) (at : Place) (levels : ℕ) (t d : Data) → d ≡ outline t
-    → has_content (One kind) t ≡ false → (a b : Taped) (found now : Result ℕ JsonFault)
+pub run_by_stand_in : (L : LaidSchema) (stored : StoredKind) (AddsAll : Taped → Taped → List Datum → Type 0)
+    (unknown : Bool) (kind : Kind) (at : Place) (levels : ℕ) (t d : Data) → AreAlike L unknown (One kind) t d
+    → (a b : Taped) (found now : Result ℕ JsonFault)
     → IsRunAdded L stored AddsAll (λ rest. items_meant L unknown (item d no_items) kind at levels rest) 1 a b found now
     → IsRunAdded L stored AddsAll (λ rest. items_meant L unknown (item t no_items) kind at levels rest) 1 a b found now
-run_by_outline L stored AddsAll unknown kind at levels t d is none a b found now added =
-    added_by L unknown t d is kind at levels none stored AddsAll a b found now added
+run_by_stand_in L stored AddsAll unknown kind at levels t d alike a b found now added =
+    added_by L unknown t d kind at levels alike stored AddsAll a b found now added

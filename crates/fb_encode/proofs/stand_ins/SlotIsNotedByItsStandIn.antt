@@ -1,5 +1,5 @@
--- A slot whose member's content has no meaning is noted, or refused, as its outline is.
-use Rattle.std.proofs.Common.{◌≡◌, ◌∙◌, ℕ, Bool, false, Some, Result, Ok, Err, ap, refl, sym, subst}
+-- A slot is noted, or refused, as with a member in the place of its own that means the same.
+use Rattle.std.proofs.Common.{◌≡◌, ◌∙◌, ℕ, Bool, Some, Result, Ok, Err, ap, refl, sym, subst}
 use Rattle.serde_json.specs.Data.{Data}
 use Rattle.fb_schema.specs.Seen.{field_seen}
 use Rattle.fb_layout.specs.Laid.{LaidSchema}
@@ -10,48 +10,48 @@ use Rattle.fb_json.specs.Meant.{Look, code_after, entry_meant, meant, slot_place
 use Rattle.fb_json.specs.Outcome.{◌>>=◌, Fails}
 use Rattle.fb_encode.specs.declared.entries.SlotRead.{SlotRead}
 use Rattle.fb_encode.specs.declared.objects.Behind.{Behind}
-use Rattle.fb_encode.specs.Outlines.{has_content, outline}
 use Rattle.fb_encode.specs.SlotTexts.{IsSlotNotedOr, slot_meant}
+use Rattle.fb_encode.specs.StandIns.{AreAlike}
 use Rattle.fb_encode.specs.TreesNoted.{IsEntryNoted}
-use Rattle.fb_encode.proofs.outlines.OutlineMeansTheSame.{code_same, entry_same}
+use Rattle.fb_encode.proofs.stand_ins.AlikeTreesFillASlotAlike.{code_same, entry_same}
 
-bind_each : {A B : Type 0} (r : Result A JsonFault) (k l : A → Result B JsonFault) → ((a : A) → k a ≡ l a)
+pub bind_each : {A B : Type 0} (r : Result A JsonFault) (k l : A → Result B JsonFault) → ((a : A) → k a ≡ l a)
     → (r >>= k) ≡ (r >>= l)
 bind_each (Ok a) k l each = each a
 bind_each (Err e) k l each = refl
 
-bind_same : {A B : Type 0} (r s : Result A JsonFault) (k l : A → Result B JsonFault) → r ≡ s → ((a : A) → k a ≡ l a)
+pub bind_same : {A B : Type 0} (r s : Result A JsonFault) (k l : A → Result B JsonFault) → r ≡ s → ((a : A) → k a ≡ l a)
     → (r >>= k) ≡ (s >>= l)
 bind_same r s k l same each = ap (λ o. o >>= k) same ∙ bind_each s k l each
 
-module _ (L : LaidSchema) (unknown : Bool) (seen bare : Look) (slot : SlotRead) (t : Data)
+module _ (L : LaidSchema) (unknown : Bool) (seen bare : Look) (slot : SlotRead) (t d : Data)
     (is : seen (field_seen slot.field.now).name ≡ Some (t, meant L unknown t))
-    (was : bare (field_seen slot.field.now).name ≡ Some (outline t, meant L unknown (outline t)))
-    (none : has_content slot.field.now.shape t ≡ false) (levels : ℕ) where
+    (was : bare (field_seen slot.field.now).name ≡ Some (d, meant L unknown d))
+    (alike : AreAlike L unknown slot.field.now.shape t d) (levels : ℕ) where
   code_is : (code : ℕ) → code_after L.schema seen (slot_place slot.owner.0 slot.number) code slot.field.now.deprecated
       (field_seen slot.field.now).name slot.field.now.shape
       ≡ code_after L.schema bare (slot_place slot.owner.0 slot.number) code slot.field.now.deprecated
       (field_seen slot.field.now).name slot.field.now.shape
   code_is code =
       code_same L.schema seen bare (slot_place slot.owner.0 slot.number) code slot.field.now.deprecated
-      (field_seen slot.field.now).name slot.field.now.shape t _ _ is was
+      (field_seen slot.field.now).name slot.field.now.shape t d _ _ is was alike.code
 
   entry_is : (code left : ℕ) → entry_meant L seen (field_seen slot.field.now) (slot_place slot.owner.0 slot.number)
       code levels left
       ≡ entry_meant L bare (field_seen slot.field.now) (slot_place slot.owner.0 slot.number) code levels left
   entry_is code left =
       entry_same L unknown (field_seen slot.field.now) (slot_place slot.owner.0 slot.number) code levels left seen bare
-      t is was none
+      t d is was alike
 
   slot_is : (code left : ℕ) → slot_meant L seen slot code levels left ≡ slot_meant L bare slot code levels left
   slot_is code left = bind_same _ _ _ _ (code_is code) (λ c. entry_is c left)
 
-  pub noted_by_outline : (before : Behind) (a b : Noting) (r : Result Behind JsonFault)
+  pub noted_by_stand_in : (before : Behind) (a b : Noting) (r : Result Behind JsonFault)
       → IsSlotNotedOr L bare slot levels before a b r → IsSlotNotedOr L seen slot levels before a b r
-  noted_by_outline before a b (Ok behind) noted = (
+  noted_by_stand_in before a b (Ok behind) noted = (
     code_is before.code ∙ noted.0,
     subst (λ given. IsEntryNoted L slot.number (slot_seen L slot.field.now) given a.tape b.tape a.opened b.opened
         behind.left) (sym (entry_is behind.code before.left)) noted.1,
   )
-  noted_by_outline before a b (Err f) fails =
+  noted_by_stand_in before a b (Err f) fails =
       subst (λ given. Fails f given) (sym (slot_is before.code before.left)) fails

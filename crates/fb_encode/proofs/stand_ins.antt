@@ -1,0 +1,5 @@
+pub mod AlikeTreesFillASlotAlike
+pub mod SlotIsNotedByItsStandIn
+pub mod ValueIsNotedByItsStandIn
+pub mod FieldsArePut
+pub mod OwnFieldsMeanTheSame
