@@ -5,7 +5,7 @@
 # make install    copies the program, as NAME, the library, its headers and its pkg-config file below PREFIX (/usr/local)
 # make uninstall  removes them there
 # make dist       packs the program and the library into dist/: a tarball, Debian packages, and their sums
-# make examples   proves and builds the library, and runs the programs in examples/ that use it
+# make examples   proves and builds the library, and runs the programs in examples/ and bindings/ that use it
 # make valgrind   runs the C example under valgrind, outside the gate
 # make test       the gate: every proof from nothing, the must-fail edits, the tests, the program
 # make check CRATE=NAME  proves one crate over the libraries below it
@@ -83,6 +83,8 @@ dist: build lib
 
 examples: build lib
 	@python3 tests/library.py lib $(PROGRAM)
+	@python3 tests/python_package.py lib
+	@python3 tests/rust_crates.py lib
 
 valgrind: lib
 	@python3 tests/library.py lib --valgrind

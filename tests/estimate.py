@@ -14,7 +14,7 @@ sys.path.append(f"{ROOT}/tools")
 
 import build  # noqa: E402
 
-HEAD = re.compile(r"^(\d+) crates to prove, (\d+) at a time: ", re.M)
+HEAD = re.compile(r"^to prove: (\d+) of \d+ crates, (\d+) at a time, ", re.M)
 LINE = re.compile(r"^\[\d+ of \d+, (\d+):(\d\d)\] (\w+): proved \((\d+) s of processor time\)", re.M)
 # Of the time that the run took, by how much of it an estimate may be wrong.
 WRONG = 0.25
@@ -32,7 +32,8 @@ def estimates(tests):
     tests.tell("its crates are those of today", set(names) <= set(crates), f"{set(names) - set(crates)}")
     noted = build.noted_seconds()
     tests.tell("each has its seconds", set(names) <= set(noted), f"{set(names) - set(noted)}")
-    tests.tell("the seconds are of another run", any(noted.get(name) != it for _, name, it in lines), "all are the same")
+    differ = any(noted.get(name) != seconds for _, name, seconds in lines)
+    tests.tell("the seconds are of another run", differ, "all are the same")
     took = lines[-1][0]
     estimate = build.Estimate(crates, names, jobs)
     for _, name, seconds in lines:

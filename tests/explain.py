@@ -202,7 +202,7 @@ def changes(tests):
     again = HP.replace("  mp:int;\n", "  was_mp:int (deprecated);\n  mp:int;\n")
     taken = (
         "U.mp was field 1 (old.fbs:3), is field 2 (new.fbs:4): "
-        "the name of a deprecated field stands for another one"
+        "the name of a deprecated field now belongs to another one"
     )
     rows = [*NAMES, ("the name of a field that was deprecated", deprecated, deprecated, again,
                      "103 NameMoved in type 0 slot 1", [taken])]

@@ -7,8 +7,8 @@
 # it explains, that explaining changes nothing else, its usage under another name, its lines beside those of Google's
 # flatc, its man page and completions, its hooks for pre-commit and CI, how costs grow, and how much memory it takes,
 # also for long texts that are refused; the calls with growths refused, some thousand damaged buffers, some thousand
-# JSON texts in pieces, the library for C with its examples, and what a release has. The last line counts all of it:
-# 'N passed, M failed'.
+# JSON texts in pieces, the library for C with its examples, the package for Python, the crates for Rust, and what a
+# release has. The last line counts all of it: 'N passed, M failed'.
 set -uo pipefail
 cd "$(dirname "$0")/.."
 program=crates/flatc/out/flatc
@@ -44,6 +44,8 @@ python3 tests/memory.py "$program" "$parser" | tee "$logs/memory" || status=1
 python3 tests/long_texts.py "$program" | tee "$logs/long_texts" || status=1
 make --silent lib BUILD=--over-gate || status=1
 python3 tests/library.py lib "$program" | tee "$logs/library" || status=1
+python3 tests/python_package.py lib | tee "$logs/python_package" || status=1
+python3 tests/rust_crates.py lib | tee "$logs/rust_crates" || status=1
 python3 tests/release.py | tee "$logs/release" || status=1
 
 passed=0

@@ -23,6 +23,8 @@ MEMORY = re.compile(rb"(?:(?:old: |new: )?(?:7|23|32) Memory|(?:41|64|80|84|114)
 # Growths that are only asked for ahead, so that a run goes on where they are refused: by the standard library when the
 # words are collected.
 ASKED_AHEAD = 1
+# Growths of help's text under the name that the program was called by: without memory for it help has the usual name.
+NAMED = 20
 GROWTHS = 20_000
 DAMAGES = 250
 SEED = 35
@@ -81,8 +83,8 @@ def refused_growths(tests, library, name, words, out, made):
             if refused == 0:
                 ended += 1
                 tests.tell(f"{name} with {wish} refused, which isn't reached", whole, told_of(done))
-            elif whole and wish == f"{n}":
-                absorbed += 1
+            elif whole and (wish == f"{n}" or name == "help"):
+                absorbed += wish == f"{n}"
             else:
                 good = is_short_of_memory(done, out) and not os.listdir(name)
                 tests.tell(f"{name} with growth {wish} refused", good, told_of(done))
@@ -91,7 +93,8 @@ def refused_growths(tests, library, name, words, out, made):
             near = abs(n - 1 - total) <= (1 if makes else 0)
             tests.tell(f"the growths of {name}", near, f"{n - 1} refused, {total} counted")
             break
-    tests.tell(f"{name} goes on where memory is only asked for ahead", absorbed <= ASKED_AHEAD, f"{absorbed}")
+    most = ASKED_AHEAD + (NAMED if name == "help" else 0)
+    tests.tell(f"{name} goes on where memory is only asked for ahead", absorbed <= most, f"{absorbed}")
     return total
 
 

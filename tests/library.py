@@ -1,6 +1,7 @@
 #!/usr/bin/env python3
 """The library for C as it is built: what it exports, the headers, calls that go wrong, growths that are refused, what
-is installed, the examples in C, C++, Python and Rust, and the programs of docs/LIBRARY.md.
+is installed, the examples in C and C++, and the programs of docs/LIBRARY.md. tests/python_package.py and
+tests/rust_crates.py test the package for Python and the crates for Rust.
 
 usage: tests/library.py FOLDER PROGRAM
        tests/library.py FOLDER --valgrind
@@ -20,9 +21,11 @@ from concurrent.futures import ThreadPoolExecutor
 
 from harness import ROOT, Tests, content, write
 from hostile import refusing, shim
+from rust_crates import why_not
 
 INCLUDE = os.path.join(ROOT, "include")
 EXAMPLES = os.path.join(ROOT, "examples")
+PYTHON = os.path.join(ROOT, "bindings", "python")
 SCHEMA, JSON = os.path.join(EXAMPLES, "monster.fbs"), os.path.join(EXAMPLES, "monster.json")
 WRONG = b'{\n  "name": "Orc",\n  "hp": 70000\n}\n'
 OK, NO_MEMORY = 0, 2
@@ -92,7 +95,7 @@ def exports(tests):
     tests.tell("the library exports what the header declares", names == calls, f"{sorted(names ^ calls)}")
     tests.tell("the version's parts are its text", ".".join(map(str, numbers)) == version, version)
     tests.tell("the program's version", tests.run(["--version"]).stdout.decode().split()[-1] == version, version)
-    flags = {"LIBFLATC": shared, "PYTHONPATH": f"{EXAMPLES}/python", "PYTHONDONTWRITEBYTECODE": "1"}
+    flags = {"LIBFLATC": shared, "PYTHONPATH": PYTHON, "PYTHONDONTWRITEBYTECODE": "1"}
     ask = "import flatc; print('.'.join(map(str, flatc.version())))"
     said = succeeded(tests, "flatc_version", [sys.executable, "-c", ask], env={**os.environ, **flags})
     tests.tell("the library's version", said == f"{version}\n", f"{said}")
@@ -190,22 +193,6 @@ def cpp_example(tests):
     tests.tell("what it prints", said.startswith(first + elf + rest) and "JSON:1:" in said, said)
 
 
-def python_example(tests):
-    flags = {"LIBFLATC": f"{tests.folder}/libflatc.so", "PYTHONDONTWRITEBYTECODE": "1"}
-    ran = done([sys.executable, "-m", "unittest"], cwd=f"{EXAMPLES}/python", env={**os.environ, **flags})
-    count = re.search(r"^Ran (\d+) tests", ran.stderr, re.M)
-    tests.tell("python3 -m unittest", ran.returncode == 0 and count and int(count[1]) > 0, ran.stderr[-900:])
-
-
-def rust_example(tests):
-    if not shutil.which("cargo"):
-        skipped("the Rust example", "apt-get install cargo")
-        return
-    flags = {"FLATC_LIB_DIR": tests.folder, "CARGO_TARGET_DIR": os.path.abspath("target")}
-    words = ["cargo", "test", "--offline", "--quiet"]
-    succeeded(tests, "cargo test", words, cwd=f"{EXAMPLES}/rust", env={**os.environ, **flags})
-
-
 def page_program(kind, path):
     """The first program in a language of docs/LIBRARY.md, as a file."""
     text = content(f"{ROOT}/docs/LIBRARY.md").decode()
@@ -226,17 +213,17 @@ def page(tests):
         expect("C", ["./page_c"], bytes_made)
     if built(tests, page_program("cpp", "page.cpp"), "page_cpp", "c++", "CXX", ["-std=c++17"]):
         expect("C++", ["./page_cpp"], bytes_made + refused)
-    flags = {"LIBFLATC": f"{tests.folder}/libflatc.so", "PYTHONPATH": f"{EXAMPLES}/python"}
+    flags = {"LIBFLATC": f"{tests.folder}/libflatc.so", "PYTHONPATH": PYTHON}
     flags["PYTHONDONTWRITEBYTECODE"] = "1"
     expect("Python", [sys.executable, page_program("python", "page.py")], bytes_made + refused, env=os.environ | flags)
-    if not shutil.which("cargo"):
-        skipped("the page's program in Rust", "apt-get install cargo")
+    if why := why_not():
+        skipped("the page's program in Rust", why)
         return
-    shutil.copytree(f"{EXAMPLES}/rust", "crate", ignore=shutil.ignore_patterns("target"))
-    page_program("rust", "crate/examples/page.rs")
-    flags = {"FLATC_LIB_DIR": tests.folder, "CARGO_TARGET_DIR": os.path.abspath("target")}
-    words = ["cargo", "run", "--offline", "--quiet", "--example", "page"]
-    expect("Rust", words, bytes_made + refused, cwd="crate", env=os.environ | flags)
+    shutil.copytree(f"{ROOT}/bindings/rust", "crates", ignore=shutil.ignore_patterns("target"))
+    page_program("rust", "crates/flatc/examples/page.rs")
+    flags = {"FLATC_LIB_DIR": tests.folder, "FLATC_STATIC": "1", "CARGO_TARGET_DIR": os.path.abspath("target")}
+    words = ["cargo", "run", "--offline", "--quiet", "--package", "flatc", "--example", "page"]
+    expect("Rust", words, bytes_made + refused, cwd="crates", env=os.environ | flags)
 
 
 def files_below(folder):
@@ -278,9 +265,7 @@ def valgrind(tests):
             tests.tell(f"valgrind over {name}", ran.returncode == status, why)
 
 
-PARTS = (
-    headers, exports, c_example, c_message, misuse, growths, cpp_example, python_example, rust_example, page, installed,
-)
+PARTS = (headers, exports, c_example, c_message, misuse, growths, cpp_example, page, installed)
 
 
 def main():

@@ -35,8 +35,11 @@ LONG, SHORT = 10_000_000, 80
 MOST = 3
 # A buffer of tables, numbers and structs has so many times the bytes of their text; one of which nothing is kept, none.
 TABLES, NUMBERS, NOTHING = 1.5, 2, 0
-# How many times the processor time of a right text one takes that is refused.
-TIMES = 1.3
+# A string is read at once, also where the schema wants something else.
+STRING = 1
+# How many times the processor time of a right text one takes that is refused. After a fault the pieces that are left
+# are still read as trees, and nothing is kept between two of them, so that their memory goes back to the system.
+TIMES = 2
 RUNS = 5
 IGNORING = ("--unknown-json",)
 
@@ -66,10 +69,6 @@ def members(size):
 
 def string(size):
     return b'"' + b"x" * size + b'"'
-
-
-def blanks(size):
-    return b"[" + b" " * size + b"]"
 
 
 def nested(depth):
@@ -138,13 +137,12 @@ ROWS = [
     Row("a vector of numbers", member(b"numbers", repeated(b"7")), share=NUMBERS),
     Row("a vector of structs", member(b"points", repeated(b'{"x":1,"y":2}')), share=NUMBERS),
     Row("a vector of strings", member(b"names", repeated(b'"some words"'))),
-    Row("a string", member(b"name", string), share=1),
+    Row("a string", member(b"name", string), share=STRING),
     Row(
         "an array of blanks before a vector",
         text(b'{"v":[' + b" " * 20_000 + b'],"numbers":', repeated(b"7"), b"}"),
         share=NUMBERS,
     ),
-    Row("a vector of blanks", member(b"v", blanks), share=NOTHING, same=b'{"v":[]}'),
     Row("the last byte is missing", text(b'{"v":', tables, b""), BAD),
     Row("it ends within the vector", text(b'{"v":', lambda size: tables(size)[:-size // 2], b""), BAD),
     Row("it ends within a string", text(b'{"v":', tables, b',"name":"Or'), BAD),
@@ -266,7 +264,7 @@ ROWS = [
         same=b'{"boxes":[{"n":3,"p":{"x":1,"y":2}}]}',
     ),
     Row("an array for a field of a struct", text(b'{"p":{"x":', pairs, b',"y":2}}'), FIELD, share=NOTHING),
-    Row("a string for a field of a struct", text(b'{"p":{"x":', string, b',"y":2}}'), FIELD, share=NOTHING),
+    Row("a string for a field of a struct", text(b'{"p":{"x":', string, b',"y":2}}'), FIELD, share=STRING),
     Row(
         "an array for a struct of a struct",
         text(b'{"q":{"p":', pairs, b',"n":3}}'),

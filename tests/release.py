@@ -103,7 +103,8 @@ def tarball(tests):
     root = unpacked(tests)
     files = {os.path.relpath(os.path.join(at, it), root) for at, _, names in os.walk(root) for it in names}
     texts = {it for it in files if it.startswith("share/doc/flatc-proved/")}
-    kept = run(["git", "ls-files", *"README.md CHANGELOG.md SECURITY.md docs examples".split()], cwd=ROOT).stdout
+    packed = "README.md CHANGELOG.md SECURITY.md docs examples bindings".split()
+    kept = run(["git", "ls-files", *packed], cwd=ROOT).stdout
     want = {f"share/doc/flatc-proved/{it}" for it in kept.splitlines()}
     tests.tell("the texts and examples", texts == want, f"{texts ^ want}")
     licences = {os.path.basename(it) for it in glob.glob(f"{ROOT}/LICENSE*") + glob.glob(f"{ROOT}/COPYING*")}

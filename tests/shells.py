@@ -53,11 +53,12 @@ LINES = [
 ]
 # In fish only what begins with the typed word can take its place.
 NAMED = [("flatc explain UnknownN", "flatc explain 73 "), ("flatc explain enumch", "flatc explain 101 ")]
+BASH_COMPLETION = "/usr/share/bash-completion/bash_completion"
 STARTS = {
     "bash": (
         ["--norc", "--noprofile", "-i"],
-        "PS1='% '; bind 'set bell-style none'; bind 'set show-all-if-ambiguous on'; . /usr/share/bash-completion/"
-        "bash_completion; . made/flatc.bash; bind -x '\"\\C-t\": printf %s \"$READLINE_LINE\" > .line'",
+        "PS1='% '; bind 'set bell-style none'; bind 'set show-all-if-ambiguous on'; . "
+        f"{BASH_COMPLETION}; . made/flatc.bash; bind -x '\"\\C-t\": printf %s \"$READLINE_LINE\" > .line'",
     ),
     "zsh": (
         ["-f", "-i"],
@@ -189,7 +190,7 @@ def typed(tests):
     for path, text in written(tests.program).items():
         write(f"made/{path}", text.encode())
     for shell in STARTS:
-        if not shutil.which(shell) or shell == "bash" and not os.path.exists("/usr/share/bash-completion"):
+        if not shutil.which(shell) or shell == "bash" and not os.path.exists(BASH_COMPLETION):
             skipped(f"what is typed into {shell}", f"apt-get install {shell} bash-completion")
             continue
         typed_into(tests, shell)

@@ -283,7 +283,8 @@ class Progress:
         self.began, self.done, self.count = time.monotonic(), 0, len(names)
         self.estimate = Estimate(crates, stale, jobs)
         if stale:
-            print(f"{len(stale)} crates to prove, {jobs} at a time: {in_minutes(self.estimate.total())}", flush=True)
+            how = f"{jobs} at a time, {in_minutes(self.estimate.total())}"
+            print(f"to prove: {len(stale)} of {len(names)} crates, {how}", flush=True)
 
     def tell(self, name, how, left=""):
         minutes, rest = divmod(round(time.monotonic() - self.began), 60)

@@ -18,7 +18,7 @@ CONTENTS = {
 }
 DOCUMENTS = {
     "flatc-proved": ["README.md", "docs/*", "examples/*.*", "examples/refused/*", "examples/hooks/*"],
-    "libflatc-dev": [f"examples/{it}/**/*" for it in ("c", "cpp", "python", "rust")],
+    "libflatc-dev": ["examples/c/*", "examples/cpp/*", "bindings/**/*"],
 }
 
 

@@ -27,6 +27,7 @@ UNNEEDED = ["-R", ".comment", "-R", ".note"]
 OBJECT = ROOT / "crates/flatc/out/flatc.o"
 PROGRAM = ROOT / "crates/flatc/out/flatc"
 CC = shlex.split(os.environ.get("CC", "cc"))
+TEXTS = ("docs", "examples", "bindings")
 COMPLETIONS = {"bash": "bash-completion/completions/{}", "fish": "fish/vendor_completions.d/{}.fish"}
 
 
@@ -150,7 +151,7 @@ def make_tarball(work, folder, epoch):
     lay_program(root / "bin/flatc", static=True)
     lay_command(root, "flatc", "site-functions")
     lay_library(root, "flatc", "lib", "${pcfiledir}/../..")
-    lay_texts(root / "share/doc/flatc-proved", "README.md", "CHANGELOG.md", "SECURITY.md", "docs", "examples")
+    lay_texts(root / "share/doc/flatc-proved", "README.md", "CHANGELOG.md", "SECURITY.md", *TEXTS)
     lay_texts(root, "LICENSE*", "COPYING*")
     write(root / "BUILD-INFO", build_info(root))
     words = ["tar", "--sort=name", f"--mtime=@{epoch}", "--owner=0", "--group=0", "--numeric-owner", "--format=gnu"]
@@ -166,7 +167,7 @@ def make_debian(work, folder):
     lay_program(usr / "bin/flatc-proved", static=False)
     lay_command(usr, "flatc-proved", "vendor-completions")
     lay_library(usr, "flatc-proved", libdir, "/usr")
-    lay_texts(usr / "share/doc", "README.md", "docs", "examples")
+    lay_texts(usr / "share/doc", "README.md", *TEXTS)
     make_packages(ROOT, usr, libdir, version(), folder)
 
 

@@ -9,7 +9,8 @@ usage: tools/mutations.py [CRATE..]      tries the edits of all crates, or of th
 An edit has the form that rt gives those in must-fail/: lines 'file: src/lib.rt', and then pairs of lines 'old: TEXT'
 and 'new: TEXT', where the old text is in that file exactly once. The crates below are proved first, as tools/build.py
 does. Of each crate the modules that edits change are proved once, and over what that leaves each edit is tried: in the
-modules that it changes, and in the whole crate where these are still proved. The last line is 'N refused, M not refused'.
+modules that it changes, and in the whole crate where these are still proved. The last line is
+'N refused, M not refused'.
 
 What was refused is noted in tools/mutations.tried, with a sum of what the trial read: the toolchain, the edit, the
 crate, and what the crates below it state (their specs, and their sources without the bodies of functions).

@@ -20,7 +20,7 @@ def copies(said):
     """The files that have a copy, each with what stands before and behind it, and the copy."""
     major, minor, patch = (int(it) for it in said.split("."))
     number = f"0x{major:02x}_{minor:02x}_{patch:02x}"
-    schemas, header, crate = "crates/flatc_c/src/schemas.rt", "include/flatc.h", "examples/rust/Cargo"
+    schemas, header, crates = "crates/flatc_c/src/schemas.rt", "include/flatc.h", "bindings/rust/Cargo"
     return [
         ("crates/flatc_cli/src/commands.rt", r'(pub const VERSION: &str = ")[^"]*(")', said),
         (schemas, r"(fn flatc_version\(\) -> u32\n    ensures \{ result ≡ )\d+( \})", f"{int(number, 16)}"),
@@ -29,8 +29,13 @@ def copies(said):
         (header, r"(#define FLATC_VERSION_MINOR )\d+(\n)", f"{minor}"),
         (header, r"(#define FLATC_VERSION_PATCH )\d+(\n)", f"{patch}"),
         (header, r'(#define FLATC_VERSION_STRING ")[^"]*(")', said),
-        (f"{crate}.toml", r'(name = "flatc"\nversion = ")[^"]*(")', said),
-        (f"{crate}.lock", r'(name = "flatc"\nversion = ")[^"]*(")', said),
+        (f"{crates}.toml", r'(\[workspace\.package\]\nversion = ")[^"]*(")', said),
+        (f"{crates}.toml", r'(flatc-sys = \{ path = "flatc-sys", version = ")[^"]*(")', said),
+        (f"{crates}.lock", r'(name = "flatc"\nversion = ")[^"]*(")', said),
+        (f"{crates}.lock", r'(name = "flatc-sys"\nversion = ")[^"]*(")', said),
+        ("bindings/rust/flatc-sys/build.rs", r'(const PACKAGE: &str = "flatc >= )[^"]*(")', f"{major}.{minor}"),
+        ("bindings/rust/README.md", r"(The build needs libflatc )\S+( or newer)", f"{major}.{minor}"),
+        ("bindings/python/flatc/_version.py", r'(__version__ = ")[^"]*(")', said),
     ]
 
 

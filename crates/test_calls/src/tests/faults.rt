@@ -127,7 +127,7 @@ const FAULTS: &[(ToolFault, &str, &str)] = &[
     (
         ToolFault::Write(WriteFault::WriteFailed(65_536)),
         "82 WriteFailed after 65536",
-        "a write failed, 65536 bytes behind the start",
+        "a write failed after 65536 bytes",
     ),
     (
         ToolFault::Text(TextFault::Memory),
@@ -147,7 +147,7 @@ const FAULTS: &[(ToolFault, &str, &str)] = &[
     (
         ToolFault::NameMoved(MOVED),
         "103 NameMoved in type 3 slot 2",
-        "the name of slot 2 of type 3 stands for another slot",
+        "the name of slot 2 of type 3 now belongs to another slot",
     ),
     (ToolFault::FileRead, "110 FileRead", "a file can't be read"),
     (ToolFault::Memory, "114 Memory", "out of memory"),

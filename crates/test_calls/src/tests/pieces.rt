@@ -311,8 +311,10 @@ fn what_is_nested_deeper_than_json_may_be_has_no_cuts(rt: HostRuntime) -> Result
 #[test]
 fn a_text_within_another_is_cut_where_it_is(rt: HostRuntime) -> Result<(), Fail> {
     let whole = b"{\"a\":[1,2],\"b\": [\"x\",[3,4]] }";
-    let cuts = Cuts::of(rt.alloc(), whole, 0)?.unwrap();
-    let shown = runs_of(rt.alloc(), &whole[15..28], 15, &cuts, false)?;
+    let shown = match Cuts::of(rt.alloc(), whole, 0)? {
+        Some(cuts) => runs_of(rt.alloc(), &whole[15..28], 15, &cuts, false)?,
+        None => Vec::new(rt.alloc()),
+    };
     assert!(rt; shown.as_slice() == b"\"x\"|[3,4].".as_slice());
     Ok(())
 }
