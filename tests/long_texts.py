@@ -35,11 +35,11 @@ LONG, SHORT = 10_000_000, 80
 MOST = 3
 # A buffer of tables, numbers and structs has so many times the bytes of their text; one of which nothing is kept, none.
 TABLES, NUMBERS, NOTHING = 1.5, 2, 0
-# A string is read at once, also where the schema wants something else.
-STRING = 1
+# A string is read at once, also where the schema wants something else: it takes up to 6.1 times its length.
+STRING = 1.25
 # How many times the processor time of a right text one takes that is refused. After a fault the pieces that are left
 # are still read as trees, and nothing is kept between two of them, so that their memory goes back to the system.
-TIMES = 2
+TIMES = 2.5
 RUNS = 5
 IGNORING = ("--unknown-json",)
 
