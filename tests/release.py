@@ -52,8 +52,12 @@ exec make -C "$2" -o build -o lib dist
 """
 
 
+# make dist builds the program again where rt ci kept it, and left no object.
+SECONDS = 3600
+
+
 def run(words, **more):
-    return subprocess.run(words, stdout=subprocess.PIPE, stderr=subprocess.STDOUT, text=True, timeout=600, **more)
+    return subprocess.run(words, stdout=subprocess.PIPE, stderr=subprocess.STDOUT, text=True, timeout=SECONDS, **more)
 
 
 def skipped(what, why):
