@@ -69,7 +69,7 @@ def short_memory(tests):
 
 
 def changed_files(tests):
-    """A JSON text that isn't the same any more once it is to be explained."""
+    """A JSON text is explained as it was read, though the file has changed since."""
     library = os.path.abspath("replace.so")
     cc = shlex.split(os.environ.get("CC") or "cc")
     source = os.path.join(ROOT, "tests", "replace.c")
@@ -78,20 +78,19 @@ def changed_files(tests):
     words = ["binary", "--explain", "s.fbs", "v.json", "out.bin"]
     line = b"72 OutOfRange in type 0 slot 0\n"
     place = b"v.json:1:6: a: 300 isn't in 0 to 255, the range of ubyte\n  {\"a\":300}\n       ^\n"
-    changed = b"v.json: the text isn't shown, since the file has changed\n"
     others = (
-        ("a text of another length", b'{"a":1}', changed),
-        ("a text of the same length", b'{"a":400}', changed),
-        ("the same text in another file", b'{"a":300}', changed),
+        ("a text of another length", b'{"a":1}'),
+        ("a text of the same length", b'{"a":400}'),
+        ("the same text in another file", b'{"a":300}'),
     )
-    for what, other, sentences in others:
+    for what, other in others:
         write("v.json", b'{"a":300}')
         write("other.json", other)
         env = {**os.environ, "LD_PRELOAD": library, "REPLACE": "v.json", "REPLACE_BY": "other.json"}
-        tests.expect(what, words, 1, err=line + sentences, env=env, holds={"v.json": other, "other.json": None})
+        tests.expect(what, words, 1, err=line + place, env=env, holds={"v.json": other, "other.json": None})
     write("v.json", b'{"a":300}')
     env = {**os.environ, "LD_PRELOAD": library, "REPLACE": "v.json", "REPLACE_BY": ""}
-    tests.expect("a text that is gone", words, 1, err=line + changed, env=env, holds={"v.json": None})
+    tests.expect("a text that is gone", words, 1, err=line + place, env=env, holds={"v.json": None})
     write("v.json", b'{"a":300}')
     tests.expect("a text that is as it was", words, 1, err=line + place)
     os.symlink("v.json", "link.json")
@@ -145,13 +144,14 @@ def piped(tests, what, words, text, line, sentences):
 
 
 def pipes(tests):
-    """A text that was given away is told to be gone; one that is still there is explained."""
+    """What came through a pipe is explained like a file."""
     write("s.fbs", NUMBER)
     write("v.json", b'{"a":300}')
-    gone = b"/dev/stdin: the text isn't shown, since it isn't a regular file that can be read again\n"
+    number = b"/dev/stdin:1:6: a: 300 isn't in 0 to 255, the range of ubyte\n  {\"a\":300}\n       ^\n"
+    cut = b"/dev/stdin:1:6: a value is missing\n  {\"a\":\n       ^\n"
     binary = ["binary", "s.fbs", "/dev/stdin", "out.bin"]
-    piped(tests, "a JSON text with a bad number", binary, b'{"a":300}', b"72 OutOfRange in type 0 slot 0\n", gone)
-    piped(tests, "a JSON text that isn't one", binary, b'{"a":', b"113 BadJson\n", gone)
+    piped(tests, "a JSON text with a bad number", binary, b'{"a":300}', b"72 OutOfRange in type 0 slot 0\n", number)
+    piped(tests, "a JSON text that isn't one", binary, b'{"a":', b"113 BadJson\n", cut)
     line = b"12 BadDefault at 20\n"
     place = (b"/dev/stdin:1:21: the default 300 of field 'a' doesn't fit the type ubyte: 0 to 255\n"
              b"  table T { a:ubyte = 300; } root_type T;\n" + b" " * 22 + b"^\n")

@@ -20,7 +20,7 @@ mod taped_ops;
 mod taped_references;
 mod taped_vtables;
 
-pub use buffers::lay_root;
+pub use buffers::plan_root;
 pub use defaults::is_default;
 pub use faults::BuildFault;
 pub use laws::{

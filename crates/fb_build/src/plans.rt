@@ -9,6 +9,7 @@ ghost use Rattle.fb_value.specs.OldSlots.{OnlyOldBehind};
 ghost use Rattle.fb_value.specs.View.{entries_in};
 ghost use Rattle.fb_tape.specs.Tapes.{MeansRoot};
 ghost use Rattle.fb_build.specs.Covered.{CoveredFramed, EndsAlignedFramed};
+ghost use Rattle.fb_build.specs.Planned.{IsLaidBy};
 ghost use Rattle.fb_build.specs.TapeLaid.{SomeRoot};
 
 use crate::laying::Laying;
@@ -71,6 +72,7 @@ impl<'l> TapePlan<'l> {
 
     /// Lays the bytes, with no memory but what the plan has.
     pub fn finish(self) -> Vec<u8>
+        ensures laid { IsLaidBy self.entry result.items }
         ensures holds { (xs : List (Option Datum)) (most : Bounds) (raw : Bool) → MeansRoot self.entry.tape xs
             → depth (a_table self.entry.layout.schema.root (entries_in xs)) ≤ most.depth
             → cells (a_table self.entry.layout.schema.root (entries_in xs)) ≤ most.cells

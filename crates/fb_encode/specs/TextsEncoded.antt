@@ -6,12 +6,13 @@ use Rattle.fb_layout.specs.Laid.{LaidSchema}
 use Rattle.fb_value.specs.Bounds.{Bounds}
 use Rattle.fb_value.specs.Num.{Bytes}
 use Rattle.fb_tape.specs.Tapes.{Taped}
+use Rattle.fb_build.specs.Planned.{IsLaidBy, TapePlanned}
 use Rattle.fb_json.specs.declared.faults.JsonFault.{JsonFault}
 use Rattle.fb_json.specs.declared.faults.JsonFault.TheVariants as the_json
 use Rattle.fb_encode.specs.Encoded.{EncodeRefusedFramed, IsEncodedFramed}
 use Rattle.fb_encode.specs.RootsNoted.{IsRootNoted}
 use Rattle.fb_encode.specs.TextsRead.{IsRead, IsReadAs}
-use Rattle.fb_encode.specs.declared.faults.EncodeFault.TheVariants.{Json}
+use Rattle.fb_encode.specs.declared.faults.EncodeFault.TheVariants.{Json, Build}
 use Rattle.fb_encode.specs.declared.faults.TextFault.{TextFault}
 use Rattle.fb_encode.specs.declared.faults.TextFault.TheVariants.{BadJson, Encode}
 use Rattle.fb_encode.specs.declared.faults.TextFault.TheVariants as the_text
@@ -26,6 +27,18 @@ IsJsonOf json t = IsReadAs 127 json t
 abbrev pub IsTextEncoded : Bool → LaidSchema → Bounds → Bool → List ℕ → Bytes → Type 0
 IsTextEncoded prefixed L most unknown json b =
     (t : Data) × IsJsonOf json t × IsEncodedFramed prefixed L most unknown t b
+
+-- The bytes that are laid by the plan are a buffer of the tree that the text is read as.
+abbrev pub IsTextPlanned : Bool → LaidSchema → Bounds → Bool → List ℕ → TapePlanned → Type 0
+IsTextPlanned prefixed L most unknown json plan =
+    (b : Bytes) → IsLaidBy plan b → IsTextEncoded prefixed L most unknown json b
+
+-- it is of the text, which isn't JSON, or whose meaning breaks a rule
+abbrev pub IsOfTheText : TextFault → Type 0
+IsOfTheText BadJson = ⊤
+IsOfTheText the_text.Memory = ⊤
+IsOfTheText (Encode (Json f)) = ⊤
+IsOfTheText (Encode (Build f)) = ⊥
 
 -- The text isn't JSON; or its tree is refused; or memory ran out while it was read.
 abbrev pub TextRefused : Bool → LaidSchema → Bounds → Bool → List ℕ → TextFault → Type 0

@@ -1,7 +1,7 @@
 //! Vectors of numbers and structs.
 ghost use Rattle.std.specs.Prelude.{◌≡◌, ◌≤◌, [], IfErr, IfOk, false, length};
 ghost use Rattle.serde_json.specs.View.{items_view, view as tree_view};
-ghost use Rattle.fb_schema.specs.declared.kinds.Shape.TheVariants.{One};
+ghost use Rattle.fb_schema.specs.declared.kinds.Shape.TheVariants.{Many, One};
 ghost use Rattle.fb_layout.specs.Laid.{align_of, one_of, stored_kind, vector_of};
 ghost use Rattle.fb_layout.specs.Widths.{greatest};
 ghost use Rattle.fb_json.specs.Meant.{items_meant, meant};
@@ -9,8 +9,9 @@ ghost use Rattle.fb_json.specs.Outcome.{Fails};
 ghost use Rattle.fb_build.specs.Fields.{IsElement, is_reference};
 ghost use Rattle.fb_encode.specs.TreesNoted.{AddsInline, AreElementsAdded, IsElementAdded, IsNoted, vector_given};
 
+use crate::excerpts::Wanted;
 use fb_json::{JsonFault, Place, Room, Source, number_of, struct_parts};
-use fb_schema::Kind;
+use fb_schema::{Kind, Shape};
 use fb_tape::Tape;
 use fb_value::Value;
 use serde_json::Value as Json;
@@ -21,6 +22,48 @@ pub(crate) struct Elements {
     pub(crate) kind: Kind,
     pub(crate) place: Place,
     pub(crate) levels: u8,
+}
+
+impl Elements {
+    /// What is wanted of the vector, for which so many cells are left.
+    pub(crate) fn vector(self, left: u32) -> Wanted
+        ensures shape { result.shape ≡ Many self.kind }
+        ensures place { result.place ≡ self.place }
+        ensures levels { result.levels ≡ self.levels }
+        ensures left { result.left ≡ left }
+    {
+        let Elements {
+            kind,
+            place,
+            levels,
+        } = self;
+        Wanted {
+            shape: Shape::Many(kind),
+            place,
+            levels,
+            left,
+        }
+    }
+
+    /// What is wanted of an element, for which so many cells are left.
+    pub(crate) fn element(self, left: u32) -> Wanted
+        ensures shape { result.shape ≡ One self.kind }
+        ensures place { result.place ≡ self.place }
+        ensures levels { result.levels ≡ self.levels }
+        ensures left { result.left ≡ left }
+    {
+        let Elements {
+            kind,
+            place,
+            levels,
+        } = self;
+        Wanted {
+            shape: Shape::One(kind),
+            place,
+            levels,
+            left,
+        }
+    }
 }
 
 /// Notes a vector of numbers or structs, and returns the cells that are left.

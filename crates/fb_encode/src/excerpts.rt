@@ -1,6 +1,7 @@
 //! Excerpts of a JSON text: what each means is checked and noted, piece by piece where it is long.
 ghost use Rattle.std.specs.Prelude.{◌≡◌, ◌≤◌, [], IfOk, OnOk};
 ghost use Rattle.serde_json.specs.Data.{Data, string};
+ghost use Rattle.serde_json.specs.View.{view as tree_view};
 ghost use Rattle.fb_layout.specs.Laid.{stored_shape};
 ghost use Rattle.fb_json.specs.Meant.{meant};
 ghost use Rattle.fb_encode.specs.TextsRead.{IsNotedOr, IsReadAs};
@@ -11,22 +12,40 @@ use crate::numbers::note_number_runs;
 use crate::objects::note_members;
 use crate::parts::note_part;
 use crate::reader::{Excerpt, MOST_BRACKETS, Reader, Unread, innermost};
+use crate::steps::traced;
 use crate::vectors::note_runs;
 use fb_build::{Noting, is_reference};
-use fb_json::{JsonFault, Place, Source};
+use fb_json::{JsonFault, Place, Source, Step, Trail};
 use fb_pieces::text_is_read_without_brackets;
 use fb_schema::{Kind, Shape};
 use fb_tape::Tape;
 use serde_json::Value as Json;
 
-/// A walk over a JSON text that is read piece by piece: what it has noted, and what reads the pieces.
+/// A walk over a JSON text that is read piece by piece: what it has noted, what reads the pieces, and the steps to what
+/// was refused.
 #[derive(Drop)]
 pub(crate) struct TextWalk<'l> {
     pub(crate) noting: Noting<'l>,
     pub(crate) reader: Reader,
+    pub(crate) trail: Trail,
+}
+
+/// What is wanted of an excerpt: a value of a shape, for a declared place; and how many levels of tables and how many
+/// cells are left for it.
+#[derive(Clone, Copy)]
+pub(crate) struct Wanted {
+    pub(crate) shape: Shape,
+    pub(crate) place: Place,
+    pub(crate) levels: u8,
+    pub(crate) left: u32,
 }
 
 impl<'l> TextWalk<'l> {
+    /// The steps from the root to what was refused, if they were kept.
+    pub(crate) fn into_steps(self) -> Option<Vec<Step>> {
+        self.trail.into_steps()
+    }
+
     /// What it has noted.
     pub(crate) fn into_tape(self) -> Tape<'l>
         ensures { result ≡ self.entry.noting.tape }
@@ -53,41 +72,46 @@ pub(crate) fn note_excerpt(
     source: Source,
     walk: &mut TextWalk<'_>,
     excerpt: Excerpt<'_>,
-    shape: Shape,
-    place: Place,
-    levels: u8,
-    left: u32,
+    wanted: Wanted,
 ) -> Result<Result<u32, JsonFault>, Unread>
     requires layout { walk.old.noting.tape.layout ≡ source.layout.now }
     requires whole { walk.old.noting.tape.unfinished ≡ [] }
-    requires part { IsPart source.layout.now (stored_shape source.layout.now.schema shape) }
+    requires part { IsPart source.layout.now (stored_shape source.layout.now.schema wanted.shape) }
     requires brackets { excerpt.brackets ≤ 127 }
     ensures noted { let L = source.entry.layout.now in IfOk result (λ found. (t : Data)
         × IsReadAs excerpt.entry.brackets excerpt.entry.text.now t
-        × IsNotedOr L (stored_shape L.schema shape) (meant L source.entry.unknown t shape place levels left)
+        × IsNotedOr L (stored_shape L.schema wanted.shape)
+        (meant L source.entry.unknown t wanted.shape wanted.place wanted.levels wanted.left)
         walk.old.noting.tape walk.new.noting.tape found) }
     ensures opened { IfOk result (λ found. OnOk found (walk.new.noting.opened ≡ walk.old.noting.opened)) }
 {
-    if walk.reader.is_long(excerpt) {
-        match shape {
-            Shape::Many(kind) => {
-                let elements = Elements {
-                    kind,
-                    place,
-                    levels,
-                };
-                if is_reference(Shape::One(kind)) {
-                    return note_runs(source, walk, excerpt, elements, left);
-                }
-                return note_number_runs(source, walk, excerpt, elements, left);
-            }
-            Shape::One(Kind::Table(owner)) => {
-                return note_members(source, walk, excerpt, owner, place, levels, left);
-            }
-            _ => {}
-        }
+    if !walk.reader.is_long(excerpt) {
+        return note_at_once(source, walk, excerpt, wanted);
     }
-    note_at_once(source, walk, excerpt, shape, place, levels, left)
+    let Wanted {
+        shape,
+        place,
+        levels,
+        left,
+    } = wanted;
+    match shape {
+        Shape::Many(kind) => {
+            let elements = Elements {
+                kind,
+                place,
+                levels,
+            };
+            if is_reference(Shape::One(kind)) {
+                note_runs(source, walk, excerpt, elements, left)
+            } else {
+                note_number_runs(source, walk, excerpt, elements, left)
+            }
+        }
+        Shape::One(Kind::Table(owner)) => {
+            note_members(source, walk, excerpt, owner, place, levels, left)
+        }
+        _ => note_at_once(source, walk, excerpt, wanted),
+    }
 }
 
 /// The same where the excerpt is read at once.
@@ -95,28 +119,26 @@ pub(crate) fn note_at_once(
     source: Source,
     walk: &mut TextWalk<'_>,
     excerpt: Excerpt<'_>,
-    shape: Shape,
-    place: Place,
-    levels: u8,
-    left: u32,
+    wanted: Wanted,
 ) -> Result<Result<u32, JsonFault>, Unread>
     requires layout { walk.old.noting.tape.layout ≡ source.layout.now }
     requires whole { walk.old.noting.tape.unfinished ≡ [] }
-    requires part { IsPart source.layout.now (stored_shape source.layout.now.schema shape) }
+    requires part { IsPart source.layout.now (stored_shape source.layout.now.schema wanted.shape) }
     requires brackets { excerpt.brackets ≤ 127 }
     ensures noted { let L = source.entry.layout.now in IfOk result (λ found. (t : Data)
         × IsReadAs excerpt.entry.brackets excerpt.entry.text.now t
-        × IsNotedOr L (stored_shape L.schema shape) (meant L source.entry.unknown t shape place levels left)
+        × IsNotedOr L (stored_shape L.schema wanted.shape)
+        (meant L source.entry.unknown t wanted.shape wanted.place wanted.levels wanted.left)
         walk.old.noting.tape walk.new.noting.tape found) }
     ensures opened { IfOk result (λ found. OnOk found (walk.new.noting.opened ≡ walk.old.noting.opened)) }
 {
-    if let Shape::One(Kind::Text) = shape {
+    if let Shape::One(Kind::Text) = wanted.shape {
         return match walk.reader.string(excerpt.text)? {
-            Some(text) => note_string(source, &mut walk.noting, text, shape, place, levels, left),
-            None => note_in_brackets(source, walk, excerpt, shape, place, levels, left),
+            Some(text) => note_string(source, &mut walk.noting, text, wanted),
+            None => note_in_brackets(source, walk, excerpt, wanted),
         };
     }
-    note_in_brackets(source, walk, excerpt, shape, place, levels, left)
+    note_in_brackets(source, walk, excerpt, wanted)
 }
 
 /// The same where it is read in brackets.
@@ -124,31 +146,53 @@ fn note_in_brackets(
     source: Source,
     walk: &mut TextWalk<'_>,
     excerpt: Excerpt<'_>,
-    shape: Shape,
-    place: Place,
-    levels: u8,
-    left: u32,
+    wanted: Wanted,
 ) -> Result<Result<u32, JsonFault>, Unread>
     requires layout { walk.old.noting.tape.layout ≡ source.layout.now }
     requires whole { walk.old.noting.tape.unfinished ≡ [] }
-    requires part { IsPart source.layout.now (stored_shape source.layout.now.schema shape) }
+    requires part { IsPart source.layout.now (stored_shape source.layout.now.schema wanted.shape) }
     requires brackets { excerpt.brackets ≤ 127 }
     ensures noted { let L = source.entry.layout.now in IfOk result (λ found. (t : Data)
         × IsReadAs excerpt.entry.brackets excerpt.entry.text.now t
-        × IsNotedOr L (stored_shape L.schema shape) (meant L source.entry.unknown t shape place levels left)
+        × IsNotedOr L (stored_shape L.schema wanted.shape)
+        (meant L source.entry.unknown t wanted.shape wanted.place wanted.levels wanted.left)
         walk.old.noting.tape walk.new.noting.tape found) }
     ensures opened { IfOk result (λ found. OnOk found (walk.new.noting.opened ≡ walk.old.noting.opened)) }
 {
-    if let Some(outline) = walk.reader.outline(excerpt, shape)? {
-        let noting = &mut walk.noting;
-        return unless_memory(note_part(source, noting, &outline, shape, place, levels, left));
+    if let Some(outline) = walk.reader.outline(excerpt, wanted.shape)? {
+        return note_wanted(source, walk, &outline, wanted);
     }
     text_is_read_without_brackets();
     let read = walk.reader.read(excerpt)?;
     let Some(tree) = innermost(&read, MOST_BRACKETS - excerpt.brackets) else {
         return Err(Unread::Piece);
     };
-    unless_memory(note_part(source, &mut walk.noting, tree, shape, place, levels, left))
+    note_wanted(source, walk, tree, wanted)
+}
+
+/// Notes what a tree gives for a reference, and returns the cells that are left, or its first fault.
+fn note_wanted(
+    source: Source,
+    walk: &mut TextWalk<'_>,
+    tree: &Json,
+    wanted: Wanted,
+) -> Result<Result<u32, JsonFault>, Unread>
+    requires layout { walk.old.noting.tape.layout ≡ source.layout.now }
+    requires whole { walk.old.noting.tape.unfinished ≡ [] }
+    requires part { IsPart source.layout.now (stored_shape source.layout.now.schema wanted.shape) }
+    ensures noted { let L = source.entry.layout.now in IfOk result (IsNotedOr L (stored_shape L.schema wanted.shape)
+        (meant L source.entry.unknown (tree_view tree.now) wanted.shape wanted.place wanted.levels wanted.left)
+        walk.old.noting.tape walk.new.noting.tape) }
+    ensures opened { IfOk result (λ found. OnOk found (walk.new.noting.opened ≡ walk.old.noting.opened)) }
+{
+    let Wanted {
+        shape,
+        place,
+        levels,
+        left,
+    } = wanted;
+    let found = note_part(source, &mut walk.noting, tree, shape, place, levels, left);
+    traced(source, &mut walk.trail, tree, wanted, found)
 }
 
 /// Notes what a string gives for a reference of this shape, and returns the cells that are left, or its fault.
@@ -156,18 +200,21 @@ fn note_string(
     source: Source,
     noting: &mut Noting<'_>,
     text: &str,
-    shape: Shape,
-    place: Place,
-    levels: u8,
-    left: u32,
+    wanted: Wanted,
 ) -> Result<Result<u32, JsonFault>, Unread>
     requires layout { noting.old.tape.layout ≡ source.layout.now }
     requires whole { noting.old.tape.unfinished ≡ [] }
-    requires part { IsPart source.layout.now (stored_shape source.layout.now.schema shape) }
-    ensures noted { let L = source.entry.layout.now in IfOk result (IsNotedOr L (stored_shape L.schema shape)
-        (meant L source.entry.unknown (string text.now) shape place levels left) noting.old.tape noting.new.tape) }
+    requires part { IsPart source.layout.now (stored_shape source.layout.now.schema wanted.shape) }
+    ensures noted { let L = source.entry.layout.now in IfOk result (IsNotedOr L (stored_shape L.schema wanted.shape)
+        (meant L source.entry.unknown (string text.now) wanted.shape wanted.place wanted.levels wanted.left) noting.old.tape noting.new.tape) }
     ensures opened { IfOk result (λ found. OnOk found (noting.new.opened ≡ noting.old.opened)) }
 {
     let tree = Json::String(String::from_str(source.alloc, text)?);
+    let Wanted {
+        shape,
+        place,
+        levels,
+        left,
+    } = wanted;
     unless_memory(note_part(source, noting, &tree, shape, place, levels, left))
 }

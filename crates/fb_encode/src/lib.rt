@@ -9,13 +9,16 @@ mod numbers;
 mod objects;
 mod outlines;
 mod parts;
+mod paths;
 mod reader;
 mod slot_texts;
 mod stand_ins;
+mod steps;
 mod tables;
 mod texts;
 mod trees;
 mod vectors;
 
 pub use faults::{EncodeFault, TextFault};
-pub use texts::{encode_owned_text, encode_text};
+pub use paths::text_fault_path;
+pub use texts::{PIECE, encode_text, plan_text};

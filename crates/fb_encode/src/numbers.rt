@@ -16,6 +16,7 @@ use crate::elements::{Elements, push_elements};
 use crate::excerpts::{TextWalk, note_at_once, unless_memory};
 use crate::reader::{Excerpt, MOST_BRACKETS, Reader, Unread, innermost_elements};
 use crate::stand_ins::stand_in;
+use crate::steps::trace_elements;
 use crate::vectors::{Found, elements_of, left_for};
 use fb_json::{JsonFault, Source};
 use fb_pieces::{
@@ -23,7 +24,6 @@ use fb_pieces::{
     text_is_read_without_brackets,
 };
 use fb_schema::{Kind, Shape};
-use fb_tape::Tape;
 use serde_json::Value as Json;
 
 /// Notes a vector of numbers or structs, and returns the cells that are left, or the first fault of the excerpt.
@@ -49,28 +49,16 @@ pub(crate) fn note_number_runs(
         walk.old.noting.tape walk.new.noting.tape found) }
     ensures opened { IfOk result (λ found. OnOk found (walk.new.noting.opened ≡ walk.old.noting.opened)) }
 {
-    let Elements {
-        kind,
-        place,
-        levels,
-    } = elements;
     cut_array_is_read();
     cut_array_is_utf8();
     let Some(cut) = cut_array(source.alloc, excerpt.text, excerpt.at, &walk.reader.cuts)? else {
-        return note_at_once(
-            source,
-            walk,
-            excerpt,
-            Shape::Many(kind),
-            place,
-            levels,
-            left,
-        );
+        return note_at_once(source, walk, excerpt, elements.vector(left));
     };
+    let kind = elements.kind;
     let runs = cut.as_slice();
     let count = elements_of(runs);
     let mut found = Found {
-        left: left_for(count, place, left),
+        left: left_for(count, elements.place, left),
         count: 0,
     };
     walk.noting.tape.open_vector(kind, count)?;
@@ -115,7 +103,7 @@ fn push_run(
     text_is_read_without_brackets();
     elements_make_the_array();
     if let Some(tree) = lone_stand_in(source, &mut walk.reader, array, run, elements.kind)? {
-        return push_trees(source, &mut walk.noting.tape, &[tree], elements, found);
+        return push_trees(source, walk, &[tree], elements, found);
     }
     let text = &array.text[run.elements.start..run.elements.end];
     let brackets = MOST_BRACKETS - array.brackets;
@@ -123,7 +111,7 @@ fn push_run(
     let Some(trees) = innermost_elements(&read, brackets) else {
         return Err(Unread::Piece);
     };
-    push_trees(source, &mut walk.noting.tape, trees, elements, found)
+    push_trees(source, walk, trees, elements, found)
 }
 
 /// The tree in the place of a run's one element, if there is one.
@@ -156,18 +144,19 @@ fn lone_stand_in(
 /// Adds elements that are trees to the vector that was begun. Behind a fault they are only counted.
 fn push_trees(
     source: Source,
-    tape: &mut Tape<'_>,
+    walk: &mut TextWalk<'_>,
     trees: &[Json],
     elements: Elements,
     found: Found,
 ) -> Result<Found, Unread>
-    requires layout { OnOk found.left (tape.old.layout ≡ source.layout.now) }
+    requires layout { OnOk found.left (walk.old.noting.tape.layout ≡ source.layout.now) }
     requires inline { is_reference (one_of (stored_kind source.layout.now.schema elements.kind)) ≡ false }
     requires element { IsElement source.layout.now (stored_kind source.layout.now.schema elements.kind) }
     ensures added { let L = source.entry.layout.now in let stored = stored_kind L.schema elements.kind in
         IfOk result (λ now. IsRunAdded L stored (AddsInline L stored) (λ rest. items_meant L source.entry.unknown
         (items_view trees.now) elements.kind elements.place elements.levels rest) (length trees.now)
-        tape.old tape.new found.left now.left) }
+        walk.old.noting.tape walk.new.noting.tape found.left now.left) }
+    ensures opened { IfOk result (λ now. OnOk now.left (walk.new.noting.opened ≡ walk.old.noting.opened)) }
     ensures counted { IfOk result (λ now. now.count ≡ found.count + length trees.now) }
 {
     let Some(count) = found.count.checked_add(trees.len()) else {
@@ -184,7 +173,11 @@ fn push_trees(
         place,
         levels,
     } = elements;
+    let tape = &mut walk.noting.tape;
     let added = push_elements(source, tape, trees, kind, place, levels, left);
+    if added.is_err() {
+        trace_elements(source, &mut walk.trail, trees, elements, found.count, left)?;
+    }
     Ok(Found {
         left: unless_memory(added)?,
         count,

@@ -21,12 +21,13 @@ ghost use Rattle.fb_encode.specs.TextsRead.{IsNotedOr, IsRead, IsReadAs};
 ghost use Rattle.fb_encode.specs.TreesNoted.{IsPart, IsSlot};
 
 use crate::entries::{SlotRead, note_slot};
-use crate::excerpts::{TextWalk, note_at_once, note_excerpt};
+use crate::excerpts::{TextWalk, Wanted, note_at_once, note_excerpt};
 use crate::outlines::container_of;
 use crate::reader::{Excerpt, MOST_BRACKETS, Unread, innermost};
 use crate::slot_texts::{SlotTexts, members_of, pass_by_text, texts_by_slot};
 use crate::stand_ins::stand_in;
-use fb_json::{JsonFault, Place, Source, code_of_slot, is_absent};
+use crate::steps::{after_step, trace_member};
+use fb_json::{JsonFault, Place, Room, Source, Step, code_of_slot, is_absent};
 use fb_layout::layout_is_well_made;
 use fb_pieces::{cut_object_is_read, cut_object_is_utf8, text_is_read_without_brackets};
 use fb_schema::{Kind, Shape, TypeId};
@@ -92,8 +93,13 @@ pub(crate) fn note_members(
     ensures opened { IfOk result (λ found. OnOk found (walk.new.noting.opened ≡ walk.old.noting.opened)) }
 {
     let Some(members) = members_of(source.alloc, excerpt, &walk.reader.cuts)? else {
-        let shape = Shape::One(Kind::Table(owner));
-        return note_at_once(source, walk, excerpt, shape, place, levels, left);
+        let wanted = Wanted {
+            shape: Shape::One(Kind::Table(owner)),
+            place,
+            levels,
+            left,
+        };
+        return note_at_once(source, walk, excerpt, wanted);
     };
     layout_is_well_made(source.layout);
     let slots = source.layout.slots_of(owner);
@@ -128,7 +134,7 @@ pub(crate) fn note_members(
     Ok(Ok(behind.left))
 }
 
-/// Notes the next slot of a table behind what was found before: what is found now. Behind a fault its text is only
+/// Notes the next slot of a table after what was found before: what is found now. After a fault its text is only
 /// read.
 #[cycle(reads)]
 fn note_next(
@@ -151,14 +157,41 @@ fn note_next(
         → seen (field_seen slot.entry.field.now).name ≡ text_found L source.entry.unknown text.entry)
         → IfOk result (IsNextNoted L seen slot.entry (levels - 1) found walk.old.noting walk.new.noting) }
 {
-    layout_is_well_made(source.layout);
-    let behind = match found {
-        Ok(behind) => behind,
+    match found {
+        Ok(behind) => {
+            let noted = note_slot_text(source, walk, slot, text, behind, levels)?;
+            after_step(&mut walk.trail, Step::Slot(slot.owner, slot.number), noted)
+        }
         Err(fault) => {
             pass_by_text(&mut walk.reader, text)?;
-            return Ok(Err(fault));
+            Ok(Err(fault))
         }
-    };
+    }
+}
+
+/// Notes a slot of a table whose member has this text, or which has none.
+#[cycle(reads)]
+fn note_slot_text(
+    source: Source,
+    walk: &mut TextWalk<'_>,
+    slot: SlotRead<'_>,
+    text: Option<Excerpt<'_>>,
+    behind: Behind,
+    levels: u8,
+) -> Result<Result<Behind, JsonFault>, Unread>
+    requires layout { walk.old.noting.tape.layout ≡ source.layout.now }
+    requires whole { walk.old.noting.tape.unfinished ≡ [] }
+    requires levels { 0 < levels }
+    requires slot { IsSlot source.layout.now slot.owner.0 slot.number (slot_seen source.layout.now slot.field.now) }
+    requires marks { MarksFit source.layout.now.schema (field_seen slot.field.now) slot.field.now.shape }
+    requires brackets { IfSome text (λ e. e.brackets ≤ 127) }
+    requires old { slot.field.now.deprecated ≡ true → text ≡ None }
+    ensures read { OnOk result (IfSome text.entry (λ e. IsRead e.brackets e.text.now)) }
+    ensures noted { let L = source.entry.layout.now in (seen : Look) → (slot.entry.field.now.deprecated ≡ false
+        → seen (field_seen slot.entry.field.now).name ≡ text_found L source.entry.unknown text.entry)
+        → IfOk result (IsSlotNotedOr L seen slot.entry (levels - 1) behind walk.old.noting walk.new.noting) }
+{
+    layout_is_well_made(source.layout);
     let Some(text) = text else {
         if slot.field.deprecated || is_absent(slot.field, None) {
             return Ok(Ok(behind));
@@ -170,7 +203,7 @@ fn note_next(
     }
     if let Shape::One(Kind::Union(union)) = slot.field.shape {
         if walk.reader.is_long(text) && is_bracketed(text.text) {
-            return note_member(source, walk, slot, union, text, behind, levels);
+            return note_union(source, walk, slot, union, text, behind, levels);
         }
     }
     if let Some(tree) = stand_in(source, &mut walk.reader, text, slot.field.shape)? {
@@ -226,7 +259,14 @@ fn note_tree(
     match note_slot(source, noting, slot, tree, levels - 1, behind.left) {
         Ok(left) => Ok(Ok(Behind { code, left })),
         Err(JsonFault::Memory) => Err(Unread::Memory),
-        Err(fault) => Ok(Err(fault)),
+        Err(fault) => {
+            let room = Room {
+                levels: levels - 1,
+                left: behind.left,
+            };
+            trace_member(source, &mut walk.trail, slot, tree, room)?;
+            Ok(Err(fault))
+        }
     }
 }
 
@@ -252,8 +292,13 @@ fn note_reference(
         ≡ text_found L source.entry.unknown (Some text.entry)
         → IfOk result (IsSlotNotedOr L seen slot.entry (levels - 1) behind walk.old.noting walk.new.noting) }
 {
-    let (place, shape) = (slot.place(), slot.field.shape);
-    match note_excerpt(source, walk, text, shape, place, levels - 1, behind.left)? {
+    let wanted = Wanted {
+        shape: slot.field.shape,
+        place: slot.place(),
+        levels: levels - 1,
+        left: behind.left,
+    };
+    match note_excerpt(source, walk, text, wanted)? {
         Ok(left) => {
             walk.noting.opened.push_reference(slot.number)?;
             Ok(Ok(Behind {
@@ -265,9 +310,9 @@ fn note_reference(
     }
 }
 
-/// Notes a union's member that is long, and is read in pieces under the table that its code names.
+/// Notes a union whose member is long, and is read in pieces under the table that its code names.
 #[cycle(reads)]
-fn note_member(
+fn note_union(
     source: Source,
     walk: &mut TextWalk<'_>,
     slot: SlotRead<'_>,
@@ -296,8 +341,13 @@ fn note_member(
         return Ok(Err(JsonFault::UnionMismatch(place)));
     };
     walk.noting.opened.push_code(slot.number - 1, code)?;
-    let shape = Shape::One(Kind::Table(table));
-    match note_excerpt(source, walk, text, shape, place, levels - 1, behind.left)? {
+    let wanted = Wanted {
+        shape: Shape::One(Kind::Table(table)),
+        place,
+        levels: levels - 1,
+        left: behind.left,
+    };
+    match note_excerpt(source, walk, text, wanted)? {
         Ok(left) => {
             walk.noting.opened.push_reference(slot.number)?;
             Ok(Ok(Behind { code, left }))

@@ -5,17 +5,16 @@ ghost use Rattle.fb_value.specs.Datum.{Datum};
 ghost use Rattle.fb_tape.specs.Tapes.{Waits};
 ghost use Rattle.fb_build.specs.NotedRoots.{NotesRoot};
 ghost use Rattle.fb_layout.specs.Laid.{LaidSchema};
-ghost use Rattle.fb_encode.specs.TextsEncoded.{IsTextEncoded, IsTextNoted, IsUnnoted, IsUnread, TextRefused};
-ghost use Rattle.fb_encode.specs.TextsEncoded.{first_fault};
+ghost use Rattle.fb_encode.specs.TextsEncoded.{IsOfTheText, IsTextEncoded, IsTextNoted, IsTextPlanned, IsUnnoted};
+ghost use Rattle.fb_encode.specs.TextsEncoded.{IsUnread, TextRefused, first_fault};
 ghost use Rattle.fb_encode.specs.TextsRead.{IsRead};
 
-use crate::excerpts::{TextWalk, note_excerpt};
+use crate::excerpts::{TextWalk, Wanted, note_excerpt};
 use crate::faults::{EncodeFault, TextFault};
 use crate::reader::{Excerpt, MOST_BRACKETS, Reader, Unread};
-use crate::trees::{lay_noted, note_root};
-use fb_build::Noting;
-use fb_json::{JsonFault, Place, Source, first_fault_refuses, only_what_is_meant};
-use fb_layout::Layout;
+use crate::trees::{note_root, plan_noted};
+use fb_build::{Noting, TapePlan};
+use fb_json::{JsonFault, Place, Source, Trail, first_fault_refuses, only_what_is_meant};
 use fb_pieces::is_json_at;
 use fb_schema::{Kind, Shape};
 use fb_tape::Tape;
@@ -23,6 +22,10 @@ use fb_value::Limits;
 use json::Scratch;
 use serde_json::Value as Json;
 use std::alloc::Global;
+
+/// Longer texts are read in pieces of so many bytes. Of a longer piece the tree of `serde_json` doesn't fit into a
+/// processor's nearer caches any more, and each piece costs a call.
+pub const PIECE: usize = 16_384;
 
 /// The fault of a text whose first fault this is.
 fn first_fault(fault: JsonFault) -> TextFault
@@ -35,7 +38,7 @@ fn first_fault(fault: JsonFault) -> TextFault
 }
 
 /// Why the value of a text isn't noted from its pieces.
-enum Unnoted {
+pub(crate) enum Unnoted {
     /// This is the text's fault.
     Fault(TextFault),
     /// A piece isn't JSON on its own.
@@ -55,7 +58,7 @@ impl From<Unread> for Unnoted {
 }
 
 /// Notes the value that a text means, which is read in pieces, on a tape of nothing.
-fn note_pieces(
+pub(crate) fn note_pieces(
     source: Source,
     walk: &mut TextWalk<'_>,
     json: &[u8],
@@ -82,13 +85,35 @@ fn note_pieces(
         brackets: MOST_BRACKETS,
         at: 0,
     };
-    let shape = Shape::One(Kind::Table(root));
-    let levels = limits.most_depth();
-    let cells = limits.most_cells();
-    match note_excerpt(source, walk, excerpt, shape, place, levels, cells)? {
+    let wanted = Wanted {
+        shape: Shape::One(Kind::Table(root)),
+        place,
+        levels: limits.most_depth(),
+        left: limits.most_cells(),
+    };
+    match note_excerpt(source, walk, excerpt, wanted)? {
         Ok(_left) => Ok(()),
         Err(fault) => Err(Unnoted::Fault(first_fault(fault))),
     }
+}
+
+/// A walk over a text that is read in pieces, which has noted nothing yet.
+pub(crate) fn walk_over<'l>(
+    source: Source<'l>,
+    json: &[u8],
+    piece: usize,
+    trail: Trail,
+) -> Result<TextWalk<'l>, Unread>
+    ensures layout { IfOk result (λ walk. walk.noting.tape.layout ≡ source.entry.layout.now) }
+    ensures waits { IfOk result (λ walk. Waits walk.noting.tape []) }
+    ensures whole { IfOk result (λ walk. walk.noting.tape.unfinished ≡ []) }
+    ensures room { IfOk result (λ walk. walk.noting.tape.room ≡ 0) }
+{
+    Ok(TextWalk {
+        reader: Reader::over(source.alloc, json, piece)?,
+        noting: Noting::new(source.alloc, source.layout),
+        trail,
+    })
 }
 
 /// A tape on which the value is noted that a text means, which is read in pieces.
@@ -101,11 +126,7 @@ fn note_in_pieces<'l>(
     ensures noted { IfOk result (IsTextNoted source.entry.layout.now limits source.entry.unknown json.now) }
     ensures refused { IfErr result (IsUnnoted source.entry.layout.now limits source.entry.unknown json.now) }
 {
-    let reader = Reader::over(source.alloc, json, piece)?;
-    let mut walk = TextWalk {
-        noting: Noting::new(source.alloc, source.layout),
-        reader,
-    };
+    let mut walk = walk_over(source, json, piece, Trail::unkept())?;
     note_pieces(source, &mut walk, json, limits)?;
     Ok(walk.into_tape())
 }
@@ -136,7 +157,9 @@ fn note_at_once<'l>(source: Source<'l>, json: &[u8], limits: Limits) -> Result<T
 }
 
 /// Checks that a text is JSON, without a tree.
-fn check_json(alloc: Global, json: &[u8]) -> Result<(), TextFault>
+// Its scratch is large, and no caller is to have it in its own frame.
+#[inline(never)]
+pub(crate) fn check_json(alloc: Global, json: &[u8]) -> Result<(), TextFault>
     ensures refused { IfErr result (λ f. (L : LaidSchema) (most : Bounds) (unknown : Bool)
         → IsUnread L most unknown json.now f) }
     ensures json { OnOk result (IsRead 127 json.now) }
@@ -169,29 +192,22 @@ fn note_text<'l>(
     note_at_once(source, json, limits)
 }
 
-/// The buffer of a text whose value is noted.
-fn lay_text<'l>(
-    alloc: Global,
-    layout: &'l Layout,
-    noted: Result<Tape<'l>, TextFault>,
+/// The plan of the buffer of a text whose value is noted.
+fn plan_tape<'l>(
+    source: Source<'l>,
+    tape: Tape<'l>,
     prefixed: bool,
-) -> Result<Vec<u8>, TextFault>
-    requires { IfOk noted (λ tape. (d : Datum) × NotesRoot layout.now tape d) }
-    ensures encoded { (most : Bounds) (unknown : Bool) (json : List ℕ)
-        → IfOk noted.entry (IsTextNoted layout.now most unknown json)
-        → IfOk result (λ b. IsTextEncoded prefixed layout.now most unknown json b.items) }
-    ensures refused { (most : Bounds) (unknown : Bool) (json : List ℕ)
-        → IfOk noted.entry (IsTextNoted layout.now most unknown json)
-        → IfErr noted.entry (IsUnread layout.now most unknown json)
-        → IfErr result (TextRefused prefixed layout.now most unknown json) }
+) -> Result<TapePlan<'l>, TextFault>
+    requires { (d : Datum) × NotesRoot source.layout.now tape d }
+    ensures planned { let L = source.entry.layout.now in (most : Bounds) (unknown : Bool) (json : List ℕ)
+        → IsTextNoted L most unknown json tape.entry → IfOk result (IsTextPlanned prefixed L most unknown json) }
+    ensures refused { let L = source.entry.layout.now in (most : Bounds) (unknown : Bool) (json : List ℕ)
+        → IsTextNoted L most unknown json tape.entry → IfErr result (TextRefused prefixed L most unknown json) }
+    ensures buffer { IfErr result (λ fault. ¬ IsOfTheText fault) }
 {
-    let tape = match noted {
-        Ok(tape) => tape,
-        Err(fault) => return Err(fault),
-    };
-    match lay_noted(alloc, layout, tape, prefixed) {
-        Ok(bytes) => Ok(bytes),
-        Err(fault) => Err(TextFault::Encode(fault)),
+    match plan_noted(source, tape, prefixed) {
+        Ok(plan) => Ok(plan),
+        Err(fault) => Err(TextFault::Encode(EncodeFault::Build(fault))),
     }
 }
 
@@ -201,46 +217,48 @@ fn lay_text<'l>(
 /// read. Which they are changes nothing of the result. The error is that of the text, then that of its first fault, and
 /// then that of the value's size. A `prefixed` buffer has the count of its bytes in front.
 pub fn encode_text(
-    alloc: Global,
-    layout: &Layout,
+    source: Source,
     json: &[u8],
     limits: Limits,
-    unknown: bool,
     piece: usize,
     prefixed: bool,
 ) -> Result<Vec<u8>, TextFault>
-    ensures encoded { IfOk result (λ b. IsTextEncoded prefixed layout.now limits unknown json.now b.items) }
-    ensures refused { IfErr result (TextRefused prefixed layout.now limits unknown json.now) }
+    ensures encoded { IfOk result (λ b. IsTextEncoded prefixed source.entry.layout.now limits source.entry.unknown
+        json.now b.items) }
+    ensures refused { IfErr result (TextRefused prefixed source.entry.layout.now limits source.entry.unknown json.now) }
 {
-    let source = Source {
-        alloc,
-        layout,
-        unknown,
+    let tape = match note_text(source, json, limits, piece) {
+        Ok(tape) => tape,
+        Err(fault) => return Err(fault),
     };
-    let noted = note_text(source, json, limits, piece);
-    lay_text(alloc, layout, noted, prefixed)
+    match plan_tape(source, tape, prefixed) {
+        Ok(plan) => Ok(plan.finish()),
+        Err(fault) => Err(fault),
+    }
 }
 
-/// The same of a JSON text that is given away, and dropped before memory for the buffer is taken.
-pub fn encode_owned_text(
-    alloc: Global,
-    layout: &Layout,
-    json: Vec<u8>,
+/// The plan by which the bytes are laid that `encode_text` returns, with all the memory that this takes.
+///
+/// The JSON text is freed once its value is noted, before memory for the buffer is taken. A text that is refused stays
+/// as it is: one that isn't JSON, or whose meaning breaks a rule.
+pub fn plan_text<'l>(
+    source: Source<'l>,
+    json: &mut Vec<u8>,
     limits: Limits,
-    unknown: bool,
     piece: usize,
     prefixed: bool,
-) -> Result<Vec<u8>, TextFault>
-    ensures encoded { IfOk result (λ b. IsTextEncoded prefixed layout.now limits unknown json.items b.items) }
-    ensures refused { IfErr result (TextRefused prefixed layout.now limits unknown json.items) }
+) -> Result<TapePlan<'l>, TextFault>
+    ensures planned { IfOk result (IsTextPlanned prefixed source.entry.layout.now limits source.entry.unknown
+        json.old.items) }
+    ensures refused { IfErr result (TextRefused prefixed source.entry.layout.now limits source.entry.unknown
+        json.old.items) }
+    ensures kept { IfErr result (λ f. IsOfTheText f → json.new.items ≡ json.old.items) }
 {
-    let source = Source {
-        alloc,
-        layout,
-        unknown,
+    let tape = match note_text(source, json.as_slice(), limits, piece) {
+        Ok(tape) => tape,
+        Err(fault) => return Err(fault),
     };
-    let noted = note_text(source, json.as_slice(), limits, piece);
     // Its memory is free before that of the buffer is allocated.
-    drop(json);
-    lay_text(alloc, layout, noted, prefixed)
+    *json = Vec::new(source.alloc);
+    plan_tape(source, tape, prefixed)
 }

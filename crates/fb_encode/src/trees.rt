@@ -5,21 +5,21 @@ ghost use Rattle.serde_json.specs.Data.{Data};
 ghost use Rattle.serde_json.specs.View.{view as tree_view};
 ghost use Rattle.fb_value.specs.Bounds.{Bounds};
 ghost use Rattle.fb_value.specs.Datum.{Datum};
+ghost use Rattle.fb_value.specs.Num.{Bytes};
 ghost use Rattle.fb_tape.specs.Tapes.{Waits};
 ghost use Rattle.fb_json.specs.Refuses.{IsFirst, MayLackMemory};
 ghost use Rattle.fb_build.specs.NotedRoots.{NotesRoot};
+ghost use Rattle.fb_build.specs.Planned.{IsLaidBy};
 ghost use Rattle.fb_encode.specs.Encoded.{EncodeRefusedFramed, IsEncodedFramed};
 ghost use Rattle.fb_encode.specs.RootsNoted.{IsRootNoted};
+ghost use Rattle.fb_encode.specs.declared.faults.EncodeFault.TheVariants.{Build};
 
-use crate::faults::EncodeFault;
 use crate::parts::note_object;
-use fb_build::{Noting, lay_root};
+use fb_build::{BuildFault, Noting, TapePlan, plan_root};
 use fb_json::{JsonFault, Place, Source, only_what_is_meant};
-use fb_layout::Layout;
 use fb_tape::Tape;
 use fb_value::Limits;
 use serde_json::Value as Json;
-use std::alloc::Global;
 
 /// The tape with the value that a tree means under the root table, where nothing was noted yet.
 pub(crate) fn note_root<'l>(
@@ -55,22 +55,23 @@ pub(crate) fn note_root<'l>(
     }
 }
 
-/// The bytes of the value that is noted on a tape, as the root's; the count of those of a `prefixed` buffer is
-/// in front.
-pub(crate) fn lay_noted<'l>(
-    alloc: Global,
-    layout: &'l Layout,
+/// The plan of the buffer of the value that is noted on a tape, as the root's. A `prefixed` buffer has the count of its
+/// bytes in front.
+pub(crate) fn plan_noted<'l>(
+    source: Source<'l>,
     tape: Tape<'l>,
     prefixed: bool,
-) -> Result<Vec<u8>, EncodeFault>
-    requires { (d : Datum) × NotesRoot layout.now tape d }
-    ensures encoded { (most : Bounds) (unknown : Bool) (t : Data) → IsRootNoted layout.now most unknown t tape.entry
-        → IfOk result (λ b. IsEncodedFramed prefixed layout.now most unknown t b.items) }
-    ensures refused { (most : Bounds) (unknown : Bool) (t : Data) → IsRootNoted layout.now most unknown t tape.entry
-        → IfErr result (EncodeRefusedFramed prefixed layout.now most unknown t) }
+) -> Result<TapePlan<'l>, BuildFault>
+    requires { (d : Datum) × NotesRoot source.layout.now tape d }
+    ensures planned { let L = source.entry.layout.now in (most : Bounds) (unknown : Bool) (t : Data)
+        → IsRootNoted L most unknown t tape.entry
+        → IfOk result (λ plan. (b : Bytes) → IsLaidBy plan b → IsEncodedFramed prefixed L most unknown t b) }
+    ensures refused { let L = source.entry.layout.now in (most : Bounds) (unknown : Bool) (t : Data)
+        → IsRootNoted L most unknown t tape.entry
+        → IfErr result (λ fault. EncodeRefusedFramed prefixed L most unknown t (Build fault)) }
 {
-    match lay_root(alloc, layout, tape, prefixed) {
-        Ok(bytes) => Ok(bytes),
-        Err(fault) => Err(EncodeFault::Build(fault)),
+    match plan_root(source.alloc, source.layout, tape, prefixed) {
+        Ok(plan) => Ok(plan),
+        Err(fault) => Err(fault),
     }
 }

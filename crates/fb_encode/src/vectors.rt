@@ -15,13 +15,12 @@ use crate::elements::Elements;
 use crate::excerpts::{TextWalk, note_at_once, note_excerpt, unless_memory};
 use crate::parts::note_targets;
 use crate::reader::{Excerpt, MOST_BRACKETS, Unread, innermost_elements};
-use fb_build::Noting;
-use fb_json::{JsonFault, Place, Source};
+use crate::steps::{after_step, trace_elements};
+use fb_json::{JsonFault, Place, Source, Step};
 use fb_pieces::{
     Run, cut_array, cut_array_is_read, cut_array_is_utf8, elements_make_the_array,
     text_is_read_without_brackets,
 };
-use fb_schema::{Kind, Shape};
 use serde_json::Value as Json;
 
 /// What was found of a vector's elements: the cells that are left, or the first fault, and how many elements there are.
@@ -74,28 +73,15 @@ pub(crate) fn note_runs(
         walk.old.noting.tape walk.new.noting.tape found) }
     ensures opened { IfOk result (λ found. OnOk found (walk.new.noting.opened ≡ walk.old.noting.opened)) }
 {
-    let Elements {
-        kind,
-        place,
-        levels,
-    } = elements;
     cut_array_is_read();
     cut_array_is_utf8();
     let Some(cut) = cut_array(source.alloc, excerpt.text, excerpt.at, &walk.reader.cuts)? else {
-        return note_at_once(
-            source,
-            walk,
-            excerpt,
-            Shape::Many(kind),
-            place,
-            levels,
-            left,
-        );
+        return note_at_once(source, walk, excerpt, elements.vector(left));
     };
     let runs = cut.as_slice();
     let count = elements_of(runs);
     let mut found = Found {
-        left: left_for(count, place, left),
+        left: left_for(count, elements.place, left),
         count: 0,
     };
     for run in runs {
@@ -107,7 +93,7 @@ pub(crate) fn note_runs(
     let Ok(left) = found.left else {
         return Ok(found.left);
     };
-    walk.noting.tape.push_references(kind, count)?;
+    walk.noting.tape.push_references(elements.kind, count)?;
     Ok(Ok(left))
 }
 
@@ -153,7 +139,7 @@ fn note_run(
     let Some(trees) = innermost_elements(&read, brackets) else {
         return Err(Unread::Piece);
     };
-    note_trees(source, &mut walk.noting, trees, elements, found)
+    note_trees(source, walk, trees, elements, found)
 }
 
 /// Notes a long element of a vector, behind what was found before. Behind a fault it is only read.
@@ -188,33 +174,32 @@ fn note_element(
             count,
         });
     };
-    let Elements {
-        kind,
-        place,
-        levels,
-    } = elements;
-    let left = note_excerpt(source, walk, excerpt, Shape::One(kind), place, levels, left)?;
-    Ok(Found { left, count })
+    let noted = note_excerpt(source, walk, excerpt, elements.element(left))?;
+    let step = Step::Element(found.count);
+    Ok(Found {
+        left: after_step(&mut walk.trail, step, noted)?,
+        count,
+    })
 }
 
 /// Notes elements of a vector that are trees, behind what was found before. Behind a fault they are only counted.
 fn note_trees(
     source: Source,
-    noting: &mut Noting<'_>,
+    walk: &mut TextWalk<'_>,
     trees: &[Json],
     elements: Elements,
     found: Found,
 ) -> Result<Found, Unread>
-    requires layout { OnOk found.left (noting.old.tape.layout ≡ source.layout.now) }
-    requires whole { OnOk found.left (noting.old.tape.unfinished ≡ []) }
+    requires layout { OnOk found.left (walk.old.noting.tape.layout ≡ source.layout.now) }
+    requires whole { OnOk found.left (walk.old.noting.tape.unfinished ≡ []) }
     requires element { IsElement source.layout.now (stored_kind source.layout.now.schema elements.kind) }
     requires reference { is_reference (one_of (stored_kind source.layout.now.schema elements.kind)) ≡ true }
     ensures noted { let L = source.entry.layout.now in IfOk result (λ now.
         IsRunNoted L (stored_kind L.schema elements.kind) (λ rest. items_meant L source.entry.unknown
         (items_view trees.now) elements.kind elements.place elements.levels rest) (length trees.now)
-        noting.old.tape noting.new.tape found.left now.left) }
+        walk.old.noting.tape walk.new.noting.tape found.left now.left) }
     ensures counted { IfOk result (λ now. now.count ≡ found.count + length trees.now) }
-    ensures opened { IfOk result (λ now. OnOk now.left (noting.new.opened ≡ noting.old.opened)) }
+    ensures opened { IfOk result (λ now. OnOk now.left (walk.new.noting.opened ≡ walk.old.noting.opened)) }
 {
     let Some(count) = found.count.checked_add(trees.len()) else {
         return Err(Unread::Piece);
@@ -230,7 +215,11 @@ fn note_trees(
         place,
         levels,
     } = elements;
+    let noting = &mut walk.noting;
     let noted = note_targets(source, noting, trees, kind, place, levels, left);
+    if noted.is_err() {
+        trace_elements(source, &mut walk.trail, trees, elements, found.count, left)?;
+    }
     Ok(Found {
         left: unless_memory(noted)?,
         count,

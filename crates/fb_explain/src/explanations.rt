@@ -8,8 +8,7 @@ use crate::memory::{layout_of, memory_use};
 use crate::schema_faults::push_schema_fault;
 use fb_build::BuildFault;
 use fb_explain_inputs::{
-    FileFailure, Lost, Sources, push_bad_json, push_buffer_fault, push_json_fault,
-    push_unnamed_member,
+    FileFailure, Sources, push_bad_json, push_buffer_fault, push_json_fault, push_unnamed_member,
 };
 use fb_explain_pages::{Page, Source};
 use fb_faults::ToolFault;
@@ -34,16 +33,6 @@ fn push_written(page: &mut Page, written: u64, failure: Option<FileFailure<'_>>)
         page.push_str(failure.reason);
     }
     page.end_line();
-}
-
-/// Adds why an input isn't shown.
-fn push_lost(page: &mut Page, path: &str, lost: Lost) {
-    page.push_str(path);
-    page.push_line(match lost {
-        Lost::Streamed =>
-            ": the text isn't shown, since it isn't a regular file that can be read again",
-        Lost::Changed => ": the text isn't shown, since the file has changed",
-    });
 }
 
 /// Adds what is wrong with a JSON text or a buffer under its schema.
@@ -95,13 +84,12 @@ fn push_problem(page: &mut Page, fault: ToolFault, sources: &Sources<'_>) {
 }
 
 fn push_explanation(page: &mut Page, fault: ToolFault, sources: &Sources<'_>) {
-    match (memory_use(fault), sources.lost) {
-        (Some(what), _) => {
+    match memory_use(fault) {
+        Some(what) => {
             page.push_str("memory ran out while ");
             page.push_line(what);
         }
-        (None, Some(lost)) => push_lost(page, sources.input.path, lost),
-        (None, None) => push_problem(page, fault, sources),
+        None => push_problem(page, fault, sources),
     }
 }
 

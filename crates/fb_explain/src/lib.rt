@@ -15,5 +15,5 @@ mod shifts;
 mod sides;
 
 pub use explanations::{explain, warnings};
-pub use fb_explain_inputs::{FileFailure, Lost, Sources};
+pub use fb_explain_inputs::{FileFailure, Sources};
 pub use fb_explain_pages::{COLUMNS, Position, Source, fault_page};

@@ -1,13 +1,12 @@
 //! What is wrong with a JSON text under a schema.
-use crate::json_names::is_unknown;
-use crate::json_places::{Name, element_offset, member_names, member_offset, rest_of};
+use crate::json_places::{Name, element_offset, member_offset, rest_of, unknown_member};
 use crate::json_rules::{BrokenValue, Found, push_rule};
 use crate::sources::Sources;
+use fb_encode::{PIECE, text_fault_path};
 use fb_explain_pages::{Page, push_excerpt, push_place};
-use fb_json::{JsonFault, Step, fault_path};
+use fb_json::{JsonFault, Source as JsonSource, Step};
 use fb_layout::Layout;
-use fb_schema::{TypeId, field_at};
-use serde_json::Value;
+use fb_schema::field_at;
 use std::alloc::{AllocError, Global};
 use std::str;
 
@@ -81,32 +80,27 @@ fn offset_of_path(
     })
 }
 
-/// The unknown member of an object that is reported: of the least name, and of members of one name the last.
-fn unknown_member<'n>(layout: &Layout, owner: TypeId, names: &'n [Name]) -> Option<&'n Name> {
-    let mut least: Option<&'n Name> = None;
-    for name in names {
-        let is_before = least.map_or(true, |least| name.text.as_str() <= least.text.as_str());
-        if is_before && is_unknown(layout.schema(), owner, name.text.as_str()) {
-            least = Some(name);
-        }
-    }
-    least
-}
-
-/// Where the value at a path's end is, and the names of the members there where one is unknown.
+/// Where the value at a path's end is, and the unknown member there that is reported.
 fn found_at(
     alloc: Global,
     layout: &Layout,
     text: &str,
     fault: JsonFault,
     steps: &[Step],
-) -> Result<(Vec<Name>, Found), AllocError> {
+) -> Result<(Option<Name>, Found), AllocError> {
     let found = offset_of_path(alloc, layout, text, steps)?;
-    let names = match fault {
-        JsonFault::UnknownMember(_) => member_names(alloc, rest_of(text, found.offset))?,
-        _ => Vec::new(alloc),
+    let unknown = match fault {
+        JsonFault::UnknownMember(place) => {
+            unknown_member(
+                alloc,
+                layout.schema(),
+                place.owner,
+                rest_of(text, found.offset),
+            )?
+        }
+        _ => None,
     };
-    Ok((names, found))
+    Ok((unknown, found))
 }
 
 fn push_at_path(
@@ -119,17 +113,13 @@ fn push_at_path(
     let Ok(text) = str::from_utf8(sources.input.bytes) else {
         return;
     };
-    let Some(place) = fault.place() else {
-        return;
-    };
     let found = found_at(page.alloc(), layout, text, fault, steps);
-    let Some((names, found)) = page.keep(found) else {
+    let Some((unknown, found)) = page.keep(found) else {
         return;
     };
-    let unknown = unknown_member(layout, place.owner, names.as_slice());
     let offset = found
         .offset
-        .saturating_add(unknown.map_or(0, |name| name.at));
+        .saturating_add(unknown.as_ref().map_or(0, |name| name.at));
     push_place(page, &sources.input, offset);
     if !steps.is_empty() {
         push_path(page, layout, steps);
@@ -140,36 +130,19 @@ fn push_at_path(
         is_there: found.is_there,
         is_element: matches!(steps.last(), Some(Step::Element(_))),
     };
-    let name = unknown.map(|name| name.text.as_str());
+    let name = unknown.as_ref().map(|name| name.text.as_str());
     push_rule(page, layout, sources.limits, fault, value, name);
     push_excerpt(page, sources.input.bytes, offset);
 }
 
-/// The tree of a JSON text; `None` where it has none, or memory runs out, which the page notes.
-fn tree_of(page: &mut Page, text: &[u8]) -> Option<Value> {
-    match Value::from_slice(page.alloc(), text) {
-        Ok(tree) => Some(tree),
-        Err(error) => {
-            if error.is_memory() {
-                page.run_out();
-            }
-            None
-        }
-    }
-}
-
 /// Adds what is wrong with a JSON text under a schema.
 pub fn push_json_fault(page: &mut Page, layout: &Layout, sources: &Sources<'_>, fault: JsonFault) {
-    let Some(tree) = tree_of(page, sources.input.bytes) else {
-        return;
-    };
-    let steps = fault_path(
-        page.alloc(),
+    let source = JsonSource {
+        alloc: page.alloc(),
         layout,
-        &tree,
-        sources.unknown_json,
-        sources.limits,
-    );
+        unknown: sources.unknown_json,
+    };
+    let steps = text_fault_path(source, sources.input.bytes, sources.limits, PIECE);
     if let Some(Some(steps)) = page.keep(steps) {
         push_at_path(page, layout, sources, fault, steps.as_slice());
     }

@@ -1,4 +1,6 @@
 //! Where a value is in a JSON text, by its path.
+use crate::json_names::is_unknown;
+use fb_schema::{Schema, TypeId};
 use json::{Reader, Scratch, Token};
 use std::alloc::{AllocError, Global};
 
@@ -74,35 +76,45 @@ pub(crate) struct Name {
     pub(crate) at: usize,
 }
 
-/// Adds the names of an object's members from its begin on.
-fn push_members(
+/// The unknown member of an object that is reported, from the object's begin on.
+fn least_unknown(
     alloc: Global,
     reader: &mut Reader<'_>,
     most: usize,
-    names: &mut Vec<Name>,
-) -> Result<(), AllocError> {
+    schema: &Schema,
+    owner: TypeId,
+) -> Result<Option<Name>, AllocError> {
+    let mut least: Option<Name> = None;
     if !matches!(reader.next(), Some(Token::BeginObject)) {
-        return Ok(());
+        return Ok(None);
     }
     for _ in 0..most {
         let at = reader.offset();
         let Ok(Some(key)) = reader.next_key() else {
             break;
         };
-        let text = String::from_str(alloc, key)?;
-        names.push(Name { text, at })?;
+        let is_before = least
+            .as_ref()
+            .map_or(true, |least| key <= least.text.as_str());
+        if is_before && is_unknown(schema, owner, key) {
+            let text = String::from_str(alloc, key)?;
+            least = Some(Name { text, at });
+        }
         if reader.skip_value(DEPTH).is_err() {
             break;
         }
     }
-    Ok(())
+    Ok(least)
 }
 
-/// The names of an object's members, in its order.
-pub(crate) fn member_names(alloc: Global, object: &str) -> Result<Vec<Name>, AllocError> {
+/// The unknown member of an object that is reported: of the least name, and of members of one name the last.
+pub(crate) fn unknown_member(
+    alloc: Global,
+    schema: &Schema,
+    owner: TypeId,
+    object: &str,
+) -> Result<Option<Name>, AllocError> {
     let mut scratch = Scratch::new(alloc);
     let mut reader = Reader::new(object, &mut scratch)?;
-    let mut names = Vec::new(alloc);
-    push_members(alloc, &mut reader, object.len(), &mut names)?;
-    Ok(names)
+    least_unknown(alloc, &mut reader, object.len(), schema, owner)
 }

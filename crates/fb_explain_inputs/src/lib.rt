@@ -19,5 +19,5 @@ mod union_paths;
 pub use bad_json::push_bad_json;
 pub use buffer_faults::push_buffer_fault;
 pub use json_faults::push_json_fault;
-pub use sources::{FileFailure, Lost, Sources};
+pub use sources::{FileFailure, Sources};
 pub use union_codes::push_unnamed_member;

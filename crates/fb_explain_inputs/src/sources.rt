@@ -9,15 +9,6 @@ pub struct FileFailure<'a> {
     pub reason: &'a str,
 }
 
-/// Why what was read of an input isn't there to be shown.
-#[derive(Clone, Copy)]
-pub enum Lost {
-    /// It came through a pipe or a device.
-    Streamed,
-    /// The file has changed since, or is gone.
-    Changed,
-}
-
 /// What a job was done with, as far as it had been read.
 #[derive(Clone, Copy)]
 pub struct Sources<'a> {
@@ -25,8 +16,6 @@ pub struct Sources<'a> {
     pub schema: Source<'a>,
     /// The JSON text, the buffer, or the new schema text.
     pub input: Source<'a>,
-    /// Why the input's bytes aren't there; `None` where they are.
-    pub lost: Option<Lost>,
     pub limits: Limits,
     /// Whether unknown JSON fields are ignored.
     pub unknown_json: bool,

@@ -71,7 +71,7 @@ pub record Reaches {A S : Type 0} (reader : ℕ → A → S → Result S JsonFau
 
 -- ---- slots
 
--- a slot: the code that it tells or passes on, and the cells that are left behind it
+-- a slot: the code that it tells or passes on, and the cells that are left after it
 abbrev pub slot_reader : LaidSchema → Look → ℕ → ℕ → ℕ → DeclaredField → ℕ × ℕ → Result (ℕ × ℕ) JsonFault
 slot_reader L look t levels k f s =
     code_after L.schema look (slot_place t k) s.0 f.deprecated f.name f.shape >>= λ c.
@@ -173,7 +173,7 @@ LeadsToFirst L most unknown t steps =
 
 -- ---- the walk
 
--- The same behind a first step to one of some parts.
+-- The same after a first step to one of some parts.
 abbrev pub IsFirstIn : LaidSchema → Bool → (Step → Spot → Type 0) → List Step → JsonFault → Type 0
 IsFirstIn L unknown To [] f = ⊥
 IsFirstIn L unknown To (step ∷ steps) f = (y : Spot) × To step y × IsFirstAt L unknown y steps f
@@ -183,4 +183,4 @@ abbrev pub Trails : {A : Type 0} → Result A JsonFault → Option (List Step) �
     → (List Step → JsonFault → Type 0) → Type 0
 Trails (Ok x) old new IsPath = new ≡ old
 Trails (Err f) old new IsPath =
-    f ≢ Memory → (steps : List Step) × (new ≡ option_map (λ behind. steps ++ behind) old) × IsPath steps f
+    f ≢ Memory → (steps : List Step) × (new ≡ option_map (λ rest. steps ++ rest) old) × IsPath steps f

@@ -24,7 +24,7 @@ use serde_json::Value as Json;
 
 /// A slot of a table, its place, and the code of the union whose value it has.
 #[derive(Clone, Copy)]
-pub(crate) struct TableSlot<'s> {
+pub struct TableSlot<'s> {
     pub field: &'s FieldInfo,
     pub place: Place,
     pub code: u8,

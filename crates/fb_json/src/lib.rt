@@ -26,6 +26,7 @@ mod tree;
 pub use absent::{is_absent, is_null, without};
 pub use codes::code_of_slot;
 pub use elements::{number_of, struct_parts};
+pub use entries::TableSlot;
 pub use faults::{JsonFault, Place};
 pub use flags::has_flags;
 pub use laws::{
@@ -33,9 +34,10 @@ pub use laws::{
     meant_is_whole, only_what_is_meant,
 };
 pub use leaves::text_of;
-pub use paths::fault_path;
+pub use paths::{fault_path, trace, trace_slot};
 pub use room::Room;
 pub use root::value_of;
 pub use slot_members::{SlotMembers, members_by_slot};
 pub use source::Source;
 pub use step::Step;
+pub use trail::Trail;

@@ -4,10 +4,10 @@ use crate::step::Step;
 use std::alloc::Global;
 use std::marker::Model;
 
-/// The steps from where a walk is to what was refused. Each level adds its step on the way out of a refusal; a trail
-/// that is not kept takes no memory.
+/// The steps from where a walk is to what was refused. Each level adds its step on the way out of a refusal. A trail
+/// that isn't kept takes no memory.
 #[derive(Drop)]
-pub(crate) struct Trail {
+pub struct Trail {
     // the last step first
     steps: Option<Vec<Step>>,
 }
@@ -26,14 +26,14 @@ impl Trail {
     ghost use Rattle.fb_json.specs.declared.faults.JsonFault.TheVariants.{Memory};
 
     /// A trail that is not kept.
-    pub(crate) fn unkept() -> Trail
+    pub fn unkept() -> Trail
         ensures { result ≡ None }
     {
         Trail { steps: None }
     }
 
     /// A trail without steps.
-    pub(crate) fn new(alloc: Global) -> Trail
+    pub fn new(alloc: Global) -> Trail
         ensures { result ≡ Some [] }
     {
         Trail {
@@ -41,8 +41,13 @@ impl Trail {
         }
     }
 
-    /// The fault behind this step, which is added in front of the others; `Memory` where there is none for it.
-    pub(crate) fn behind(&mut self, step: Step, fault: JsonFault) -> JsonFault
+    /// Whether steps are kept.
+    pub fn is_kept(&self) -> bool {
+        self.steps.is_some()
+    }
+
+    /// The fault after this step, which is added before the others; `Memory` where that is refused.
+    pub fn after(&mut self, step: Step, fault: JsonFault) -> JsonFault
         ensures step { (result ≡ Memory)
             ⊎ ((result ≡ fault) × (self.new ≡ option_map (λ steps. step ∷ steps) self.old)) }
         ensures unkept { self.old ≡ None → result ≡ fault }
@@ -57,7 +62,7 @@ impl Trail {
     }
 
     /// The steps from the first, where they were kept.
-    pub(crate) fn into_steps(self) -> Option<Vec<Step>>
+    pub fn into_steps(self) -> Option<Vec<Step>>
         ensures { option_map (λ steps. steps.items) result ≡ self }
     {
         let mut steps = self.steps?;

@@ -2,7 +2,7 @@
 use crate::explained::explain_refusal;
 use crate::faults::{Buffer, read_fault, write_fault};
 use crate::flags::Flags;
-use crate::{layout_of, tell, verified};
+use crate::{encoded, layout_of, tell, verified};
 use clap::Error;
 use clap::error::ErrorKind;
 use flatc_cli::usage_error;
@@ -10,7 +10,7 @@ use flatc_files::{
     Batch, Content, Form, Misuse, Progress, Reasoned, RunStatus, Target, Task, Texts, directory_of,
     targets_of, write_file,
 };
-use flatc_tool::{DecodeOptions, Layout, Noted, ToolFault, decode_to, encode_owned};
+use flatc_tool::{DecodeOptions, Layout, Noted, ToolFault, decode_to};
 use std::alloc::AllocError;
 use std::fs;
 use std::io::{self, ErrorKind as IoErrorKind, Write};
@@ -73,8 +73,7 @@ fn write_buffer<'j>(
     target: &'j Target,
     flags: Flags,
 ) -> Result<(), ToolFault> {
-    let json = texts.input.give(rt);
-    let buffer = encode_owned(rt.alloc(), layout, json, &flags.encode_options())?;
+    let buffer = encoded(rt.alloc(), layout, &mut texts.input.bytes, flags)?;
     match write_file(rt, target, &mut Buffer(buffer.as_slice())) {
         Ok(()) => Ok(()),
         Err(error) => Err(write_fault(rt, texts, target.path.as_str(), &error)),
@@ -217,7 +216,7 @@ fn do_all<'j>(
     targets: &'j [Target],
     explained: bool,
 ) -> u8 {
-    let mut texts = Texts::new(rt, explained);
+    let mut texts = Texts::new(rt);
     match batch_layout(rt, formed.batch, &mut texts) {
         Ok(layout) => do_files(rt, formed, targets, &layout, &mut texts, explained),
         Err(fault) => refuse(rt, formed.flags(), &mut texts, fault, explained),

@@ -3,9 +3,9 @@ use crate::flags::Flags;
 use crate::limits;
 use crate::program_name::eprint_usage;
 use crate::terminal::{columns, print_explanation};
-use fb_explain::{FileFailure, Lost, Source, Sources, explain, fault_page, warnings};
-use flatc_files::{Gone, Input, Job, Texts};
-use flatc_tool::{JsonFault, ToolFault};
+use fb_explain::{FileFailure, Source, Sources, explain, fault_page, warnings};
+use flatc_files::{Input, Job, Texts};
+use flatc_tool::ToolFault;
 use std::alloc::AllocError;
 use std::io;
 
@@ -30,39 +30,16 @@ fn file_failure<'x>(texts: &'x Texts<'x>) -> Option<FileFailure<'x>> {
     })
 }
 
-/// Whether an explanation quotes a JSON text, which was given away.
-fn quotes_json(fault: ToolFault) -> bool {
-    match fault {
-        ToolFault::Json(JsonFault::Memory) => false,
-        ToolFault::Json(_) | ToolFault::BadJson => true,
-        _ => false,
-    }
-}
-
-/// Why a JSON text isn't quoted.
-fn unquoted(gone: Gone) -> Lost {
-    match gone {
-        Gone::Streamed => Lost::Streamed,
-        Gone::Changed => Lost::Changed,
-    }
-}
-
 /// The lines that explain a refusal.
 fn explanation(
     rt: &HostRuntime,
     flags: Flags,
-    texts: &mut Texts<'_>,
+    texts: &Texts<'_>,
     fault: ToolFault,
 ) -> Result<String, AllocError> {
-    let lost = if quotes_json(fault) {
-        texts.input.get_again(rt)?.map(unquoted)
-    } else {
-        None
-    };
     let sources = Sources {
         schema: source_of(&texts.schema),
         input: source_of(&texts.input),
-        lost,
         limits: limits(),
         unknown_json: flags.unknown_json,
         raw_binary: flags.raw_binary,
@@ -74,12 +51,7 @@ fn explanation(
 }
 
 /// Prints what explains a refusal under the flags of a line; nothing where memory runs out.
-pub(crate) fn explain_refusal(
-    rt: &HostRuntime,
-    flags: Flags,
-    texts: &mut Texts<'_>,
-    fault: ToolFault,
-) {
+pub(crate) fn explain_refusal(rt: &HostRuntime, flags: Flags, texts: &Texts<'_>, fault: ToolFault) {
     if let Ok(text) = explanation(rt, flags, texts, fault) {
         print_explanation(rt, text.as_str());
     }

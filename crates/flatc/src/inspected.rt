@@ -134,7 +134,7 @@ fn inspect_header<'j>(
 /// Shows what the bytes of a buffer are, and returns the status.
 pub(crate) fn inspect(rt: &HostRuntime, inspection: &Inspection, is_explained: bool) -> u8 {
     let flags = Flags::of_inspection(inspection);
-    let mut texts = Texts::new(rt, is_explained);
+    let mut texts = Texts::new(rt);
     let answer = match inspection {
         Inspection::Bytes { schema, bin, .. } => inspect_file(
             rt,
@@ -149,7 +149,7 @@ pub(crate) fn inspect(rt: &HostRuntime, inspection: &Inspection, is_explained: b
         Err(fault) => {
             let status = tell(rt, Err(fault));
             if is_explained {
-                explain_refusal(rt, flags, &mut texts, fault);
+                explain_refusal(rt, flags, &texts, fault);
             }
             status
         }

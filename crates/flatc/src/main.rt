@@ -30,7 +30,7 @@ use flatc_files::{Batch, Form, Job, Reasoned, Request, Texts, write_out};
 use flatc_tool::command::report_noted;
 use flatc_tool::{
     EncodeOptions, Entries, Layout, Limits, Noted, ToolFault, conform_names, conform_texts,
-    decode_to, encode_owned, schema_of, to_binary, to_json, verify_framed,
+    decode_to, encode_plan, schema_of, to_binary, to_json, verify_framed,
 };
 use std::alloc::Global;
 use std::process::ExitCode;
@@ -88,11 +88,20 @@ pub(crate) fn verified(layout: &Layout, bytes: &[u8], flags: Flags) -> Result<()
     Ok(())
 }
 
+/// The buffer of a JSON text, which is freed once its value is noted, and stays as it is where it is refused.
+pub(crate) fn encoded(
+    alloc: Global,
+    layout: &Layout,
+    json: &mut Vec<u8>,
+    flags: Flags,
+) -> Result<Vec<u8>, ToolFault> {
+    Ok(encode_plan(alloc, layout, json, &flags.encode_options())?.finish())
+}
+
 /// The buffer of the JSON text that was read.
 fn buffer_of(rt: &HostRuntime, texts: &mut Texts<'_>, flags: Flags) -> Result<Vec<u8>, ToolFault> {
-    let json = texts.input.give(rt);
     let layout = layout_of(rt, texts)?;
-    encode_owned(rt.alloc(), &layout, json, &flags.encode_options())
+    encoded(rt.alloc(), &layout, &mut texts.input.bytes, flags)
 }
 
 /// Reads a schema, and what is under it or compared with it.
@@ -261,13 +270,13 @@ fn words_of(rt: &HostRuntime) -> io::Result<Vec<String>> {
 /// explaining takes is got only afterwards.
 fn do_and_report(rt: &HostRuntime, job: &Job, form: Form, explained: bool) -> u8 {
     let flags = Flags::of_job(job, form);
-    let mut texts = Texts::new(rt, explained);
+    let mut texts = Texts::new(rt);
     let answer = do_job(rt, job, flags, &mut texts);
     let status = tell(rt, answer);
     if explained {
         match answer {
             Ok(_) => warn(rt, job, &texts),
-            Err(fault) => explain_refusal(rt, flags, &mut texts, fault),
+            Err(fault) => explain_refusal(rt, flags, &texts, fault),
         }
     }
     status

@@ -121,7 +121,7 @@ impl Run<'_> {
                 .is_ok()
             {
                 let flags = Flags::of_stream(&self.stream.task);
-                explain_refusal(self.rt, flags, &mut self.texts, fault);
+                explain_refusal(self.rt, flags, &self.texts, fault);
             }
         }
     }
@@ -263,7 +263,7 @@ fn write_messages<'s>(rt: &HostRuntime, run: &mut Run<'s>) -> (&'s str, io::Resu
 
 /// Does a task over a stream, and returns the status: 1 where a message was refused.
 pub(crate) fn do_stream(rt: &HostRuntime, stream: &Stream, is_explained: bool) -> u8 {
-    let mut texts = Texts::new(rt, is_explained);
+    let mut texts = Texts::new(rt);
     let (layout, window) = match open_stream(rt, stream, &mut texts) {
         Ok(opened) => opened,
         Err(fault) => return refuse(rt, &stream.task, &mut texts, fault, is_explained),

@@ -104,7 +104,6 @@ pub extern "C" fn flatc_explain<'a>(
             path: input_name,
             bytes: input,
         },
-        lost: None,
         limits,
         unknown_json: options.ignores_unknown(),
         raw_binary: options.is_raw(),

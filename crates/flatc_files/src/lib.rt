@@ -16,7 +16,7 @@ mod unchanged;
 mod window;
 
 pub use fb_heard::TakeFault;
-pub use inputs::{Gone, Input};
+pub use inputs::Input;
 pub use outputs::{Content, write_file, write_out};
 pub use progress::Progress;
 pub use reasons::Reasoned;

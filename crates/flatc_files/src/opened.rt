@@ -20,18 +20,6 @@ impl Opened {
         }
         Ok(Opened::File(fs::open(rt, path)?))
     }
-
-    /// Opens a path once more, from its start: of standard input the file that it is, if it is one.
-    pub(crate) fn open_again(rt: &HostRuntime, path: &str) -> io::Result<Opened> {
-        Ok(Opened::File(fs::open(rt, name_of(path))?))
-    }
-
-    pub(crate) fn metadata(&self, rt: &HostRuntime) -> io::Result<Metadata> {
-        match self {
-            Opened::File(file) => file.metadata(),
-            Opened::Standard(_) => fs::metadata(rt, STANDARD),
-        }
-    }
 }
 
 impl Read for Opened {

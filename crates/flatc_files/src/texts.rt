@@ -13,8 +13,6 @@ pub struct Texts<'j> {
     pub input: Input<'j>,
     /// Why a file failed; none where none did, or memory ran out.
     pub failure: Option<Failure<'j>>,
-    /// Whether a refusal is explained, for which an input may be read again.
-    is_explained: bool,
 }
 
 /// A file that couldn't be read or written.
@@ -28,12 +26,11 @@ pub struct Failure<'j> {
 
 impl<'j> Texts<'j> {
     /// Before anything was read.
-    pub fn new(rt: &HostRuntime, is_explained: bool) -> Texts<'j> {
+    pub fn new(rt: &HostRuntime) -> Texts<'j> {
         Texts {
             schema: Input::nothing(rt),
             input: Input::nothing(rt),
             failure: None,
-            is_explained,
         }
     }
 
@@ -50,7 +47,7 @@ impl<'j> Texts<'j> {
     }
 
     fn read(&mut self, rt: &HostRuntime, path: &'j str) -> Result<Input<'j>, TakeFault> {
-        let read = Input::read(rt, path, self.is_explained);
+        let read = Input::read(rt, path);
         self.note(rt, path, &read, "it is longer than 2147483647 bytes");
         read
     }

@@ -1,4 +1,5 @@
--- How a refusal to encode is told.
+-- How a refusal to encode is reported.
+use Rattle.std.specs.Prelude.{⊤, ⊥}
 use Rattle.fb_encode.specs.declared.faults.EncodeFault.TheVariants as the_fault
 use Rattle.fb_encode.specs.declared.faults.TextFault.{TextFault}
 use Rattle.fb_encode.specs.declared.faults.TextFault.TheVariants as the_text
@@ -10,3 +11,10 @@ encode_fault the_text.BadJson = BadJson
 encode_fault the_text.Memory = Memory
 encode_fault (the_text.Encode (the_fault.Json f)) = Json f
 encode_fault (the_text.Encode (the_fault.Build f)) = Build f
+
+-- it is of the JSON text, which isn't JSON, or whose meaning breaks a rule
+abbrev pub IsOfJson : ToolFault → Type 0
+IsOfJson BadJson = ⊤
+IsOfJson Memory = ⊤
+IsOfJson (Json f) = ⊤
+IsOfJson _ = ⊥

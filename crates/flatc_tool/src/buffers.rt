@@ -1,18 +1,18 @@
 //! JSON texts made buffers under a layout.
 ghost use Rattle.std.specs.Prelude.{◌≡◌, IfOk, IfErr};
-ghost use Rattle.flatc_tool.specs.Encodes.{encode_fault};
+ghost use Rattle.fb_value.specs.Num.{Bytes};
+ghost use Rattle.fb_build.specs.Planned.{IsLaidBy};
+ghost use Rattle.flatc_tool.specs.Encodes.{IsOfJson, encode_fault};
 ghost use Rattle.flatc_tool.specs.Jobs.{IsBinaryFramed, MayBeBinaryFramed, BinaryRefusedFramed, IsNotMemory};
 
 use crate::laws::layer_laws;
 use crate::options::EncodeOptions;
-use fb_encode::{EncodeFault, TextFault, encode_owned_text, encode_text};
+use fb_build::TapePlan;
+use fb_encode::{EncodeFault, PIECE, TextFault, encode_text, plan_text};
 use fb_faults::ToolFault;
+use fb_json::Source;
 use fb_layout::Layout;
 use std::alloc::Global;
-
-/// Longer texts are read in pieces of so many bytes. Of a longer piece the tree of `serde_json` doesn't fit into a
-/// processor's nearer caches any more, and each piece costs a call.
-const PIECE: usize = 16_384;
 
 /// A refusal to encode.
 fn refused(fault: TextFault) -> ToolFault
@@ -48,16 +48,53 @@ pub fn encode(
         options.now.unknown_json) }
 {
     layer_laws();
-    let (limits, unknown) = (options.limits, options.unknown_json);
-    let prefixed = options.size_prefixed;
-    match encode_text(alloc, layout, json, limits, unknown, PIECE, prefixed) {
+    let source = Source {
+        alloc,
+        layout,
+        unknown: options.unknown_json,
+    };
+    match encode_text(source, json, options.limits, PIECE, options.size_prefixed) {
         Ok(bytes) => Ok(bytes),
         Err(fault) => Err(refused(fault)),
     }
 }
 
-/// The same of a JSON text that is given away, and dropped before memory for the buffer is taken. This takes the least
-/// memory.
+/// The plan by which the bytes are laid that `encode` returns, with all the memory that this takes: its `finish` needs
+/// no more, and can't fail.
+///
+/// The JSON text is freed once its value is noted, before memory for the buffer is taken. A text that is refused stays
+/// as it is: one that isn't JSON, or whose meaning breaks a rule.
+pub fn encode_plan<'l>(
+    alloc: Global,
+    layout: &'l Layout,
+    json: &mut Vec<u8>,
+    options: &EncodeOptions,
+) -> Result<TapePlan<'l>, ToolFault>
+    ensures binary { IfOk result (λ plan. (b : Bytes) → IsLaidBy plan b
+        → IsBinaryFramed options.now.size_prefixed layout.now json.old.items options.now.limits
+        options.now.unknown_json b) }
+    ensures refused { IfErr result
+        (BinaryRefusedFramed options.now.size_prefixed layout.now json.old.items options.now.limits
+        options.now.unknown_json) }
+    ensures exact { IfErr result (λ f. IsNotMemory f
+        → ¬ MayBeBinaryFramed options.now.size_prefixed layout.now json.old.items options.now.limits
+        options.now.unknown_json) }
+    ensures kept { IfErr result (λ f. IsOfJson f → json.new.items ≡ json.old.items) }
+{
+    layer_laws();
+    let source = Source {
+        alloc,
+        layout,
+        unknown: options.unknown_json,
+    };
+    match plan_text(source, json, options.limits, PIECE, options.size_prefixed) {
+        Ok(plan) => Ok(plan),
+        Err(fault) => Err(refused(fault)),
+    }
+}
+
+/// The bytes that `encode` returns, of a JSON text that is given away, and freed before memory for the buffer is taken.
+/// This takes the least memory.
 pub fn encode_owned(
     alloc: Global,
     layout: &Layout,
@@ -74,11 +111,7 @@ pub fn encode_owned(
         → ¬ MayBeBinaryFramed options.now.size_prefixed layout.now json.items options.now.limits
         options.now.unknown_json) }
 {
-    layer_laws();
-    let (limits, unknown) = (options.limits, options.unknown_json);
-    let prefixed = options.size_prefixed;
-    match encode_owned_text(alloc, layout, json, limits, unknown, PIECE, prefixed) {
-        Ok(bytes) => Ok(bytes),
-        Err(fault) => Err(refused(fault)),
-    }
+    let mut json = json;
+    let plan = encode_plan(alloc, layout, &mut json, options)?;
+    Ok(plan.finish())
 }

@@ -12,10 +12,10 @@ mod laws;
 mod options;
 mod prints;
 
-pub use buffers::{encode, encode_owned};
+pub use buffers::{encode, encode_owned, encode_plan};
 pub use checks::check;
 pub use evolution::{conform_names, conform_texts};
-pub use fb_build::BuildFault;
+pub use fb_build::{BuildFault, TapePlan};
 pub use fb_conform::{Breach, MovedName, conform, moved_names};
 pub use fb_declare::{SchemaFault, SchemaTextFault, schema_of};
 pub use fb_faults::ToolFault;

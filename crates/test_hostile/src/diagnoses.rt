@@ -115,7 +115,6 @@ fn explained(alloc: Global, refused: &Refused<'_>) -> Result<String, AllocError>
             path: "input",
             bytes: refused.input,
         },
-        lost: None,
         limits: limits(),
         unknown_json: false,
         raw_binary: false,

@@ -5,7 +5,7 @@ use Rattle.fb_encode.proofs.+reads.Answers.LongTableIsNoted.{no_slot_yet, next_s
 use Rattle.fb_encode.proofs.+reads.Answers.LongTableIsNoted.{first_fault_refused, fields_are_stored, table_adds_itself}
 use Rattle.fb_encode.proofs.+reads.Answers.LongVectorIsNoted.{lone_element_noted, run_noted, no_run_yet, next_run_fits}
 use Rattle.fb_encode.proofs.+reads.Answers.LongVectorIsNoted.{next_run_noted, run_fault_refused, references_add}
-use Rattle.fb_encode.proofs.+reads.Answers.SlotIsNoted.{reference_adds_itself, reference_fault_found}
+use Rattle.fb_encode.proofs.+reads.Answers.SlotIsNoted.{next_noted, reference_adds_itself, reference_fault_found}
 use Rattle.fb_encode.proofs.+reads.Answers.SlotIsNoted.{absent_adds_nothing, slot_without_text_noted}
 use Rattle.fb_encode.proofs.+reads.Answers.SlotIsNoted.{bracketed_has_a_part, bracketed_noted, text_read, text_noted}
 use Rattle.fb_encode.proofs.+reads.Answers.SlotIsNoted.{code_is_before_its_union, member_adds_itself}
@@ -44,24 +44,27 @@ objects::note_reference-returns-in_ok-push_reference-in-Ok-clause-noted = refere
 pub objects::note_reference-returns-in-Err-clause-noted : goal.objects::note_reference-returns-in-Err-clause-noted
 objects::note_reference-returns-in-Err-clause-noted = reference_fault_found
 
-pub objects::note_next-returns-then-slot-clause-noted : goal.objects::note_next-returns-then-slot-clause-noted
-objects::note_next-returns-then-slot-clause-noted = absent_adds_nothing
+pub objects::note_next-returns-in_ok-noted-in-Ok-clause-noted : goal.objects::note_next-returns-in_ok-noted-in-Ok-clause-noted
+objects::note_next-returns-in_ok-noted-in-Ok-clause-noted = next_noted
 
-pub objects::note_next-returns-in_default-clause-noted : goal.objects::note_next-returns-in_default-clause-noted
-objects::note_next-returns-in_default-clause-noted = slot_without_text_noted
+pub objects::note_slot_text-returns-then-slot-clause-noted : goal.objects::note_slot_text-returns-then-slot-clause-noted
+objects::note_slot_text-returns-then-slot-clause-noted = absent_adds_nothing
 
-pub objects::note_next-note_reference-requires : goal.objects::note_next-note_reference-requires
-objects::note_next-note_reference-requires = bracketed_has_a_part
+pub objects::note_slot_text-returns-in_default-clause-noted : goal.objects::note_slot_text-returns-in_default-clause-noted
+objects::note_slot_text-returns-in_default-clause-noted = slot_without_text_noted
 
-pub objects::note_next-returns-then-is_bracketed-clause-noted :
-    goal.objects::note_next-returns-then-is_bracketed-clause-noted
-objects::note_next-returns-then-is_bracketed-clause-noted = bracketed_noted
+pub objects::note_slot_text-note_reference-requires : goal.objects::note_slot_text-note_reference-requires
+objects::note_slot_text-note_reference-requires = bracketed_has_a_part
 
-pub objects::note_next-returns-clause-read : goal.objects::note_next-returns-clause-read
-objects::note_next-returns-clause-read = text_read
+pub objects::note_slot_text-returns-then-is_bracketed-clause-noted :
+    goal.objects::note_slot_text-returns-then-is_bracketed-clause-noted
+objects::note_slot_text-returns-then-is_bracketed-clause-noted = bracketed_noted
 
-pub objects::note_next-returns-clause-noted : goal.objects::note_next-returns-clause-noted
-objects::note_next-returns-clause-noted = text_noted
+pub objects::note_slot_text-returns-clause-read : goal.objects::note_slot_text-returns-clause-read
+objects::note_slot_text-returns-clause-read = text_read
+
+pub objects::note_slot_text-returns-clause-noted : goal.objects::note_slot_text-returns-clause-noted
+objects::note_slot_text-returns-clause-noted = text_noted
 
 pub objects::note_members-loop-k-init : goal.objects::note_members-loop-k-init
 objects::note_members-loop-k-init = no_slot_yet
@@ -95,22 +98,22 @@ objects::note_members-truncate-requires = first_kept
 pub objects::note_members-returns-clause-opened : goal.objects::note_members-returns-clause-opened
 objects::note_members-returns-clause-opened = fields_are_closed
 
-pub objects::note_member-returns-in_default-clause-noted : goal.objects::note_member-returns-in_default-clause-noted
-objects::note_member-returns-in_default-clause-noted = member_unknown
+pub objects::note_union-returns-in_default-clause-noted : goal.objects::note_union-returns-in_default-clause-noted
+objects::note_union-returns-in_default-clause-noted = member_unknown
 
-pub objects::note_member-overflow_sub-slot : goal.objects::note_member-overflow_sub-slot
-objects::note_member-overflow_sub-slot = code_is_before_its_union
+pub objects::note_union-overflow_sub-slot : goal.objects::note_union-overflow_sub-slot
+objects::note_union-overflow_sub-slot = code_is_before_its_union
 
-pub objects::note_member-returns-in_ok-push_reference-in-Ok-clause-noted :
-    goal.objects::note_member-returns-in_ok-push_reference-in-Ok-clause-noted
-objects::note_member-returns-in_ok-push_reference-in-Ok-clause-noted = member_adds_itself
+pub objects::note_union-returns-in_ok-push_reference-in-Ok-clause-noted :
+    goal.objects::note_union-returns-in_ok-push_reference-in-Ok-clause-noted
+objects::note_union-returns-in_ok-push_reference-in-Ok-clause-noted = member_adds_itself
 
-pub objects::note_member-returns-in-Err-clause-noted : goal.objects::note_member-returns-in-Err-clause-noted
-objects::note_member-returns-in-Err-clause-noted = member_fault_found
+pub objects::note_union-returns-in-Err-clause-noted : goal.objects::note_union-returns-in-Err-clause-noted
+objects::note_union-returns-in-Err-clause-noted = member_fault_found
 
-pub objects::note_next-returns-then-is_bracketed-2-clause-noted :
-    goal.objects::note_next-returns-then-is_bracketed-2-clause-noted
-objects::note_next-returns-then-is_bracketed-2-clause-noted = union_noted
+pub objects::note_slot_text-returns-then-is_bracketed-2-clause-noted :
+    goal.objects::note_slot_text-returns-then-is_bracketed-2-clause-noted
+objects::note_slot_text-returns-then-is_bracketed-2-clause-noted = union_noted
 
-pub objects::note_next-returns-in-Some-2-clause-noted : goal.objects::note_next-returns-in-Some-2-clause-noted
-objects::note_next-returns-in-Some-2-clause-noted = stand_in_noted
+pub objects::note_slot_text-returns-in-Some-2-clause-noted : goal.objects::note_slot_text-returns-in-Some-2-clause-noted
+objects::note_slot_text-returns-in-Some-2-clause-noted = stand_in_noted

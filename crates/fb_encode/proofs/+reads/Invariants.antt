@@ -42,13 +42,16 @@ abbrev pub decreases-objects::note_members : goal.decreases-objects::note_member
 decreases-objects::note_members l = 10 * l.excerpt.brackets + 8
 
 abbrev pub decreases-objects::note_next : goal.decreases-objects::note_next
-decreases-objects::note_next l = 10 * brackets_in l.text + 11
+decreases-objects::note_next l = 10 * brackets_in l.text + 12
+
+abbrev pub decreases-objects::note_slot_text : goal.decreases-objects::note_slot_text
+decreases-objects::note_slot_text l = 10 * brackets_in l.text + 11
 
 abbrev pub decreases-objects::note_reference : goal.decreases-objects::note_reference
 decreases-objects::note_reference l = 10 * l.text.brackets + 10
 
-abbrev pub decreases-objects::note_member : goal.decreases-objects::note_member
-decreases-objects::note_member l = 10 * l.text.brackets + 10
+abbrev pub decreases-objects::note_union : goal.decreases-objects::note_union
+decreases-objects::note_union l = 10 * l.text.brackets + 10
 
 abbrev pub invariant-objects::note_members-loop-k : goal.invariant-objects::note_members-loop-k
 invariant-objects::note_members-loop-k l = record {

@@ -1,4 +1,4 @@
--- The path of a part that is refused is one of the whole behind its step.
+-- The path of a part that is refused is one of the whole, after its step.
 use Rattle.std.proofs.Common.{◌≡◌, ◌∙◌, ℕ, zero, suc, ◌+◌, ◌-◌, ◌<◌, ◌≤◌, ◌||◌, List, [], ◌∷◌, map, length, take}
 use Rattle.std.proofs.Common.{get_or, Bool, Option, Ok, Err, refl, ap, arith}
 use Rattle.std.proofs.lemmas.Bool.{le-ltb, lt-ltb}

@@ -33,7 +33,7 @@ in_front : (old mid new : Option (List Step)) (step : Step) (steps : List Step)
 in_front None mid new step steps below more = rw below at more
 in_front (Some behind) mid new step steps below more = rw below at more
 
--- a fault behind a step, or no memory for the step
+-- a fault after a step, or no memory for the step
 abbrev pub IsBehind : JsonFault → JsonFault → Type 0 → Type 0
 IsBehind fault given Pushed = (given ≡ Memory) ⊎ ((given ≡ fault) × Pushed)
 
@@ -52,11 +52,11 @@ goes start old mid new IsBelow Is step fault given same (inr is) below path kept
     )
 
 -- what is given is the fault, unless there was no memory for a step
-pub fails_behind : {X Y Pushed : Type 0} (fault given : JsonFault) (part : Result X JsonFault)
+pub fails_after : {X Y Pushed : Type 0} (fault given : JsonFault) (part : Result X JsonFault)
     (whole : Result Y JsonFault) → IsBehind fault given Pushed → (part ≡ Err fault → whole ≡ Err fault)
     → Fails fault part → Fails given whole
-fails_behind fault given part whole (inl memory) same h = rw memory tt
-fails_behind fault given part whole (inr is) same h =
+fails_after fault given part whole (inl memory) same h = rw memory tt
+fails_after fault given part whole (inr is) same h =
     rw is.0 (fails_by fault part whole same h)
 
 unless_memory : {P : Type 0} (f : JsonFault) → (f ≡ Memory) ⊎ P → f ≢ Memory → P

@@ -268,7 +268,6 @@ fn explanation_of(alloc: Global, fault: &ToolFault) -> Result<String, AllocError
             path: "b.bin",
             bytes: BUFFER,
         },
-        lost: None,
         limits: usual_limits(),
         unknown_json: false,
         raw_binary: false,

@@ -17,9 +17,14 @@ use Rattle.fb_encode.proofs.stand_ins.SlotIsNotedByItsStandIn.{noted_by_stand_in
 use Rattle.fb_encode.proofs.excerpts.NotedOrRefused.{if_ok_then}
 use Rattle.fb_encode.proofs.slot_texts.PiecesAreRead.{inner_is_read, tree_is}
 use Rattle.fb_encode.proofs.objects.SlotsAreFound.{brackets_in}
-use Rattle.fb_encode.proofs.+reads.Goals.{objects::note_next-then-slot-via-then-slot}
-use Rattle.fb_encode.proofs.+reads.Goals.{objects::note_next-then-slot-via-else-slot+then-is_absent}
+use Rattle.fb_encode.proofs.+reads.Goals.{objects::note_slot_text-then-slot-via-then-slot}
+use Rattle.fb_encode.proofs.+reads.Goals.{objects::note_slot_text-then-slot-via-else-slot+then-is_absent}
 use Rattle.fb_encode.proofs.+reads.Goals as goal
+
+pub next_noted : goal.objects::note_next-returns-in_ok-noted-in-Ok-clause-noted
+next_noted t c seen found =
+    rw c.in-Ok.is (if_ok_then c.after_step.result _ _ (λ r same. rw same (c.in_ok-noted-in-Ok.ensures.noted seen found))
+    c.after_step.ensures)
 
 pub reference_adds_itself : goal.objects::note_reference-returns-in_ok-push_reference-in-Ok-clause-noted
 reference_adds_itself t c seen found =
@@ -27,7 +32,7 @@ reference_adds_itself t c seen found =
     let unknown = c.args.source.unknown in
     let slot = c.args.slot in
     let text = c.args.text in
-    let noted = rw (c.place-place.ensures, c.in-Ok.is) at c.in_ok-left.ensures.noted in
+    let noted = rw (c.place.ensures, c.in-Ok.is) at c.in_ok-left.ensures.noted in
     let opened = rw c.in-Ok.is at c.in_ok-left.ensures.opened in
     let is = tree_is text.brackets text.text.now noted.0 noted.1 in
     reference_next L (field_seen slot.field.now) seen slot.number c.args.behind.code (c.args.levels - 1)
@@ -42,27 +47,27 @@ reference_fault_found t c seen found =
     let unknown = c.args.source.unknown in
     let slot = c.args.slot in
     let text = c.args.text in
-    let noted = rw (c.place-place.ensures, c.in-Err.is) at c.in_ok-left.ensures.noted in
+    let noted = rw (c.place.ensures, c.in-Err.is) at c.in_ok-left.ensures.noted in
     let is = tree_is text.brackets text.text.now noted.0 noted.1 in
     reference_fails L (field_seen slot.field.now) seen slot.number c.args.behind.code (c.args.levels - 1)
     c.args.behind.left (slot_place slot.owner.0 slot.number) c.requires.used unknown noted.0
     (λ null. c.requires.bracketed text.brackets (noted.1.read ∙ ap Some null))
     (found ∙ ap (λ d. Some (d, meant L unknown d)) is) c.requires.part c.in-Err.fault noted.2
 
-pub absent_adds_nothing : goal.objects::note_next-returns-then-slot-clause-noted
+pub absent_adds_nothing : goal.objects::note_slot_text-returns-then-slot-clause-noted
 absent_adds_nothing t c seen found =
     let L = c.args.source.layout.now in
     let slot = c.args.slot in
     let f = field_seen slot.field.now in
     let at = slot_place slot.owner.0 slot.number in
-    let behind = c.in-Ok.behind in
+    let behind = c.args.behind in
     let opens = c.args.walk.now.noting.opened in
     let tape = c.args.walk.now.noting.tape in
-    let whole = rw c.in-Ok.is at c.requires.whole in
-    rw c.in-Ok.is (elim c.then-slot.branch [
-      | objects::note_next-then-slot-via-then-slot w ↦ old_next L f seen slot.number behind.code (c.args.levels - 1)
+    let whole = c.requires.whole in
+    elim c.then-slot.branch [
+      | objects::note_slot_text-then-slot-via-then-slot w ↦ old_next L f seen slot.number behind.code (c.args.levels - 1)
           behind.left at w.if-slot.true tape opens whole
-      | objects::note_next-then-slot-via-else-slot+then-is_absent w ↦
+      | objects::note_slot_text-then-slot-via-else-slot+then-is_absent w ↦
           let none = rw c.in_default.is at (found w.if-slot.false) in
           absent_next L f seen slot.number behind.code (c.args.levels - 1) behind.left at c.requires.marks
           c.args.source.unknown none
@@ -70,14 +75,14 @@ absent_adds_nothing t c seen found =
           (option_map a_number (slot_of L.schema f).if_absent)
           (w.is_absent.ensures.entry L seen at behind.code (c.args.levels - 1) behind.left w.if-is_absent.true none)
           tape opens whole
-    ])
+    ]
 
-pub slot_without_text_noted : goal.objects::note_next-returns-in_default-clause-noted
+pub slot_without_text_noted : goal.objects::note_slot_text-returns-in_default-clause-noted
 slot_without_text_noted t c seen found =
     let none = rw c.in_default.is at (found c.if-slot.false) in
-    rw c.in-Ok.is (c.note_tree.ensures.noted seen none)
+    c.note_tree.ensures.noted seen none
 
-pub bracketed_has_a_part : goal.objects::note_next-note_reference-requires
+pub bracketed_has_a_part : goal.objects::note_slot_text-note_reference-requires
 bracketed_has_a_part t c =
     let L = c.args.source.layout.now in
     let slot = c.args.slot in
@@ -88,11 +93,11 @@ bracketed_has_a_part t c =
     let is = c.is_in_pieces.ensures c.if-is_in_pieces.true in (
       omega (arith, c.decreases, brackets),
       (
-        rw c.in-Ok.is at c.requires.layout,
+        c.requires.layout,
         (
-          rw c.in-Ok.is at c.requires.whole,
+          c.requires.whole,
           (
-            rw c.in-Ok.is at c.requires.levels,
+            c.requires.levels,
             (
               used_by slot.field.now.deprecated c.args.text c.in-Some.text c.requires.old c.in-Some.is,
               (
@@ -105,12 +110,12 @@ bracketed_has_a_part t c =
       ),
     )
 
-pub bracketed_noted : goal.objects::note_next-returns-then-is_bracketed-clause-noted
+pub bracketed_noted : goal.objects::note_slot_text-returns-then-is_bracketed-clause-noted
 bracketed_noted t c seen found =
     let used = used_by c.args.slot.field.now.deprecated c.args.text c.in-Some.text c.requires.old c.in-Some.is in
-    rw c.in-Ok.is (c.note_reference.ensures.noted seen (rw c.in-Some.is at (found used)))
+    c.note_reference.ensures.noted seen (rw c.in-Some.is at (found used))
 
-pub text_read : goal.objects::note_next-returns-clause-read
+pub text_read : goal.objects::note_slot_text-returns-clause-read
 text_read t c =
     let text = c.in-Some.text in
     let low = rw c.in-Some.is at c.requires.brackets in
@@ -119,7 +124,7 @@ text_read t c =
     c.in-Some-innermost.ensures in
     rw c.in-Some.is (on_ok c.note_tree-2.result _ (tree_view c.in-Some-innermost.tree.now, is))
 
-pub text_noted : goal.objects::note_next-returns-clause-noted
+pub text_noted : goal.objects::note_slot_text-returns-clause-noted
 text_noted t c seen found =
     let L = c.args.source.layout.now in
     let unknown = c.args.source.unknown in
@@ -130,12 +135,12 @@ text_noted t c seen found =
     c.in-Some-innermost.ensures in
     let used = used_by c.args.slot.field.now.deprecated c.args.text text c.requires.old c.in-Some.is in
     let here = rw c.in-Some.is at (found used) in
-    rw c.in-Ok.is (c.note_tree-2.ensures.noted seen
-    (here ∙ ap (λ d. Some (d, meant L unknown d)) (tree_is text.brackets text.text.now _ is)))
+    c.note_tree-2.ensures.noted seen
+    (here ∙ ap (λ d. Some (d, meant L unknown d)) (tree_is text.brackets text.text.now _ is))
 
 -- ---- a union's member
 
-pub member_unknown : goal.objects::note_member-returns-in_default-clause-noted
+pub member_unknown : goal.objects::note_union-returns-in_default-clause-noted
 member_unknown t c seen found =
     let L = c.args.source.layout.now in
     let unknown = c.args.source.unknown in
@@ -149,7 +154,7 @@ member_unknown t c seen found =
     (λ null. c.requires.bracketed text.brackets (read.1.read ∙ ap Some null))
     (found ∙ ap (λ d. Some (d, meant L unknown d)) is) c.args.union c.requires.union none)
 
-pub code_is_before_its_union : goal.objects::note_member-overflow_sub-slot
+pub code_is_before_its_union : goal.objects::note_union-overflow_sub-slot
 code_is_before_its_union t c =
     let L = c.args.source.layout.now in
     let slot = c.args.slot in
@@ -158,7 +163,7 @@ code_is_before_its_union t c =
     (ap (stored_shape L.schema) c.requires.union) in
     omega (arith, led.2)
 
-pub member_adds_itself : goal.objects::note_member-returns-in_ok-push_reference-in-Ok-clause-noted
+pub member_adds_itself : goal.objects::note_union-returns-in_ok-push_reference-in-Ok-clause-noted
 member_adds_itself t c seen found =
     let L = c.args.source.layout.now in
     let unknown = c.args.source.unknown in
@@ -175,7 +180,7 @@ member_adds_itself t c seen found =
     c.push_code.new.self _ c.in-Ok.left noted.2 (c.in_ok-push_code.ensures.adds L)
     (c.in_ok-push_reference-in-Ok.ensures.adds ∙ ap (λ os. os ++ (reference_field slot.number ∷ [])) opened)
 
-pub member_fault_found : goal.objects::note_member-returns-in-Err-clause-noted
+pub member_fault_found : goal.objects::note_union-returns-in-Err-clause-noted
 member_fault_found t c seen found =
     let L = c.args.source.layout.now in
     let unknown = c.args.source.unknown in
@@ -190,14 +195,14 @@ member_fault_found t c seen found =
     (found ∙ ap (λ d. Some (d, meant L unknown d)) is) c.args.union c.requires.union c.in-Some.table.0 known
     c.in-Err.fault noted.2
 
-pub union_noted : goal.objects::note_next-returns-then-is_bracketed-2-clause-noted
+pub union_noted : goal.objects::note_slot_text-returns-then-is_bracketed-2-clause-noted
 union_noted t c seen found =
     let used = used_by c.args.slot.field.now.deprecated c.args.text c.in-Some.text c.requires.old c.in-Some.is in
-    rw c.in-Ok.is (c.note_member.ensures.noted seen (rw c.in-Some.is at (found used)))
+    c.note_union.ensures.noted seen (rw c.in-Some.is at (found used))
 
 -- ---- a text with a tree in its place
 
-pub stand_in_noted : goal.objects::note_next-returns-in-Some-2-clause-noted
+pub stand_in_noted : goal.objects::note_slot_text-returns-in-Some-2-clause-noted
 stand_in_noted t c seen found =
     let L = c.args.source.layout.now in
     let unknown = c.args.source.unknown in
@@ -210,6 +215,6 @@ stand_in_noted t c seen found =
     let d = tree_view c.in-Some-2.tree in
     let bare : Look = λ name. Some (d, meant L unknown d) in
     let noted = c.note_tree-in-Some-2.ensures.noted bare refl in
-    rw c.in-Ok.is (if_ok_then c.note_tree-in-Some-2.result _ _ (noted_by_stand_in L unknown seen bare slot o.tree d
-    (here ∙ ap (λ d. Some (d, meant L unknown d)) is) refl o.alike (c.args.levels - 1) c.in-Ok.behind
-    c.args.walk.now.noting c.note_tree-in-Some-2.new.walk.noting) noted)
+    if_ok_then c.note_tree-in-Some-2.result _ _ (noted_by_stand_in L unknown seen bare slot o.tree d
+    (here ∙ ap (λ d. Some (d, meant L unknown d)) is) refl o.alike (c.args.levels - 1) c.args.behind
+    c.args.walk.now.noting c.note_tree-in-Some-2.new.walk.noting) noted

@@ -42,6 +42,6 @@ returns-in-Some-clause-added c =
       is,
       more,
       run_by_stand_in L kind (AddsInline L kind) c.args.source.unknown elements.kind elements.place elements.levels
-          o.tree (tree_view c.in-Some.tree) o.alike c.args.walk.now.noting.tape c.push_trees.new.tape c.args.found.left
+          o.tree (tree_view c.in-Some.tree) o.alike c.args.walk.now.noting.tape c.push_trees.new.walk.noting.tape c.args.found.left
           now.left added,
     )) c.push_trees.ensures.added c.push_trees.ensures.counted

@@ -14,8 +14,8 @@ returns-in-Ok-note_slot c = record {
       (sym (rw c.place-place.ensures at (c.in-Ok.ensures seen found)), rw by c.in-Ok-note_slot.ensures.noted);
 }
 
-pub returns-in-Err-note_slot : goal.returns-in-Err-note_slot
-returns-in-Err-note_slot c = record {
+pub returns-in_ok-trace_member-in-Err-note_slot : goal.returns-in_ok-trace_member-in-Err-note_slot
+returns-in_ok-trace_member-in-Err-note_slot c = record {
   noted = λ seen found.
       let slot = c.args.slot in
       let told = sym (rw c.place-place.ensures at (c.in-Ok.ensures seen found)) in

@@ -12,7 +12,7 @@ use Rattle.fb_json.specs.Meant.{look, meant, items_meant}
 use Rattle.fb_json.proofs.slots.PartsNestLess.{nested, items_nested, members_nested}
 use Rattle.fb_json.proofs.slots.OneSlotOrFieldMore.{fails_by, items_end, element_ungiven}
 use Rattle.fb_json.proofs.slots.SlotsDecideTheTable.{table_gives, vector_gives, vector_fails}
-use Rattle.fb_json.proofs.tree.TrailLeadsToTheFault.{fails_behind}
+use Rattle.fb_json.proofs.tree.TrailLeadsToTheFault.{fails_after}
 use Rattle.fb_json.proofs.+tree.Goals as goal
 
 pub object_nests_less : goal.tree::value-object-requires
@@ -43,10 +43,10 @@ pub refused_element_given : goal.tree::items-returns-in-Err-clause-gives
 refused_element_given t c =
     let L = c.args.source.layout.now in
     let unknown = c.args.source.unknown in
-    fails_behind c.in-Err.fault c.behind.result (meant L unknown (tree_view c.index-elements-i.result)
+    fails_after c.in-Err.fault c.after.result (meant L unknown (tree_view c.index-elements-i.result)
     (One c.args.kind) c.args.place c.args.room.levels c.loop-i.left)
     (items_meant L unknown (items_view c.args.elements.now) c.args.kind c.args.place c.args.room.levels
-    c.args.room.left) c.behind.ensures.step (λ h. c.loop-i.invariant.gives ∙ element_ungiven L unknown c.args.kind
+    c.args.room.left) c.after.ensures.step (λ h. c.loop-i.invariant.gives ∙ element_ungiven L unknown c.args.kind
     c.args.place c.args.room.levels c.loop-i.left (map view c.loop-i.found.items) c.args.elements.now c.loop-i.i
     c.index-elements-i.result c.loop-i-test.true c.index-elements-i.is c.in-Err.fault h) c.in-Err.ensures.gives
 

@@ -41,12 +41,45 @@ root_in L M vtables ends places o xs place same h is =
     let at = place_is L vtables ends places o _ place h is in
     rw (← same) (rw at (root_waits L vtables ends places o _ h))
 
+header_is : (front : ℕ) (identifier : Option (List ℕ)) (a b : TailSeen) (most end : ℕ) → b.most ≡ most
+    → length b.bytes ≡ end → a.free ≡ header_end front identifier most end
+    → header_end front identifier b.most (length b.bytes) ≡ a.free
+header_is front identifier a b most end wide long exact = rw (wide, long) (sym exact)
+
+no_longer : (front : ℕ) (identifier : Option (List ℕ)) (a b : TailSeen) (most end long most_long : ℕ) → b.most ≡ most
+    → length b.bytes ≡ end → a.free ≡ header_end front identifier most end
+    → long ≡ header_end front identifier b.most (length b.bytes) → a.free ≤ most_long → long ≤ most_long
+no_longer front identifier a b most end long most_long wide ends exact is bound =
+    let same = header_is front identifier a b most end wide ends exact in
+    omega (arith, is, same, bound)
+
 pub close_tail-requires-clause-inside : goal.close_tail-requires-clause-inside
 close_tail-requires-clause-inside c =
     let inv = c.self.invariant in
     let w = c.lay_tape.ensures.waits _ (inv.means.means (omega (arith, inv.small))) in
     let at = place_is _ _ _ _ _ _ _ w c.index-place.ensures in
     rw at (ends_inside _ _ _ _ _ _ w 0)
+
+pub returns-clause-laid : goal.returns-clause-laid
+returns-clause-laid c =
+    let inv = c.self.invariant in
+    let w = c.lay_tape.ensures.waits _ (inv.means.means (omega (arith, inv.small))) in
+    let root = root_in _ _ _ _ _ _ inv.means.entries _ inv.layout w c.index-place.ensures in
+    let both = c.close_tail.ensures.covered _ _ _ w.shared
+    (come_different c.self.inside.tape.vtables (length c.lay_tape.new.laying.places.items) inv.different) root in
+    record {
+      holds = λ xs most raw means deep small.
+          let given : MeansRoot c.self.inside.tape xs = rw (ap (λ p. p.tape) c.self.view_is) means in
+          let waits = c.lay_tape.ensures.waits _ (given (omega (arith, inv.small))) in
+          let lies = root_in _ _ _ _ _ _ xs _ inv.layout waits c.index-place.ensures in
+          rw (← c.self.view_is) (rw c.into_bytes.ensures (c.close_tail.ensures.holds _ _ most raw lies deep small));
+      old_slots = rw (← c.self.view_is) (rw c.into_bytes.ensures (c.close_tail.ensures.old_slots _ _ root));
+      covered = rw (← c.self.view_is) (rw c.into_bytes.ensures both.0);
+      aligned = rw (← c.self.view_is) (rw c.into_bytes.ensures both.1);
+      short = rw (← c.self.view_is) (rw c.into_bytes.ensures (no_longer (front_of c.self.inside.prefixed)
+          c.self.inside.layout.now.schema.identifier c.self.inside.laying.tail c.lay_tape.new.laying.tail _ _ _ _
+          c.lay_tape.ensures.most c.lay_tape.ensures.long inv.exact c.close_tail.ensures.long inv.bound));
+    }
 
 pub returns-clause-holds : goal.returns-clause-holds
 returns-clause-holds c xs most raw means deep small =
@@ -92,7 +125,7 @@ header_fits : (front : ℕ) (identifier : Option (List ℕ)) (a b : TailSeen) (m
     → length b.bytes ≡ end → a.free ≡ header_end front identifier most end → Grows a b
     → header_end front identifier b.most (length b.bytes) ≤ length b.bytes + b.free
 header_fits front identifier a b most end wide long exact grows =
-    let same : header_end front identifier b.most (length b.bytes) ≡ a.free = rw (wide, long) (sym exact) in
+    let same = header_is front identifier a b most end wide long exact in
     end_fits a b (header_end front identifier b.most (length b.bytes)) (sym same) grows
 
 pub close_tail-requires-clause-room : goal.close_tail-requires-clause-room
