@@ -3,9 +3,11 @@
 
 usage: tests/long_texts.py PROGRAM
 
-Each text is also tried with short values, and has to have the same outcome. The last line is 'N passed, M failed'.
+Each text is also tried with short values, and has to have the same outcome. A refusal is explained too, from a file and
+from a pipe. The last line is 'N passed, M failed'.
 """
 import os
+import re
 import subprocess
 import sys
 from typing import Callable, NamedTuple
@@ -41,6 +43,7 @@ STRING = 1.25
 # are still read as trees, and nothing is kept between two of them, so that their memory goes back to the system.
 TIMES = 2.5
 RUNS = 5
+PLACE = re.compile(r"long\.json:[0-9]+:[0-9]+: ")
 IGNORING = ("--unknown-json",)
 
 BAD = "113 BadJson"
@@ -351,11 +354,29 @@ def try_row(tests, taken, nothing, row):
     size = len(json) / 1024
     most = nothing + MOST * size * (1 + row.share)
     tests.tell(f"the memory of {row.name}", peak <= most, f"{peak} KiB for {size:.0f} KiB of text, over {most:.0f} KiB")
+    if row.line:
+        explain_row(tests, taken, most, row)
     if row.same:
         write("same.json", row.same)
         taken.of([*words, "same.json", "same.bin"])
         tests.tell(f"the buffer of {row.name}", content("long.bin") == content("same.bin"), "is another")
     return seconds
+
+
+def explain_row(tests, taken, most, row):
+    """The explanation of a long text that is refused: it has a place, takes no more, and is the same from a pipe."""
+    words = ["binary", "--explain", *row.flags, "s.fbs"]
+    outcome, _, peak = taken.of([*words, "long.json", "long.bin"])
+    status, text = outcome
+    good = status == 1 and text.startswith(f"{row.line}\nlong.json:") and PLACE.match(text.split("\n")[1])
+    tests.tell(f"the explanation of {row.name}", good, f"{outcome}")
+    tests.tell(f"the memory of explaining {row.name}", peak <= most, f"{peak} KiB, over {most:.0f} KiB")
+    with subprocess.Popen(["cat", "long.json"], stdout=subprocess.PIPE) as cat:
+        piped, _, peak = taken.of([*words, "/dev/stdin", "long.bin"], stdin=cat.stdout)
+    same = (status, text.replace("long.json:", "/dev/stdin:", 1))
+    tests.tell(f"{row.name}, explained from a pipe", piped == same, f"{piped}, not {same}")
+    most += 2 * LONG / 1024
+    tests.tell(f"the memory of explaining {row.name} from a pipe", peak <= most, f"{peak} KiB, over {most:.0f} KiB")
 
 
 def least_of(taken, row):

@@ -3,8 +3,9 @@ use crate::arming::{Outcome, arm, disarm};
 use crate::examples::Example;
 use crate::meanings::limits;
 use fb_conform::all_breaches;
+use fb_encode::text_fault_path;
 use fb_explain::{COLUMNS, Source, Sources, explain};
-use fb_json::fault_path as json_fault_path;
+use fb_json::{Source as JsonSource, fault_path as json_fault_path};
 use fb_layout::Layout;
 use fb_read::fault_path;
 use flatc_tool::{ToolFault, check, conform_texts, schema_of, to_binary};
@@ -55,6 +56,19 @@ fn steps_in_tree(alloc: Global, layout: &Layout, tree: &Json) -> Result<usize, A
     }
 }
 
+/// How many steps lead to the first fault of a JSON text that is read in pieces of a few bytes; 0 where there is none.
+fn steps_in_text(alloc: Global, layout: &Layout, json: &[u8]) -> Result<usize, AllocError> {
+    let source = JsonSource {
+        alloc,
+        layout,
+        unknown: false,
+    };
+    match text_fault_path(source, json, limits(), 8)? {
+        Some(steps) => Ok(steps.len()),
+        None => Ok(0),
+    }
+}
+
 fn count_breaches(alloc: Global, old: &Layout, new: &Layout) -> Result<usize, AllocError> {
     Ok(all_breaches(alloc, old, new)?.len())
 }
@@ -85,6 +99,20 @@ pub(crate) fn try_json_path(
     let known = steps_in_tree(rt.alloc(), layout, &tree);
     arm(rt, arms);
     let found = steps_in_tree(rt.alloc(), layout, &tree);
+    disarm(rt, arms);
+    of_count(known, found)
+}
+
+pub(crate) fn try_text_path(
+    rt: &HostRuntime,
+    example: &Example,
+    layout: &Layout,
+    arms: bool,
+) -> Outcome {
+    let json = example.refused_json;
+    let known = steps_in_text(rt.alloc(), layout, json);
+    arm(rt, arms);
+    let found = steps_in_text(rt.alloc(), layout, json);
     disarm(rt, arms);
     of_count(known, found)
 }

@@ -1,16 +1,16 @@
 //! The calls under a layout.
 use crate::arming::{Outcome, arm, disarm, of_bytes, of_text};
-use crate::diagnoses::{try_breaches, try_json_path, try_path};
+use crate::diagnoses::{try_breaches, try_json_path, try_path, try_text_path};
 use crate::examples::Example;
 use crate::meanings::limits;
 use crate::values::{is_printed_as, try_value_call};
 use fb_encode::{EncodeFault, TextFault, encode_text};
-use fb_json::value_of;
+use fb_json::{Source, value_of};
 use fb_layout::Layout;
 use fb_owned::read;
 use fb_read::Entries;
 use flatc_tool::{
-    DecodeOptions, EncodeOptions, ToolFault, decode, encode, encode_owned, schema_of,
+    DecodeOptions, EncodeOptions, ToolFault, decode, encode, encode_owned, encode_plan, schema_of,
 };
 use serde_json::Value as Json;
 
@@ -20,6 +20,22 @@ fn try_encode(rt: &HostRuntime, example: &Example, layout: &Layout, arms: bool) 
     let answer = encode(rt.alloc(), layout, example.json, &options);
     disarm(rt, arms);
     of_bytes(answer, example.bytes)
+}
+
+fn try_plan(rt: &HostRuntime, example: &Example, layout: &Layout, arms: bool) -> Outcome {
+    let Ok(mut json) = Vec::from_slice(rt.alloc(), example.json) else {
+        return Outcome::Wrong;
+    };
+    let options = EncodeOptions::new();
+    arm(rt, arms);
+    let answer = encode_plan(rt.alloc(), layout, &mut json, &options);
+    disarm(rt, arms);
+    match answer {
+        Ok(plan) => of_bytes(Ok(plan.finish()), example.bytes),
+        Err(ToolFault::Build(fault)) => Outcome::of_refusal(fault.number()),
+        Err(fault) if json.as_slice() == example.json => Outcome::of_refusal(fault.number()),
+        Err(_) => Outcome::Wrong,
+    }
 }
 
 fn try_owned(rt: &HostRuntime, example: &Example, layout: &Layout, arms: bool) -> Outcome {
@@ -36,8 +52,13 @@ fn try_owned(rt: &HostRuntime, example: &Example, layout: &Layout, arms: bool) -
 /// An example's buffer, whose text is read in pieces of a few bytes.
 fn try_pieces(rt: &HostRuntime, example: &Example, layout: &Layout, arms: bool) -> Outcome {
     let limits = limits();
+    let source = Source {
+        alloc: rt.alloc(),
+        layout,
+        unknown: false,
+    };
     arm(rt, arms);
-    let answer = encode_text(rt.alloc(), layout, example.json, limits, false, 8, false);
+    let answer = encode_text(source, example.json, limits, 8, false);
     disarm(rt, arms);
     match answer {
         Ok(bytes) => Outcome::of(bytes.as_slice() == example.bytes),
@@ -90,6 +111,7 @@ fn try_under(
 ) -> Option<Outcome> {
     match call {
         "encode" => Some(try_encode(rt, example, layout, arms)),
+        "encode_plan" => Some(try_plan(rt, example, layout, arms)),
         "encode_owned" => Some(try_owned(rt, example, layout, arms)),
         "encode_pieces" => Some(try_pieces(rt, example, layout, arms)),
         "decode" => Some(try_decode(rt, example, layout, arms)),
@@ -97,6 +119,7 @@ fn try_under(
         "value_of" => Some(try_value_of(rt, example, layout, arms)),
         "fault_path" => Some(try_path(rt, example, layout, arms)),
         "json_fault_path" => Some(try_json_path(rt, example, layout, arms)),
+        "text_fault_path" => Some(try_text_path(rt, example, layout, arms)),
         "all_breaches" => Some(try_breaches(rt, example, layout, arms)),
         _ => try_value_call(rt, call, example, layout, arms),
     }

@@ -14,7 +14,10 @@ use fb_read::{Entries, View, verify};
 use fb_schema::TypeId;
 use fb_text::{Noted, write_text};
 use fb_value::{Limits, Value};
-use flatc_tool::{DecodeOptions, decode_to, schema_of};
+use flatc_tool::{
+    DecodeOptions, EncodeOptions, TapePlan, ToolFault, decode_to, encode_plan, schema_of,
+};
+use std::alloc::Global;
 
 /// The last table of the vector in the first slot, the struct's number in the second, or the member.
 fn are_parts_seen(view: View) -> bool {
@@ -84,18 +87,45 @@ fn is_found(example: &Example, layout: &Layout) -> bool {
     is_named && has_none && has_no_field && is_limited && is_sized && schema.identifier().is_none()
 }
 
+/// The plans of one buffer: of its value, and of its JSON text.
+#[derive(Drop)]
+struct Plans<'l> {
+    value: Plan<'l>,
+    text: TapePlan<'l>,
+}
+
+impl Plans<'_> {
+    /// Whether both lay the buffer of an example.
+    fn are_of(self, example: &Example) -> bool {
+        let Plans { value, text } = self;
+        let (built, encoded) = (value.finish(), text.finish());
+        built.as_slice() == example.bytes && encoded.as_slice() == example.bytes
+    }
+}
+
+/// The plan of an example's buffer, of its JSON text.
+fn encode_planned<'l>(
+    alloc: Global,
+    example: &Example,
+    layout: &'l Layout,
+) -> Result<TapePlan<'l>, ToolFault> {
+    let Ok(mut json) = Vec::from_slice(alloc, example.json) else {
+        return Err(ToolFault::Memory);
+    };
+    encode_plan(alloc, layout, &mut json, &EncodeOptions::new())
+}
+
 fn is_all_right(
     example: &Example,
     layout: &Layout,
     newer: &Layout,
     value: &Value,
-    planned: Plan,
+    plans: Plans<'_>,
 ) -> bool
     requires fits { FitsRoot layout.now (view value.now) }
     requires nests { nesting (view value.now) ≤ 300 }
 {
-    let bytes = planned.finish();
-    let is_laid = bytes.as_slice() == example.bytes;
+    let is_laid = plans.are_of(example);
     let conforms = conform(layout, newer).is_ok();
     let is_printed = is_read(example, layout) && is_decoded(example, layout);
     let is_seen = is_printed && is_found(example, layout);
@@ -118,11 +148,18 @@ pub(crate) fn try_memoryless(
     let Ok(newer) = schema_of(rt.alloc(), example.newer) else {
         return Outcome::Wrong;
     };
-    let Ok(planned) = plan(rt.alloc(), layout, value) else {
+    let Ok(of_value) = plan(rt.alloc(), layout, value) else {
         return Outcome::Wrong;
     };
+    let Ok(of_text) = encode_planned(rt.alloc(), example, layout) else {
+        return Outcome::Wrong;
+    };
+    let plans = Plans {
+        value: of_value,
+        text: of_text,
+    };
     arm(rt, arms);
-    let is_right = is_all_right(example, layout, &newer, value, planned);
+    let is_right = is_all_right(example, layout, &newer, value, plans);
     disarm(rt, arms);
     Outcome::of(is_right)
 }

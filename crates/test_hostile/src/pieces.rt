@@ -1,9 +1,10 @@
-//! JSON texts that are read in pieces of a few bytes and at once: both ways have the same outcome.
-use fb_encode::{TextFault, encode_text};
+//! JSON texts that are read in pieces of a few bytes and at once: both ways have the same outcome, and the same path to
+//! what is refused.
+use fb_encode::{EncodeFault, TextFault, encode_text, text_fault_path};
+use fb_json::{Source, Step};
 use fb_layout::Layout;
 use fb_value::Limits;
 use flatc_tool::schema_of;
-use std::alloc::Global;
 use std::io;
 
 /// The bytes of a piece: from one element, or one member's text, on.
@@ -17,40 +18,55 @@ fn limits() -> Limits {
     limits
 }
 
-/// The outcome of a text in pieces of so many bytes.
-fn outcome(
-    alloc: Global,
-    layout: &Layout,
-    json: &[u8],
-    unknown: bool,
-    piece: usize,
-) -> Result<Vec<u8>, TextFault> {
-    encode_text(alloc, layout, json, limits(), unknown, piece, false)
+/// What comes of a text in pieces of so many bytes.
+#[derive(PartialEq, Drop)]
+struct Read {
+    encoded: Result<Vec<u8>, TextFault>,
+    path: Option<Vec<Step>>,
 }
 
-/// The first size of pieces with which a text has another outcome than at once.
-fn other_outcome(
-    alloc: Global,
-    layout: &Layout,
-    json: &[u8],
-    unknown: bool,
-    whole: &Result<Vec<u8>, TextFault>,
-) -> Option<usize> {
+impl Read {
+    fn of(source: Source, json: &[u8], piece: usize) -> Read {
+        Read {
+            encoded: encode_text(source, json, limits(), piece, false),
+            path: match text_fault_path(source, json, limits(), piece) {
+                Ok(path) => path,
+                Err(_) => None,
+            },
+        }
+    }
+
+    /// Whether a path leads to a fault exactly where a rule is broken.
+    fn is_led_to(&self) -> bool {
+        self.path.is_some() == matches!(self.encoded, Err(TextFault::Encode(EncodeFault::Json(_))))
+    }
+}
+
+/// The first size of pieces with which something else comes of a text than at once.
+fn other_pieces(source: Source, json: &[u8], whole: &Read) -> Option<usize> {
     for piece in PIECES {
-        if outcome(alloc, layout, json, unknown, *piece) != *whole {
+        if Read::of(source, json, *piece) != *whole {
             return Some(*piece);
         }
     }
     None
 }
 
-/// Prints the outcome of a text, or with which pieces it has another one.
+/// Prints the outcome of a text, or with which pieces something else comes of it.
 fn print_outcome(rt: &HostRuntime, layout: &Layout, json: &[u8], unknown: bool) -> io::Result<()> {
-    let whole = outcome(rt.alloc(), layout, json, unknown, json.len());
-    if let Some(piece) = other_outcome(rt.alloc(), layout, json, unknown, &whole) {
-        return println!(rt; "another outcome in pieces of {piece}");
+    let source = Source {
+        alloc: rt.alloc(),
+        layout,
+        unknown,
+    };
+    let whole = Read::of(source, json, json.len());
+    if !whole.is_led_to() {
+        return println!(rt; "another path than the outcome has");
     }
-    let told = match whole {
+    if let Some(piece) = other_pieces(source, json, &whole) {
+        return println!(rt; "another outcome or path in pieces of {piece}");
+    }
+    let told = match whole.encoded {
         Ok(_) => "a buffer",
         Err(TextFault::BadJson) => "no JSON",
         Err(TextFault::Memory) => "no memory",
