@@ -1,5 +1,5 @@
 -- How a refusal to encode is reported.
-use Rattle.std.specs.Prelude.{⊤, ⊥}
+use Rattle.std.specs.Prelude.{⊤}
 use Rattle.fb_encode.specs.declared.faults.EncodeFault.TheVariants as the_fault
 use Rattle.fb_encode.specs.declared.faults.TextFault.{TextFault}
 use Rattle.fb_encode.specs.declared.faults.TextFault.TheVariants as the_text
