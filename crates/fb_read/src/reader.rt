@@ -1,10 +1,11 @@
 //! The calls that read a buffer: in place once it is verified, or by a walk with a visitor.
-ghost use Rattle.std.specs.Prelude.{◌≡◌, ◌+◌, ◌≤◌, OnOk, IfOk, IfErr, Some, Err};
+ghost use Rattle.std.specs.Prelude.{◌≡◌, ◌+◌, ◌≤◌, OnOk, IfOk, IfErr, Some, Err, false};
 ghost use Rattle.fb_value.specs.Datum.{Datum};
 ghost use Rattle.fb_value.specs.Counts.{entered};
 ghost use Rattle.fb_value.specs.Holds.{Holds, Refuses, HoldsFramed, RefusesFramed, root_at, front_of};
 ghost use Rattle.fb_value.specs.Faults.{fault_from};
-ghost use Rattle.fb_read.specs.Values.{Finds, FindsWhile, KeepsAt, IsOpenBehind};
+ghost use Rattle.fb_read.specs.Values.{Finds, FindsWhile, KeepsAt, IsOpenBehind, MemoryLasts};
+ghost use Rattle.fb_read.specs.Entered.{EntersRefused, EntersToFault};
 ghost use Rattle.fb_read.specs.FaultPaths.{Hears};
 ghost use Rattle.fb_read.specs.Walks.{limits_of, EntersAt};
 ghost use Rattle.fb_read.specs.Shows.{Shows};
@@ -45,6 +46,8 @@ pub fn verify<'a>(
     ensures counted { entries.new.count ≤ entries.old.count + (limits.cells + 1) }
     ensures each { OnOk result ((v : Datum) → Holds layout.now limits raw bytes.now v
         → entries.new.count ≡ entries.old.count + entered v) }
+    ensures refused { IfErr result (λ f. EntersRefused false layout.now limits raw bytes.now f entries.old.count
+        entries.new.count) }
 {
     verify_framed(layout, bytes, limits, raw, false, entries)
 }
@@ -69,6 +72,8 @@ pub fn verify_framed<'a>(
     ensures counted { entries.new.count ≤ entries.old.count + (limits.cells + 1) }
     ensures each { OnOk result ((v : Datum) → HoldsFramed prefixed layout.now limits raw bytes.now v
         → entries.new.count ≡ entries.old.count + entered v) }
+    ensures refused { IfErr result (λ f. EntersRefused prefixed layout.now limits raw bytes.now f entries.old.count
+        entries.new.count) }
 {
     let buffer = Buffer::checked(layout, bytes, limits, raw, prefixed)?;
     let root = layout.schema().root();
@@ -129,6 +134,9 @@ pub fn visit_root<V: Visitor + Drop>(
     ensures rises { entries.old.count ≤ entries.new.count }
     ensures counted { entries.new.count ≤ entries.old.count + (buffer.now.most_cells + 1) }
     ensures each { OnOk result (EntersAt buffer.now (root_at buffer.now.layout.now (front_of prefixed))
+        entries.old.count entries.new.count) }
+    ensures refused { IfErr result (λ f. MemoryLasts V.takes_memory f → EntersToFault buffer.now.layout.now
+        buffer.now.bytes.now (limits_of buffer.now) (root_at buffer.now.layout.now (front_of prefixed)) f
         entries.old.count entries.new.count) }
 {
     let mut walk = Walk {

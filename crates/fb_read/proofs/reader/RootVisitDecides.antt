@@ -1,5 +1,7 @@
 -- A visit from the root decides whether the buffer holds a value.
-use Rattle.std.proofs.Common.{◌≡◌, ℕ, ◌+◌, List, Option, None, Some, Result, Ok, Err, OnOk, refl, ap, arith}
+use Rattle.std.proofs.Common.{◌≡◌, ℕ, ◌+◌, ◌<◌, ◌⊎◌, inl, inr, List, [], ◌∷◌, Option, None, Some, Result, Ok, Err}
+use Rattle.std.proofs.Common.{OnOk, IfErr, map, refl, sym, ap, arith}
+use Rattle.std.proofs.lemmas.Bool.{cases_order}
 use Rattle.fb_layout.specs.Laid.{LaidSchema}
 use Rattle.fb_layout.specs.WellMade.{IsWellMade}
 use Rattle.fb_value.specs.declared.faults.ReadFault.{ReadFault}
@@ -9,16 +11,19 @@ use Rattle.fb_value.specs.Num.{Bytes, num}
 use Rattle.fb_value.specs.Lies.{Lies}
 use Rattle.fb_value.specs.Places.{part_place, table_part, Place}
 use Rattle.fb_value.specs.Faults.{fault_from}
-use Rattle.fb_value.proofs.rules.ComputedFaultIsTheLeast.{from_none}
+use Rattle.fb_value.proofs.rules.ComputedFaultIsTheLeast.{from_none, from_some}
+use Rattle.fb_value.specs.Reached.{Path, ComesBefore}
 use Rattle.fb_value.specs.Holds.{HoldsBehind, NoFaultBehind, RefusesBehind, root_at}
 use Rattle.fb_value.proofs.held.BytesHoldAValueOrAFault.{outcome_shown}
 use Rattle.fb_read.specs.declared.buffer.Buffer.{Buffer}
 use Rattle.fb_read.specs.declared.step.Step.{Step}
 use Rattle.fb_read.specs.declared.verdict.Verdict.{Verdict}
-use Rattle.fb_read.specs.FaultPaths.{Hears}
-use Rattle.fb_read.specs.Values.{Gives, Finds, FindsWhile}
+use Rattle.fb_read.specs.Entered.{parts_along, EntersToFault}
+use Rattle.fb_read.specs.Ends.{ComesFrom}
+use Rattle.fb_read.specs.FaultPaths.{Hears, LeastAt, number_of}
+use Rattle.fb_read.specs.Values.{Gives, Finds, FindsWhile, MemoryLasts}
 use Rattle.fb_read.specs.Visits.{outcome, visit}
-use Rattle.fb_read.specs.Walks.{EntersAt}
+use Rattle.fb_read.specs.Walks.{IsBufferOf, limits_of, visit_in, EntersAt}
 
 pub err_told : (o : Option ReadFault) (n : ℕ) (f : ReadFault) → outcome o n ≡ Err f → o ≡ Some f
 err_told None n f e = cc
@@ -66,6 +71,65 @@ pub entered_more : {T : Type 0} (buffer : Buffer) (x : Place) (start ticks old n
 entered_more buffer x start ticks old new (Ok y) none is each = λ d lies.
     (let all = each d lies in omega (arith, none, is, all))
 entered_more buffer x start ticks old new (Err f) none is each = tt
+
+-- A visit that is refused gives the fault that is computed.
+pub visit_fault_is : (L : LaidSchema) (b : Bytes) (most : Bounds) (x : Place) (tables spent : ℕ) (f : ReadFault)
+    → visit L b most x tables spent ≡ Err f → fault_from L b most x tables spent ≡ Some f
+unfolding visit
+visit_fault_is L b most x tables spent f fails = err_told (fault_from L b most x tables spent) _ f fails
+
+-- ---- the least fault is one
+
+-- paths of which neither comes before the other
+same_path : (p q : Path) → (ComesBefore p q → ⊥) → (ComesBefore q p → ⊥) → p ≡ q
+same_path [] [] n m = refl
+same_path [] (k ∷ ks) n m = absurd (n tt)
+same_path (j ∷ js) [] n m = absurd (m tt)
+same_path (j ∷ js) (k ∷ ks) n m =
+    by_case (cases_order j k) (λ same. same_path js ks (λ h. n (inr (same, h))) (λ h. m (inr (sym same, h))))
+  where
+    by_case : (j ≡ k) ⊎ ((j < k) ⊎ (k < j)) → (j ≡ k → js ≡ ks) → (j ∷ js) ≡ (k ∷ ks)
+    by_case (inr (inl less)) rest = absurd (n (inl less))
+    by_case (inr (inr more)) rest = absurd (m (inl more))
+    by_case (inl same) rest = rw (same, rest same) refl
+
+-- What a walk has entered up to the least fault, which is this one.
+pub enters_to_fault : (L : LaidSchema) (b : Bytes) (most : Bounds) (x : Place) (path : Path) (f g : ReadFault)
+    (start ticks old new : ℕ) → fault_from L b most x 0 0 ≡ Some f → LeastAt L b most x 0 0 path g
+    → ticks ≡ start + parts_along L b x path → start ≡ 0 → new ≡ old + ticks → EntersToFault L b most x f old new
+enters_to_fault L b most x path f g start ticks old new computed least entered none added =
+    let found = from_some L b most x 0 0 f computed in
+    let same : found.0 ≡ path = same_path found.0 path (λ before. least.1 found.0 f before found.1)
+    (λ before. found.2 path g before least.0) in
+    (path, (rw same at found.1, rw same at found.2), omega (arith, entered, none, added))
+
+-- The same by what a buffer has.
+pub enters_in_buffer : {V : Type 0} (told : V → List Step → V → Type 0) (L : LaidSchema) (b : Bytes) (most : Bounds)
+    (buffer : Buffer) (x y : Place) (v w : V) (f : ReadFault) (start ticks old new : ℕ) → IsBufferOf L b most buffer
+    → x ≡ y → fault_from L b most y 0 0 ≡ Some f → ComesFrom told buffer (Some x) 0 0 v w start ticks → start ≡ 0
+    → new ≡ old + ticks → EntersToFault L b most y f old new
+enters_in_buffer told L b most buffer x y v w f start ticks old new same is computed comes none added =
+    let leads = rw (same.layout, same.bytes, same.depth, same.cells, is) at comes.leads in
+    let entered = rw (same.layout, same.bytes, is) at comes.entered in
+    enters_to_fault L b most y (map number_of comes.steps) f comes.fault start ticks old new computed leads.0 entered
+    none added
+
+-- The same as far as memory lasts.
+pub enters_while : {V T : Type 0} (takes : Type 0) (told : V → List Step → V → Type 0) (buffer : Buffer) (x : Place)
+    (v w : V) (start ticks old new : ℕ) (r : Result T ReadFault)
+    → IfErr r (λ f. MemoryLasts takes f → (visit_in buffer x 0 0 ≡ Err f)
+    × ComesFrom told buffer (Some x) 0 0 v w start ticks) → start ≡ 0 → new ≡ old + ticks
+    → IfErr r (λ f. MemoryLasts takes f
+    → EntersToFault buffer.layout.now buffer.bytes.now (limits_of buffer) x f old new)
+enters_while takes told buffer x v w start ticks old new (Ok y) ends none added = tt
+enters_while takes told buffer x v w start ticks old new (Err f) ends none added = λ lasts.
+    (let L = buffer.layout.now in
+    let b = buffer.bytes.now in
+    let most = limits_of buffer in
+    let known = ends lasts in
+    let comes = known.1 in
+    enters_to_fault L b most x (map number_of comes.steps) f comes.fault start ticks old new
+    (visit_fault_is L b most x 0 0 f known.0) comes.leads.0 comes.entered none added)
 
 module _ (p : ℕ) (front : Option ReadFault) (L : LaidSchema) (most : Bounds) (b : Bytes) (made : IsWellMade L) where
   -- refused behind a front that keeps its rules

@@ -1,12 +1,15 @@
-use Rattle.std.proofs.Common.{◌≡◌, ℕ, ◌+◌, ◌^◌, ◌<◌, ◌≤◌, Option, None, Some, refl, inl, sym, ◌∙◌, arith}
+use Rattle.std.proofs.Common.{◌≡◌, ℕ, ◌+◌, ◌^◌, ◌<◌, ◌≤◌, Option, None, Some, refl, inl, inr, sym, ◌∙◌, arith}
 use Rattle.std.proofs.lemmas.Grind.{merely}
 use Rattle.std.proofs.lemmas.Result.{err_from_is_err_and}
 use Rattle.fb_layout.specs.Laid.{LaidSchema}
 use Rattle.fb_value.specs.declared.faults.ReadFault.{ReadFault}
 use Rattle.fb_value.specs.Bounds.{Bounds}
 use Rattle.fb_value.specs.Num.{Bytes}
-use Rattle.fb_value.specs.Holds.{front_of, RefusesBehind}
-use Rattle.fb_read.proofs.reader.RootVisitDecides.{refused_root, held_root, view_lies}
+use Rattle.fb_value.specs.Holds.{front_of, root_at, RefusesBehind}
+use Rattle.fb_read.proofs.reader.RootVisitDecides.{refused_root, held_root, view_lies, visit_fault_is}
+use Rattle.fb_read.proofs.reader.RootVisitDecides.{enters_in_buffer}
+use Rattle.fb_value.specs.Places.{table_part, ref_place}
+use Rattle.fb_read.specs.Walks.{place}
 use Rattle.fb_read.proofs.reader.verify_framed.Goals as goal
 
 front_low : (front : ℕ) → front ≤ 4 → front < 2 ^ 33
@@ -57,6 +60,7 @@ returns-in_err-buffer c =
       rises = none_more c.args.entries.now.count;
       counted = few_more c.args.entries.now.count c.args.limits.cells;
       each = tt;
+      refused = inl (c.in_err-buffer.ensures.front, refl);
     })
 
 pub visit_table_behind-visited-requires-clause-low : goal.visit_table_behind-visited-requires-clause-low
@@ -80,6 +84,11 @@ returns-in_err-visited c =
     ) at (rw c.in_err-visited.was at c.visit_table_behind-visited.ensures.visit).visit in
     let few = rw same.cells at (rw c.in_err-visited.was at c.visit_table_behind-visited.ensures.visit).ticks in
     let fails = ends (λ never. absurd never) in
+    let L = c.args.layout.now in
+    let b = c.args.bytes.now in
+    let comes = (rw c.in_err-visited.was at c.visit_table_behind-visited.ensures.visit).comes (λ never. absurd never) in
+    let computed = visit_fault_is L b c.args.limits (root_at L (front_of c.args.prefixed)) 0 0
+    c.in_err-visited.field-0.0 fails in
     rw (p.1, p.2) (record {
       held = tt;
       root = tt;
@@ -89,6 +98,14 @@ returns-in_err-visited c =
       rises = added _ _ _ c.add_to.ensures;
       counted = added_few _ _ _ _ _ c.add_to.ensures c.new.ensures few;
       each = tt;
+      refused = inr (
+        c.in_ok-buffer.ensures.front,
+        enters_in_buffer (λ _ _ _. Unit {0}) L b c.args.limits c.in_ok-buffer.buffer
+            (place (ref_place (table_part c.root-root.result.0)) c.front_of-front.result)
+            (root_at L (front_of c.args.prefixed)) _ _ c.in_err-visited.field-0.0 _ _ _ _ same
+            (rw (c.root-root.ensures, c.front_of-front.ensures.exact, c.schema.ensures.schema) refl) computed comes
+            c.new.ensures c.add_to.ensures,
+      );
     })
 
 pub u32_at-requires : goal.u32_at-requires

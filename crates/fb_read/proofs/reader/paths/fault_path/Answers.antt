@@ -35,7 +35,7 @@ pub returns-in_ok-into_steps-in-Err : goal.returns-in_ok-into_steps-in-Err
 returns-in_ok-into_steps-in-Err c =
     let same = c.in-Ok.ensures.buffer in
     let found = c.in_ok-into_steps-in-Err.ensures in
-    let told = c.in-Err.ensures.visit.hears (λ never. absurd never) in
+    let told = c.in-Err.ensures.visit.comes (λ never. absurd never) in
     let heard = told.heard found.0 in
     let leads = rw (
       same.layout,
