@@ -5,6 +5,9 @@ use Rattle.std.specs.Prelude.{ℕ, zero, suc, ◌+◌, ◌≡◌, ◌⊎◌, [],
 use Rattle.fb_layout.specs.Laid.{LaidSchema}
 use Rattle.fb_value.specs.declared.faults.ReadFault.{ReadFault}
 use Rattle.fb_value.specs.Bounds.{Bounds}
+use Rattle.fb_value.specs.Counts.{entered}
+use Rattle.fb_value.specs.Datum.{Datum}
+use Rattle.fb_value.specs.Lies.{LiesAt}
 use Rattle.fb_value.specs.Num.{Bytes}
 use Rattle.fb_value.specs.Places.{Sort, part_place, Place, named}
 use Rattle.fb_value.specs.Rules.{fault_at}
@@ -59,3 +62,8 @@ EntersRefused prefixed L most raw b f old new =
     ((front_fault prefixed b (checked_identifier L raw) ≡ Some f) × (new ≡ old))
     ⊎ ((front_fault prefixed b (checked_identifier L raw) ≡ None)
     × EntersToFault L b most (root_at L (front_of prefixed)) f old new)
+
+-- The parts that are reached from a place are those of the value that lies there.
+abbrev pub PartsOfValue : Type 0
+PartsOfValue = (L : LaidSchema) (b : Bytes) (x : Place) (d : Datum) → LiesAt L b x.sort x.at d
+    → entered d ≡ parts_from L b x

@@ -18,12 +18,10 @@ use crate::entries::Entries;
 use crate::numbers::u32_at;
 use crate::verdict::{Nobody, Verdict};
 use crate::view::View;
-use crate::visit_tables::visit_table_behind;
 use crate::visitor::{Hearer, Visitor};
-use crate::walk::Walk;
 use fb_layout::Layout;
 use fb_value::{Limits, ReadFault, front_of};
-use ticks::Ticks;
+use ticks::walk_root;
 
 /// Whether the bytes hold a value; else the least of their faults.
 ///
@@ -77,15 +75,8 @@ pub fn verify_framed<'a>(
 {
     let buffer = Buffer::checked(layout, bytes, limits, raw, prefixed)?;
     let root = layout.schema().root();
+    visit_root(&buffer, Verdict { hearer: Nobody }, prefixed, entries)?;
     let front = front_of(prefixed);
-    let mut walk = Walk {
-        spent: 0,
-        ticks: Ticks::new(),
-        visitor: Verdict { hearer: Nobody },
-    };
-    let visited = visit_table_behind(&buffer, &mut walk, root, front, 0);
-    walk.ticks.add_to(entries);
-    visited?;
     let at = front + u32_at(bytes, front) as usize;
     Ok(View {
         layout,
@@ -96,25 +87,29 @@ pub fn verify_framed<'a>(
 }
 
 /// Walks over all that is reached from the root of a buffer, which may be `prefixed`, and returns the hearer.
+/// `entries` rises by one for each table, vector and text that is entered.
 pub fn visit_buffer<H: Hearer>(
     buffer: &Buffer,
     hearer: H,
     prefixed: bool,
+    entries: &mut Entries,
 ) -> (H, Result<(), ReadFault>)
     requires knows { H.knows hearer buffer.now }
     ensures finds { Finds result.1 (fault_from buffer.now.layout.now buffer.now.bytes.now (limits_of buffer.now)
         (root_at buffer.now.layout.now (front_of prefixed)) 0 0) }
     ensures hears { Hears ⊥ H.told buffer.now (Some (root_at buffer.now.layout.now (front_of prefixed))) 0 0 hearer
         result.0 result.1 }
+    ensures rises { entries.old.count ≤ entries.new.count }
+    ensures counted { entries.new.count ≤ entries.old.count + (buffer.now.most_cells + 1) }
+    ensures each { OnOk result.1 (EntersAt buffer.now (root_at buffer.now.layout.now (front_of prefixed))
+        entries.old.count entries.new.count) }
+    ensures refused { IfErr result.1 (λ f. EntersToFault buffer.now.layout.now buffer.now.bytes.now
+        (limits_of buffer.now) (root_at buffer.now.layout.now (front_of prefixed)) f entries.old.count
+        entries.new.count) }
 {
-    let mut walk = Walk {
-        spent: 0,
-        ticks: Ticks::new(),
-        visitor: Verdict { hearer },
-    };
-    let root = buffer.layout.schema().root();
-    let visited = visit_table_behind(buffer, &mut walk, root, front_of(prefixed), 0);
-    (walk.visitor.hearer, visited)
+    let (verdict, visited) = walk_root(buffer, Verdict { hearer }, prefixed, entries);
+    let Verdict { hearer } = verdict;
+    (hearer, visited)
 }
 
 /// Walks over all that is reached from the root of a buffer, which may be `prefixed`, and returns what the visitor
@@ -139,13 +134,6 @@ pub fn visit_root<V: Visitor + Drop>(
         buffer.now.bytes.now (limits_of buffer.now) (root_at buffer.now.layout.now (front_of prefixed)) f
         entries.old.count entries.new.count) }
 {
-    let mut walk = Walk {
-        spent: 0,
-        ticks: Ticks::new(),
-        visitor,
-    };
-    let root = buffer.layout.schema().root();
-    let kept = visit_table_behind(buffer, &mut walk, root, front_of(prefixed), 0);
-    walk.ticks.add_to(entries);
+    let (_visitor, kept) = walk_root(buffer, visitor, prefixed, entries);
     kept
 }

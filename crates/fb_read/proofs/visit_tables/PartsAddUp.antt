@@ -46,7 +46,7 @@ module _ (L : LaidSchema) (b : Bytes) where
       (enough_below L b x.sort x.at (length b - x.at) k y (levels_enough b x.at) keeps names)
       (levels_enough b y.at))))
 
-  parts_kept : (x : Place) → Keeps L b x.sort x.at
+  pub parts_kept : (x : Place) → Keeps L b x.sort x.at
       → parts_from L b x ≡ own_parts x.sort + sum_over (parts_from L b) (named L b x.sort x.at)
   parts_kept x keeps = parts_is x ∙ kept _ _ keeps
 
@@ -79,7 +79,7 @@ module _ (L : LaidSchema) (b : Bytes) where
 
   -- ---- a member has the parts of its table
 
-  member_part_parts : (c t p : ℕ) → parts_from L b (place (part_place (member_part c t)) p)
+  pub member_part_parts : (c t p : ℕ) → parts_from L b (place (part_place (member_part c t)) p)
       ≡ parts_from L b (place (part_place (table_part t)) p)
   unfolding fault_by
   member_part_parts c t p = parts_is (place (part_place (member_part c t)) p)
