@@ -114,6 +114,7 @@ pub fn visit_buffer<H: Hearer>(
 
 /// Walks over all that is reached from the root of a buffer, which may be `prefixed`, and returns what the visitor
 /// keeps of the root. `entries` rises by one for each table, vector and text that is entered.
+#[inline(always)]
 pub fn visit_root<V: Visitor + Drop>(
     buffer: &Buffer,
     visitor: V,

@@ -28,7 +28,8 @@ PartsWhereItLies L b d = (s : Sort) (q : ℕ) → Lies L b s q d → entered d �
 
 -- The parts of what lies at a place, once they are known of what is behind it.
 behind_parts : (L : LaidSchema) (b : Bytes) (s : Sort) (p : ℕ) (d : Datum)
-    → PartsWhereItLies L b d → Behind L b s p (λ s q. Lies L b s q d) → entered d ≡ parts_from L b (record { sort = s; at = p })
+    → PartsWhereItLies L b d → Behind L b s p (λ s q. Lies L b s q d)
+    → entered d ≡ parts_from L b (record { sort = s; at = p })
 behind_parts L b (ref_place X) p d known lies =
     omega (arith, known (part_place X) (p + num b p 4) lies.1, kept_at L b (ref_place X) p lies.0)
 behind_parts L b (part_place X) p d known lies = known (part_place X) p lies
@@ -88,7 +89,8 @@ no_references L b (Some X) p = refl
 
 -- What a vector names are its references.
 vector_references : (L : LaidSchema) (b : Bytes) (kind : StoredKind) (p n : ℕ) → n ≡ num b p 4
-    → sum_over (parts_from L b) (named L b (part_place (vector_part kind)) p) ≡ references L b (target_of kind) (p + 4) n
+    → sum_over (parts_from L b) (named L b (part_place (vector_part kind)) p)
+    ≡ references L b (target_of kind) (p + 4) n
 unfolding references
 vector_references L b text_kind p n e = rw e
 vector_references L b (table_kind t) p n e = rw e

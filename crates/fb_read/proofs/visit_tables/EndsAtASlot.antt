@@ -177,7 +177,8 @@ module _ {V K : Type 0} (takes : Type 0) (told : V → List Step → V → Type 
       → EndsAtEntry takes told (λ found. KeepsInSlot keeps buffer (slot_seen buffer.layout.now field)
       (slot_at buffer p k later field) found) buffer (slot_at buffer p k later field) tables old new r
       → IsRefused takes buffer old new (visit_entry_in buffer (slot_at buffer p k rest field) tables old.spent)
-      (ComesFrom told buffer (slot_at buffer p k rest field) tables old.spent old.visitor new.visitor old.ticks new.ticks)
+      (ComesFrom told buffer (slot_at buffer p k rest field) tables old.spent old.visitor new.visitor old.ticks
+      new.ticks)
       e
   slot_was_refused r e is was ends = rw (is, was) at ends
 
@@ -195,8 +196,8 @@ pub member_slot_refused : {V K : Type 0} (takes : Type 0) (told : V → List Ste
     (silent : (v : V) → told v [] v) (keeps : K → Datum → Type 0) (buffer : Buffer) (m : Option ℕ) (c t q tables : ℕ)
     (old new : Walk V) (f g : ReadFault) (r : Result (Option K) ReadFault) → m ≡ Some t → r ≡ Err g → g ≡ f
     → IsRefused takes buffer old new (visit_in buffer (place (ref_place (table_part t)) q) tables old.spent)
-    (ComesFrom told buffer (Some (place (ref_place (table_part t)) q)) tables old.spent old.visitor new.visitor old.ticks
-    new.ticks) f
+    (ComesFrom told buffer (Some (place (ref_place (table_part t)) q)) tables old.spent old.visitor new.visitor
+    old.ticks new.ticks) f
     → EndsAtEntry takes told (λ kept. (f : Slot) → f.if_absent ≡ None
     → KeepsInSlot keeps buffer f (union_place c q m) kept) buffer (union_place c q m) tables old new r
 member_slot_refused takes told silent keeps buffer m c t q tables old new f g r known err is refused =
@@ -204,8 +205,8 @@ member_slot_refused takes told silent keeps buffer m c t q tables old new f g r 
       visit = λ lasts. visit_member buffer.layout.now buffer.bytes.now (limits_of buffer) c t q tables old.spent
           ∙ refused.visit lasts;
       ticks = refused.ticks;
-      comes = λ lasts. member_heard told silent buffer c t q tables old.spent old.visitor new.visitor old.ticks new.ticks
-          (refused.comes lasts);
+      comes = λ lasts. member_heard told silent buffer c t q tables old.spent old.visitor new.visitor old.ticks
+          new.ticks (refused.comes lasts);
     })
 
 -- at a slot of a union, whose value has no default
