@@ -5,7 +5,7 @@ use crate::sources::Sources;
 use fb_explain_pages::{Page, push_dump};
 use fb_explain_words::{FileKind, kind_of_file};
 use fb_layout::Layout;
-use fb_read::{Step, fault_path};
+use fb_read::{Entries, Step, fault_path};
 use fb_value::{Limits, ReadFault, front_of};
 
 /// The bytes of a number at an offset.
@@ -148,6 +148,7 @@ fn push_fault_path(page: &mut Page, layout: &Layout, sources: &Sources<'_>) -> b
         sources.limits,
         sources.raw_binary,
         sources.size_prefixed,
+        &mut Entries::new(),
     );
     let Some(Some(steps)) = page.keep(steps) else {
         return false;

@@ -16,7 +16,7 @@ use crate::paths::{Scene, path_back, push_cut_path};
 use crate::pieces::{Piece, What};
 use fb_explain_pages::Page;
 use fb_layout::Layout;
-use fb_read::{Buffer, ReadFault, Step, visit_buffer};
+use fb_read::{Buffer, Entries, ReadFault, Step, visit_buffer};
 use fb_value::{Limits, front_of};
 use std::alloc::{AllocError, Global};
 
@@ -76,7 +76,7 @@ fn collect<'a>(
         Err(fault) => return (notes, Some(fault)),
     };
     let lister = Lister::new(alloc, buffer, notes);
-    let (lister, visited) = visit_buffer(&buffer, lister, prefixed);
+    let (lister, visited) = visit_buffer(&buffer, lister, prefixed, &mut Entries::new());
     let mut notes = lister.into_notes();
     notes.is_walked = true;
     match visited {

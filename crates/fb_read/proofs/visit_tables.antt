@@ -6,6 +6,7 @@ pub mod EnteredPartsAreCounted
 pub mod FrontIsFreeOfFaults
 pub mod HearsTheWayBack
 pub mod KeepsWhatLies
+pub mod PartsAddUp
 pub mod StepLeadsToTheLeast
 pub mod VisitsOnePlaceAfterAnother
 pub mod VisitsTakeTheSameAgain

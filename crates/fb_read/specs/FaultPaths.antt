@@ -73,18 +73,6 @@ pub record HearsFrom {V : Type 0} (told : V → List Step → V → Type 0) (buf
   pub heard : told old steps new
   pub leads : LeadsToLeast buffer.layout.now buffer.bytes.now (limits_of buffer) o tables spent steps fault
 
--- The same from some places, with the step to one of them before.
-pub record HearsAmong {V : Type 0} (told : V → List Step → V → Type 0) (step_to : ℕ → Step) (buffer : Buffer)
-    (xs : List (Option Place)) (tables spent : ℕ) (old new : V) : Type 0 where
-  pub index : ℕ
-  pub there : Option Place
-  pub spent_there : ℕ
-  pub comes : ComesTo buffer xs tables spent spent_there index there
-  pub steps : List Step
-  pub fault : ReadFault
-  pub heard : told old (step_to index ∷ steps) new
-  pub leads : LeadsToLeast buffer.layout.now buffer.bytes.now (limits_of buffer) there tables spent_there steps fault
-
 -- A visitor hears nothing of what was visited, or of the steps to its least fault, as far as memory lasts.
 abbrev pub Hears : {V T : Type 0} → Type 0 → (V → List Step → V → Type 0) → Buffer → Option Place → ℕ → ℕ → V → V
     → Result T ReadFault → Type 0

@@ -12,6 +12,7 @@ use Rattle.fb_read.specs.declared.buffer.Buffer.{Buffer}
 use Rattle.fb_read.specs.declared.visited.Visited.{Visited}
 use Rattle.fb_read.specs.declared.walk.Mark.{Mark}
 use Rattle.fb_read.specs.declared.walk.Walk.{Walk}
+use Rattle.fb_read.specs.Ends.{parts_in}
 use Rattle.fb_read.specs.Walks.{visit_in, EntersAt}
 
 -- what a part is a target for
@@ -26,6 +27,7 @@ part_at buffer part p = record { sort = part_place (target_in buffer.layout.now 
 -- The parts that a visit of a place enters; they are at most its cells.
 pub record IsCounted (buffer : Buffer) (x : Place) (visited : Visited) : Type 0 where
   pub few : visited.parts ≤ visited.cells
+  pub exact : visited.parts ≡ parts_in buffer x
   pub each : (d : Datum) → LiesAt buffer.layout.now buffer.bytes.now x.sort x.at d → visited.parts ≡ entered d
 
 -- A visit of a place, with so many tables above it and cells spent before it, finds no fault and takes so many cells.
@@ -40,6 +42,7 @@ pub record HasVisited {V : Type 0} (knows : V → Buffer → Type 0) (buffer : B
   pub known : knows walk.visitor buffer
   pub visit : visit_in buffer x tables mark.spent ≡ Ok walk.spent
   pub ticks : walk.ticks + mark.spent ≤ mark.parts + walk.spent
+  pub exact : walk.ticks ≡ mark.parts + parts_in buffer x
   pub each : EntersAt buffer x mark.parts walk.ticks
 
 -- So does each visit with at most as many tables above it, where its cells are within the limit.

@@ -1,10 +1,11 @@
 //! The calls that read a buffer: in place once it is verified, or by a walk with a visitor.
-ghost use Rattle.std.specs.Prelude.{◌≡◌, ◌+◌, ◌≤◌, OnOk, IfOk, IfErr, Some, Err};
+ghost use Rattle.std.specs.Prelude.{◌≡◌, ◌+◌, ◌≤◌, OnOk, IfOk, IfErr, Some, Err, false};
 ghost use Rattle.fb_value.specs.Datum.{Datum};
 ghost use Rattle.fb_value.specs.Counts.{entered};
 ghost use Rattle.fb_value.specs.Holds.{Holds, Refuses, HoldsFramed, RefusesFramed, root_at, front_of};
 ghost use Rattle.fb_value.specs.Faults.{fault_from};
-ghost use Rattle.fb_read.specs.Values.{Finds, FindsWhile, KeepsAt, IsOpenBehind};
+ghost use Rattle.fb_read.specs.Values.{Finds, FindsWhile, KeepsAt, IsOpenBehind, MemoryLasts};
+ghost use Rattle.fb_read.specs.Entered.{EntersRefused, EntersToFault};
 ghost use Rattle.fb_read.specs.FaultPaths.{Hears};
 ghost use Rattle.fb_read.specs.Walks.{limits_of, EntersAt};
 ghost use Rattle.fb_read.specs.Shows.{Shows};
@@ -17,12 +18,10 @@ use crate::entries::Entries;
 use crate::numbers::u32_at;
 use crate::verdict::{Nobody, Verdict};
 use crate::view::View;
-use crate::visit_tables::visit_table_behind;
 use crate::visitor::{Hearer, Visitor};
-use crate::walk::Walk;
 use fb_layout::Layout;
 use fb_value::{Limits, ReadFault, front_of};
-use ticks::Ticks;
+use ticks::walk_root;
 
 /// Whether the bytes hold a value; else the least of their faults.
 ///
@@ -45,6 +44,8 @@ pub fn verify<'a>(
     ensures counted { entries.new.count ≤ entries.old.count + (limits.cells + 1) }
     ensures each { OnOk result ((v : Datum) → Holds layout.now limits raw bytes.now v
         → entries.new.count ≡ entries.old.count + entered v) }
+    ensures refused { IfErr result (λ f. EntersRefused false layout.now limits raw bytes.now f entries.old.count
+        entries.new.count) }
 {
     verify_framed(layout, bytes, limits, raw, false, entries)
 }
@@ -69,18 +70,13 @@ pub fn verify_framed<'a>(
     ensures counted { entries.new.count ≤ entries.old.count + (limits.cells + 1) }
     ensures each { OnOk result ((v : Datum) → HoldsFramed prefixed layout.now limits raw bytes.now v
         → entries.new.count ≡ entries.old.count + entered v) }
+    ensures refused { IfErr result (λ f. EntersRefused prefixed layout.now limits raw bytes.now f entries.old.count
+        entries.new.count) }
 {
     let buffer = Buffer::checked(layout, bytes, limits, raw, prefixed)?;
     let root = layout.schema().root();
+    visit_root(&buffer, Verdict { hearer: Nobody }, prefixed, entries)?;
     let front = front_of(prefixed);
-    let mut walk = Walk {
-        spent: 0,
-        ticks: Ticks::new(),
-        visitor: Verdict { hearer: Nobody },
-    };
-    let visited = visit_table_behind(&buffer, &mut walk, root, front, 0);
-    walk.ticks.add_to(entries);
-    visited?;
     let at = front + u32_at(bytes, front) as usize;
     Ok(View {
         layout,
@@ -91,29 +87,34 @@ pub fn verify_framed<'a>(
 }
 
 /// Walks over all that is reached from the root of a buffer, which may be `prefixed`, and returns the hearer.
+/// `entries` rises by one for each table, vector and text that is entered.
 pub fn visit_buffer<H: Hearer>(
     buffer: &Buffer,
     hearer: H,
     prefixed: bool,
+    entries: &mut Entries,
 ) -> (H, Result<(), ReadFault>)
     requires knows { H.knows hearer buffer.now }
     ensures finds { Finds result.1 (fault_from buffer.now.layout.now buffer.now.bytes.now (limits_of buffer.now)
         (root_at buffer.now.layout.now (front_of prefixed)) 0 0) }
     ensures hears { Hears ⊥ H.told buffer.now (Some (root_at buffer.now.layout.now (front_of prefixed))) 0 0 hearer
         result.0 result.1 }
+    ensures rises { entries.old.count ≤ entries.new.count }
+    ensures counted { entries.new.count ≤ entries.old.count + (buffer.now.most_cells + 1) }
+    ensures each { OnOk result.1 (EntersAt buffer.now (root_at buffer.now.layout.now (front_of prefixed))
+        entries.old.count entries.new.count) }
+    ensures refused { IfErr result.1 (λ f. EntersToFault buffer.now.layout.now buffer.now.bytes.now
+        (limits_of buffer.now) (root_at buffer.now.layout.now (front_of prefixed)) f entries.old.count
+        entries.new.count) }
 {
-    let mut walk = Walk {
-        spent: 0,
-        ticks: Ticks::new(),
-        visitor: Verdict { hearer },
-    };
-    let root = buffer.layout.schema().root();
-    let visited = visit_table_behind(buffer, &mut walk, root, front_of(prefixed), 0);
-    (walk.visitor.hearer, visited)
+    let (verdict, visited) = walk_root(buffer, Verdict { hearer }, prefixed, entries);
+    let Verdict { hearer } = verdict;
+    (hearer, visited)
 }
 
 /// Walks over all that is reached from the root of a buffer, which may be `prefixed`, and returns what the visitor
 /// keeps of the root. `entries` rises by one for each table, vector and text that is entered.
+#[inline(always)]
 pub fn visit_root<V: Visitor + Drop>(
     buffer: &Buffer,
     visitor: V,
@@ -130,14 +131,10 @@ pub fn visit_root<V: Visitor + Drop>(
     ensures counted { entries.new.count ≤ entries.old.count + (buffer.now.most_cells + 1) }
     ensures each { OnOk result (EntersAt buffer.now (root_at buffer.now.layout.now (front_of prefixed))
         entries.old.count entries.new.count) }
+    ensures refused { IfErr result (λ f. MemoryLasts V.takes_memory f → EntersToFault buffer.now.layout.now
+        buffer.now.bytes.now (limits_of buffer.now) (root_at buffer.now.layout.now (front_of prefixed)) f
+        entries.old.count entries.new.count) }
 {
-    let mut walk = Walk {
-        spent: 0,
-        ticks: Ticks::new(),
-        visitor,
-    };
-    let root = buffer.layout.schema().root();
-    let kept = visit_table_behind(buffer, &mut walk, root, front_of(prefixed), 0);
-    walk.ticks.add_to(entries);
+    let (_visitor, kept) = walk_root(buffer, visitor, prefixed, entries);
     kept
 }

@@ -12,7 +12,7 @@ ghost use Rattle.fb_read.specs.Stored.{number_entry, defaults_of};
 ghost use Rattle.fb_read.specs.Tails.{entries_from, entry_before};
 ghost use Rattle.fb_read.specs.Visits.{Visits, slot_seen, slots_seen};
 ghost use Rattle.fb_read.specs.Walks.{place, visit_in, visit_entry_in, HasVtable, IsWithin, EntersSlot};
-ghost use Rattle.fb_read.specs.Ends.{EndsAt};
+ghost use Rattle.fb_read.specs.Ends.{EndsAt, parts_in_entry};
 
 use crate::buffer::Buffer;
 use crate::kinds::base_of;
@@ -145,6 +145,8 @@ pub fn is_settled(buffer: &Buffer, field: &FieldInfo, table: TableAt, slot: usiz
     ensures each { IsTrue result → (fs : List Slot) (n : ℕ)
         → EntersSlot buffer.now (slot_place buffer.now.layout.now buffer.now.bytes.now table.at slot fs
         (slot_seen buffer.now.layout.now field.now)) n n }
+    ensures parts { IsTrue result → (fs : List Slot) → parts_in_entry buffer.now (slot_place buffer.now.layout.now
+        buffer.now.bytes.now table.at slot fs (slot_seen buffer.now.layout.now field.now)) ≡ 0 }
 {
     let offset = held_slot(buffer.bytes, table.at, table.vtable_at, slot);
     if offset == 0 {
@@ -190,6 +192,8 @@ pub fn is_passed_by<V: Visitor>(
     ensures each { IsTrue result → (fs : List Slot) (n : ℕ)
         → EntersSlot buffer.now (slot_place buffer.now.layout.now buffer.now.bytes.now table.at slot fs
         (slot_seen buffer.now.layout.now field.now)) n n }
+    ensures parts { IsTrue result → (fs : List Slot) → parts_in_entry buffer.now (slot_place buffer.now.layout.now
+        buffer.now.bytes.now table.at slot fs (slot_seen buffer.now.layout.now field.now)) ≡ 0 }
     ensures kept { IsTrue result → (entries : V.KeptEntries) (k : ℕ) (es : SlotEntries) → V.has_entries entries k es
         → V.has_entries entries (k + 1) es }
 {

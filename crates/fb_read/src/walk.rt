@@ -14,7 +14,6 @@ use fb_schema::FieldInfo;
 use fb_value::ReadFault;
 
 /// What rises along a walk, the cells spent so far and the parts entered, and its visitor.
-#[derive(Drop)]
 pub struct Walk<V> {
     pub spent: u64,
     pub ticks: Ticks,

@@ -1,9 +1,10 @@
 -- The slots of some fields, by position.
 use Rattle.std.proofs.Math.Seq.{drop-cons}
 use Rattle.fb_schema.specs.declared.types.FieldInfo.{FieldInfo}
-use Rattle.std.proofs.Common.{slice_index_or, slice_get, drop, length, ◌≡◌, ℕ, zero, suc, ◌<◌, ◌≤◌, List, [], ◌∷◌}
-use Rattle.std.proofs.Common.{false, None, Some, refl, sym, ap, ◌∙◌, arith}
-use Rattle.fb_layout.specs.Laid.{LaidSchema}
+use Rattle.std.proofs.Common.{slice_index_or, slice_get, drop, length, ◌≡◌, ℕ, zero, suc, ◌+◌, ◌<◌, ◌≤◌, List, []}
+use Rattle.std.proofs.Common.{◌∷◌, false, None, Some, refl, sym, ap, ◌∙◌, arith}
+use Rattle.fb_layout.specs.Laid.{LaidSchema, Slot}
+use Rattle.fb_value.specs.Places.{named_slots}
 use Rattle.fb_value.specs.Num.{Bytes}
 use Rattle.fb_value.specs.Missing.{is_missing_slot}
 use Rattle.fb_value.specs.Rules.{is_missing}
@@ -49,3 +50,13 @@ drop_past [] zero h = refl
 drop_past [] (suc k) h = refl
 drop_past (x ∷ xs) zero h = absurd (omega arith)
 drop_past (x ∷ xs) (suc k) h = drop_past xs k (omega arith)
+
+-- the places that the rest of some slots name
+pub named_drop : (L : LaidSchema) (b : Bytes) (p j k : ℕ) (fs : List Slot)
+    → drop k (named_slots L b p j fs) ≡ named_slots L b p (j + k) (drop k fs)
+unfolding named_slots
+named_drop L b p j zero fs = let here : j + 0 ≡ j = omega arith in rw here refl
+named_drop L b p j (suc k) [] = refl
+named_drop L b p j (suc k) (f ∷ fs) =
+    let there : j + suc k ≡ suc j + k = omega arith in
+    rw there (named_drop L b p (suc j) k fs)

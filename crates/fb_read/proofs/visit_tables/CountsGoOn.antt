@@ -18,6 +18,11 @@ pub refused_then : (old spent mid spent_mid new last most : ℕ) → mid + spent
     → new + spent_mid ≤ mid + (most + 1) → last ≡ new → last + spent ≤ old + (most + 1)
 refused_then old spent mid spent_mid new last most before here is_new = omega arith
 
+-- What was entered before a fault goes with what was entered on the way to it.
+pub exact_then : (old mid new last before here : ℕ) → mid ≡ old + before → new ≡ mid + here → last ≡ new
+    → last ≡ old + (before + here)
+exact_then old mid new last before here is_mid is_new is_last = omega arith
+
 -- a table itself, and what its entries take
 pub table_then : (old mid spent new spent_new : ℕ) → mid ≡ old + 1 → new + (spent + 1) ≤ mid + spent_new
     → new + spent ≤ old + spent_new

@@ -1,5 +1,5 @@
 -- How a walk ends at a place, by how it ends at what the place names.
-use Rattle.std.proofs.Common.{◌≡◌, ℕ, ◌+◌, ◌≤◌, List, [], ◌∷◌, Some, Result, Ok, Err, MatchResult, IfOk, OnOk}
+use Rattle.std.proofs.Common.{◌≡◌, ℕ, ◌+◌, ◌≤◌, List, [], ◌∷◌, Some, Result, Ok, Err, MatchResult, IfOk, IfErr, OnOk}
 use Rattle.std.proofs.Common.{◌∙◌}
 use Rattle.std.proofs.Common.{arith}
 use Rattle.fb_value.specs.declared.faults.ReadFault.{ReadFault}
@@ -13,17 +13,19 @@ use Rattle.fb_read.specs.declared.step.Step.{Step}
 use Rattle.fb_read.specs.declared.step.Step.TheVariants.{Reference, Element}
 use Rattle.fb_read.specs.declared.walk.Mark.{Mark}
 use Rattle.fb_read.specs.declared.walk.Walk.{Walk}
-use Rattle.fb_read.specs.Ends.{IsRefused, PassesAt, EndsAt, EndsAtEach}
-use Rattle.fb_read.specs.FaultPaths.{HearsFrom, Hears}
+use Rattle.fb_read.specs.Ends.{ComesFrom, IsRefused, PassesAt, EndsAt, EndsAtEach}
+use Rattle.fb_read.specs.Entered.{own_parts}
+use Rattle.fb_read.specs.FaultPaths.{Hears}
 use Rattle.fb_read.specs.Visited.{HasVisited}
 use Rattle.fb_read.specs.Walks.{place, limits_of, visit_in, EntersAt}
 use Rattle.fb_read.specs.Walks.{EntersItems}
-use Rattle.fb_read.specs.Values.{Gives, KeepsAt, KeepsItems}
+use Rattle.fb_read.specs.Values.{Gives, KeepsAt, KeepsItems, MemoryLasts}
 use Rattle.fb_layout.specs.Laid.{StoredKind}
 use Rattle.fb_read.proofs.visit_tables.VisitsOnePlaceAfterAnother.{visit_fault, visit_over, visit_ref, visit_vector}
 use Rattle.fb_read.proofs.visit_tables.HearsTheWayBack.{rule_heard, limit_heard, leaf_heard, ref_heard, vector_heard}
 use Rattle.fb_read.proofs.visit_tables.EnteredPartsAreCounted.{vector_entered}
 use Rattle.fb_read.proofs.visit_tables.KeepsWhatLies.{vector_kept}
+use Rattle.fb_read.proofs.visit_tables.PartsAddUp.{parts_ref, parts_vector}
 
 -- a walk that has entered a part
 abbrev pub ticked : {V : Type 0} → Walk V → ℕ → Walk V
@@ -46,7 +48,14 @@ module _ {V K : Type 0} (takes : Type 0) (told : V → List Step → V → Type 
   pub ends_heard : (r : Result K ReadFault) → EndsAt takes told keeps buffer x tables old new r
       → Hears takes told buffer (Some x) tables old.spent old.visitor new.visitor r
   ends_heard (Ok kept) passes = passes.silent
-  ends_heard (Err f) ends = ends.hears
+  ends_heard (Err f) ends = λ lasts. let comes = ends.comes lasts in
+      record { steps = comes.steps; fault = comes.fault; heard = comes.heard; leads = comes.leads }
+
+  pub ends_reached : (r : Result K ReadFault) → EndsAt takes told keeps buffer x tables old new r
+      → IfErr r (λ f. MemoryLasts takes f → (visit_in buffer x tables old.spent ≡ Err f)
+      × ComesFrom told buffer (Some x) tables old.spent old.visitor new.visitor old.ticks new.ticks)
+  ends_reached (Ok kept) passes = tt
+  ends_reached (Err f) ends = λ lasts. (ends.visit lasts, ends.comes lasts)
 
   pub ends_kept : (r : Result K ReadFault) → EndsAt takes told keeps buffer x tables old new r
       → IfOk r (KeepsAt keeps buffer x)
@@ -61,7 +70,7 @@ module _ {V K : Type 0} (takes : Type 0) (told : V → List Step → V → Type 
   pub ends_refused : (r : Result K ReadFault) (f : ReadFault) → r ≡ Err f
       → EndsAt takes told keeps buffer x tables old new r
       → IsRefused takes buffer old new (visit_in buffer x tables old.spent)
-      (HearsFrom told buffer (Some x) tables old.spent old.visitor new.visitor) f
+      (ComesFrom told buffer (Some x) tables old.spent old.visitor new.visitor old.ticks new.ticks) f
   ends_refused r f was ends = rw was at ends
 
 -- ---- its own faults
@@ -71,13 +80,15 @@ module _ {V : Type 0} (takes : Type 0) (told : V → List Step → V → Type 0)
   -- refused by a rule of the place
   pub rule_refused : (x : Place) (tables : ℕ) (old new : Walk V) (f : ReadFault)
       → fault_at buffer.layout.now buffer.bytes.now x.sort x.at ≡ Some f
-      → new.ticks + old.spent ≤ old.ticks + (buffer.most_cells + 1) → new.visitor ≡ old.visitor
+      → new.ticks + old.spent ≤ old.ticks + (buffer.most_cells + 1) → new.ticks ≡ old.ticks + own_parts x.sort
+      → new.visitor ≡ old.visitor
       → IsRefused takes buffer old new (visit_in buffer x tables old.spent)
-      (HearsFrom told buffer (Some x) tables old.spent old.visitor new.visitor) f
-  rule_refused x tables old new f fails ticks same = record {
+      (ComesFrom told buffer (Some x) tables old.spent old.visitor new.visitor old.ticks new.ticks) f
+  rule_refused x tables old new f fails ticks counted same = record {
     visit = λ lasts. visit_fault buffer.layout.now buffer.bytes.now (limits_of buffer) x tables old.spent f fails;
     ticks = ticks;
-    hears = λ lasts. rw same (rule_heard told silent buffer x tables old.spent old.visitor f fails);
+    comes = λ lasts. rw same (rule_heard told silent buffer x tables old.spent old.visitor old.ticks new.ticks f fails
+        counted);
   }
 
   -- refused by a limit, where the rules hold
@@ -85,32 +96,36 @@ module _ {V : Type 0} (takes : Type 0) (told : V → List Step → V → Type 0)
       → Keeps buffer.layout.now buffer.bytes.now x.sort x.at
       → first_failing (limit_rules (limits_of buffer) x.sort x.at (tables + own_tables x.sort) (old.spent
       + own_cells buffer.bytes.now x.sort x.at)) ≡ Some f
-      → new.ticks + old.spent ≤ old.ticks + (buffer.most_cells + 1) → new.visitor ≡ old.visitor
+      → new.ticks + old.spent ≤ old.ticks + (buffer.most_cells + 1) → new.ticks ≡ old.ticks + own_parts x.sort
+      → new.visitor ≡ old.visitor
       → IsRefused takes buffer old new (visit_in buffer x tables old.spent)
-      (HearsFrom told buffer (Some x) tables old.spent old.visitor new.visitor) f
-  limit_refused x tables old new f keeps fails ticks same = record {
+      (ComesFrom told buffer (Some x) tables old.spent old.visitor new.visitor old.ticks new.ticks) f
+  limit_refused x tables old new f keeps fails ticks counted same = record {
     visit = λ lasts. visit_over buffer.layout.now buffer.bytes.now (limits_of buffer) x tables old.spent f keeps fails;
     ticks = ticks;
-    hears = λ lasts. rw same (limit_heard told silent buffer x tables old.spent old.visitor f keeps fails);
+    comes = λ lasts. rw same (limit_heard told silent buffer x tables old.spent old.visitor old.ticks new.ticks f keeps
+        fails counted);
   }
 
   -- refused at a place that names nothing
   pub leaf_refused : (x : Place) (tables : ℕ) (old new : Walk V) (f : ReadFault)
       → named buffer.layout.now buffer.bytes.now x.sort x.at ≡ [] → visit_in buffer x tables old.spent ≡ Err f
-      → new.ticks + old.spent ≤ old.ticks + (buffer.most_cells + 1) → new.visitor ≡ old.visitor
+      → new.ticks + old.spent ≤ old.ticks + (buffer.most_cells + 1) → new.ticks ≡ old.ticks + own_parts x.sort
+      → new.visitor ≡ old.visitor
       → IsRefused takes buffer old new (visit_in buffer x tables old.spent)
-      (HearsFrom told buffer (Some x) tables old.spent old.visitor new.visitor) f
-  leaf_refused x tables old new f none fails ticks same = record {
+      (ComesFrom told buffer (Some x) tables old.spent old.visitor new.visitor old.ticks new.ticks) f
+  leaf_refused x tables old new f none fails ticks counted same = record {
     visit = λ lasts. fails;
     ticks = ticks;
-    hears = λ lasts. rw same (leaf_heard told silent buffer x tables old.spent f old.visitor none fails);
+    comes = λ lasts. rw same (leaf_heard told silent buffer x tables old.spent f old.visitor old.ticks new.ticks none
+        fails counted);
   }
 
 -- refused at a place
 pub place_refused : {V K : Type 0} (takes : Type 0) (told : V → List Step → V → Type 0) (keeps : K → Datum → Type 0)
     (buffer : Buffer) (x : Place) (tables : ℕ) (old new : Walk V) (f g : ReadFault) (r : Result K ReadFault)
     → r ≡ Err g → g ≡ f → IsRefused takes buffer old new (visit_in buffer x tables old.spent)
-    (HearsFrom told buffer (Some x) tables old.spent old.visitor new.visitor) f
+    (ComesFrom told buffer (Some x) tables old.spent old.visitor new.visitor old.ticks new.ticks) f
     → EndsAt takes told keeps buffer x tables old new r
 place_refused takes told keeps buffer x tables old new f g r err is refused = rw (err, is) refused
 
@@ -125,6 +140,7 @@ module _ {V K : Type 0} (keeps : K → Datum → Type 0) (buffer : Buffer) where
         ∙ (rw is at passes.visit);
     few = passes.few;
     ticks = passes.ticks;
+    exact = rw (parts_ref buffer.layout.now buffer.bytes.now X p q rules is) passes.exact;
     each = λ d lies. passes.each d (rw is lies.1);
     silent = passes.silent;
     kept = λ d lies. passes.kept d (rw is lies.1);
@@ -146,6 +162,7 @@ module _ {V K : Type 0} (takes : Type 0) (told : V → List Step → V → Type 
         visit = rw spent passes.visit;
         few = rw spent passes.few;
         ticks = rw (spent, ticks) passes.ticks;
+        exact = rw ticks passes.exact;
         each = rw ticks passes.each;
         silent = tells ∙ passes.silent;
         kept = passes.kept;
@@ -154,8 +171,8 @@ module _ {V K : Type 0} (takes : Type 0) (told : V → List Step → V → Type 
     visit = λ lasts. visit_ref buffer.layout.now buffer.bytes.now (limits_of buffer) X p tables old.spent rules
         ∙ (rw is at (ends.visit lasts));
     ticks = rw ticks ends.ticks;
-    hears = λ lasts. ref_heard told silent buffer X p q tables old.spent old.visitor mid.visitor new.visitor
-        rules is (ends.hears lasts) tells;
+    comes = λ lasts. rw ticks (ref_heard told silent buffer X p q tables old.spent old.visitor mid.visitor new.visitor
+        old.ticks mid.ticks rules is (ends.comes lasts) tells);
   }
 
   -- What a walk has taken at a part since a mark.
@@ -166,6 +183,7 @@ module _ {V K : Type 0} (takes : Type 0) (told : V → List Step → V → Type 
     known = rw passes.silent known;
     visit = rw spent passes.visit;
     ticks = rw (spent, parts) passes.ticks;
+    exact = rw parts passes.exact;
     each = rw parts passes.each;
   }
   has_visited knows x tables mark old new (Err f) spent parts known ends = tt
@@ -188,6 +206,7 @@ module _ {V K : Type 0} (takes : Type 0) (told : V → List Step → V → Type 
             ∙ (rw (X_is, ← is, ← spent) passes.visit);
         few = passes.few;
         ticks = omega (arith, passes.ticks);
+        exact = rw (parts_vector L b kind p rules, X_is, ← is) (omega (arith, ticks, passes.exact));
         each = vector_entered L b kind p n old.ticks new.ticks is (λ ds long lies. rw (← ticks)
             (passes.each kind X_is ds long lies));
         silent = passes.silent ∙ same;
@@ -200,7 +219,6 @@ module _ {V K : Type 0} (takes : Type 0) (told : V → List Step → V → Type 
         visit = λ lasts. visit_vector L b (limits_of buffer) kind p tables old.spent rules (rw is at small)
             ∙ (rw (X_is, ← is, ← spent) (ends.visit lasts));
         ticks = omega (arith, ends.ticks);
-        hears = λ lasts. vector_heard told silent buffer kind X p tables old.spent n old.visitor new.visitor X_is rules
-            is
-            small (rw (spent, same) at (ends.hears lasts));
+        comes = λ lasts. vector_heard told silent buffer kind X p tables old.spent n old.visitor new.visitor old.ticks
+            mid.ticks new.ticks X_is rules is small ticks (rw (spent, same) at (ends.comes lasts));
       }

@@ -12,8 +12,7 @@ use Rattle.fb_schema.specs.declared.types.FieldInfo.{FieldInfo}
 use Rattle.fb_read.specs.declared.buffer.Buffer.{Buffer}
 use Rattle.fb_read.specs.declared.step.Step.{Step}
 use Rattle.fb_read.specs.declared.walk.Walk.{Walk}
-use Rattle.fb_read.specs.Ends.{Passes, PassesAt, IsRefused, EndsAtEntry, slot_at}
-use Rattle.fb_read.specs.FaultPaths.{HearsFrom}
+use Rattle.fb_read.specs.Ends.{parts_in_entry, ComesFrom, Passes, PassesAt, IsRefused, EndsAtEntry, slot_at}
 use Rattle.fb_read.specs.Values.{Gives, KeepsInline, KeepsEntry, KeepsInSlot}
 use Rattle.fb_read.specs.Walks.{place, limits_of, visit_in, visit_entry_in, EntersAt, EntersSlot, entered_in}
 use Rattle.fb_read.specs.Visits.{slot_seen, union_place}
@@ -21,6 +20,7 @@ use Rattle.fb_read.specs.Stored.{number_entry}
 use Rattle.fb_read.proofs.visit_tables.VisitsOnePlaceAfterAnother.{visit_member, visit_no_member}
 use Rattle.fb_read.proofs.visit_tables.EnteredPartsAreCounted.{inline_slot_entered, none_entered, member_slot_entered}
 use Rattle.fb_read.proofs.visit_tables.HearsTheWayBack.{leaf_heard, member_heard}
+use Rattle.fb_read.proofs.visit_tables.PartsAddUp.{parts_none, parts_member}
 use Rattle.fb_read.proofs.visit_tables.KeepsWhatLies.{ref_slot_kept, member_kept, default_is}
 
 -- ---- past what it names
@@ -56,12 +56,13 @@ module _ {V K : Type 0} (keeps : K → Datum → Type 0) (buffer : Buffer) where
   -- past a slot that names a reference
   pub ref_slot_passes : (x : Option Place) (X : Target) (q tables : ℕ) (old new : Walk V) (f : Slot) (kept : K)
       → x ≡ Some (place (ref_place X) q) → PassesAt keeps buffer (place (ref_place X) q) tables old new kept
-      → Passes buffer old new (visit_entry_in buffer x tables old.spent)
+      → Passes buffer old new (visit_entry_in buffer x tables old.spent) (parts_in_entry buffer x)
       (λ before after. EntersSlot buffer x before after) (λ found. KeepsInSlot keeps buffer f x found) (Some kept)
   ref_slot_passes x X q tables old new f kept is passes = rw is (record {
     visit = passes.visit;
     few = passes.few;
     ticks = passes.ticks;
+    exact = passes.exact;
     each = λ g o lies. ref_entered buffer X q old.ticks new.ticks g o passes.each lies;
     silent = passes.silent;
     kept = λ o lies. ref_slot_kept keeps buffer.layout.now buffer.bytes.now f X q kept passes.kept o lies;
@@ -70,12 +71,13 @@ module _ {V K : Type 0} (keeps : K → Datum → Type 0) (buffer : Buffer) where
   -- past a slot that names no place
   pub no_place_passes : (x : Option Place) (tables : ℕ) (walk : Walk V) (f : Slot) (kept : Option K) → x ≡ None
       → walk.spent ≤ buffer.most_cells → KeepsEntry keeps kept (number_entry f.if_absent)
-      → Passes buffer walk walk (visit_entry_in buffer x tables walk.spent)
+      → Passes buffer walk walk (visit_entry_in buffer x tables walk.spent) (parts_in_entry buffer x)
       (λ before after. EntersSlot buffer x before after) (λ found. KeepsInSlot keeps buffer f x found) kept
   no_place_passes x tables walk f kept is few known = rw is (record {
     visit = refl;
     few = few;
     ticks = omega arith;
+    exact = omega arith;
     each = λ g o lies. let none = none_entered buffer.layout.now buffer.bytes.now g o lies in omega (arith, none);
     silent = refl;
     kept = λ o lies. rw (default_is buffer.layout.now buffer.bytes.now f o lies) at known;
@@ -85,12 +87,14 @@ module _ {V K : Type 0} (keeps : K → Datum → Type 0) (buffer : Buffer) where
   pub code_passes : (x : Option Place) (u k : ℕ) (needed here : Bool) (q tables : ℕ) (walk : Walk V) (f : Slot)
       → x ≡ Some (place (code_place u k needed here) q) → walk.spent ≤ buffer.most_cells
       → visit_in buffer (place (code_place u k needed here) q) tables walk.spent ≡ Ok walk.spent
-      → Passes buffer walk walk (visit_entry_in buffer x tables walk.spent)
+      → Passes buffer walk walk (visit_entry_in buffer x tables walk.spent) (parts_in_entry buffer x)
       (λ before after. EntersSlot buffer x before after) (λ found. KeepsInSlot keeps buffer f x found) None
   code_passes x u k needed here q tables walk f is few visit = rw is (record {
     visit = visit;
     few = few;
     ticks = omega arith;
+    exact = rw (parts_none buffer.layout.now buffer.bytes.now (place (code_place u k needed here) q) refl refl)
+        (omega arith);
     each = λ g o lies. (code_entered buffer u k needed here q walk.ticks g o lies).0;
     silent = refl;
     kept = λ o lies. (code_entered buffer u k needed here q walk.ticks f o lies).1;
@@ -101,6 +105,7 @@ module _ {V K : Type 0} (keeps : K → Datum → Type 0) (buffer : Buffer) where
       → PassesAt keeps buffer (place (ref_place (table_part t)) q) tables old new table
       → ((d : Datum) → keeps table d → keeps kept (a_member c d))
       → Passes buffer old new (visit_entry_in buffer (union_place c q m) tables old.spent)
+      (parts_in_entry buffer (union_place c q m))
       (λ before after. EntersSlot buffer (union_place c q m) before after)
       (λ found. (f : Slot) → f.if_absent ≡ None → KeepsInSlot keeps buffer f (union_place c q m) found) (Some kept)
   member_passes m c t q tables old new table kept is passes finish =
@@ -110,6 +115,7 @@ module _ {V K : Type 0} (keeps : K → Datum → Type 0) (buffer : Buffer) where
         visit = visit_member L b (limits_of buffer) c t q tables old.spent ∙ passes.visit;
         few = passes.few;
         ticks = passes.ticks;
+        exact = rw (parts_member L b c t q) passes.exact;
         each = λ g o lies. member_slot_entered L b g c t q old.ticks new.ticks o passes.each lies;
         silent = passes.silent;
         kept = λ f none o lies. ref_slot_kept keeps L b f (member_part c t) q kept
@@ -120,6 +126,7 @@ module _ {V K : Type 0} (keeps : K → Datum → Type 0) (buffer : Buffer) where
   pub no_value_passes : (m : Option ℕ) (c q tables : ℕ) (walk : Walk V) → m ≡ None
       → walk.spent ≤ buffer.most_cells → c ≡ 0
       → Passes buffer walk walk (visit_entry_in buffer (union_place c q m) tables walk.spent)
+      (parts_in_entry buffer (union_place c q m))
       (λ before after. EntersSlot buffer (union_place c q m) before after)
       (λ found. (f : Slot) → f.if_absent ≡ None → KeepsInSlot keeps buffer f (union_place c q m) found) None
   no_value_passes m c q tables walk is few coded =
@@ -127,6 +134,7 @@ module _ {V K : Type 0} (keeps : K → Datum → Type 0) (buffer : Buffer) where
         visit = refl;
         few = few;
         ticks = omega arith;
+        exact = omega arith;
         each = λ g o lies. let none = none_entered buffer.layout.now buffer.bytes.now g o lies in omega (arith, none);
         silent = refl;
         kept = λ f none o lies. sym (rw none at (default_is buffer.layout.now buffer.bytes.now f o lies));
@@ -137,6 +145,7 @@ module _ {V K : Type 0} (keeps : K → Datum → Type 0) (buffer : Buffer) where
       → walk.spent ≤ buffer.most_cells → c ≢ 0
       → keeps kept (an_unknown c)
       → Passes buffer walk walk (visit_entry_in buffer (union_place c q m) tables walk.spent)
+      (parts_in_entry buffer (union_place c q m))
       (λ before after. EntersSlot buffer (union_place c q m) before after)
       (λ found. (f : Slot) → f.if_absent ≡ None → KeepsInSlot keeps buffer f (union_place c q m) found) (Some kept)
   no_member_passes m c q tables walk kept is few some known =
@@ -145,6 +154,8 @@ module _ {V K : Type 0} (keeps : K → Datum → Type 0) (buffer : Buffer) where
         visit = visit_no_member buffer.layout.now buffer.bytes.now (limits_of buffer) c q tables walk.spent;
         few = few;
         ticks = omega arith;
+        exact = rw (coded, parts_none buffer.layout.now buffer.bytes.now (place (unknown_place c) q) refl refl)
+            (omega arith);
         each = λ g o lies. (no_member_kept keeps buffer c q walk.ticks kept g o known (rw coded at lies)).0;
         silent = refl;
         kept = λ f none o lies. (no_member_kept keeps buffer c q walk.ticks kept f o known (rw coded at lies)).1;
@@ -157,6 +168,7 @@ module _ {V K : Type 0} (takes : Type 0) (told : V → List Step → V → Type 
       → EndsAtEntry takes told (λ found. KeepsInSlot keeps buffer (slot_seen buffer.layout.now field)
       (slot_at buffer p k later field) found) buffer (slot_at buffer p k later field) tables old new r
       → Passes buffer old new (visit_entry_in buffer (slot_at buffer p k rest field) tables old.spent)
+      (parts_in_entry buffer (slot_at buffer p k rest field))
       (λ before after. EntersSlot buffer (slot_at buffer p k rest field) before after)
       (λ found. KeepsInSlot keeps buffer (slot_seen buffer.layout.now field) (slot_at buffer p k rest field) found) kept
   slot_passed r kept is was ends = rw (is, was) at ends
@@ -165,7 +177,9 @@ module _ {V K : Type 0} (takes : Type 0) (told : V → List Step → V → Type 
       → EndsAtEntry takes told (λ found. KeepsInSlot keeps buffer (slot_seen buffer.layout.now field)
       (slot_at buffer p k later field) found) buffer (slot_at buffer p k later field) tables old new r
       → IsRefused takes buffer old new (visit_entry_in buffer (slot_at buffer p k rest field) tables old.spent)
-      (HearsFrom told buffer (slot_at buffer p k rest field) tables old.spent old.visitor new.visitor) e
+      (ComesFrom told buffer (slot_at buffer p k rest field) tables old.spent old.visitor new.visitor old.ticks
+      new.ticks)
+      e
   slot_was_refused r e is was ends = rw (is, was) at ends
 
 -- refused at what a slot names
@@ -173,7 +187,7 @@ pub slot_refused : {V K : Type 0} (takes : Type 0) (told : V → List Step → V
     (buffer : Buffer) (x : Option Place) (y : Place) (tables : ℕ) (old new : Walk V) (f g : ReadFault)
     (r : Result (Option K) ReadFault) → x ≡ Some y → r ≡ Err g → g ≡ f
     → IsRefused takes buffer old new (visit_in buffer y tables old.spent)
-    (HearsFrom told buffer (Some y) tables old.spent old.visitor new.visitor) f
+    (ComesFrom told buffer (Some y) tables old.spent old.visitor new.visitor old.ticks new.ticks) f
     → EndsAtEntry takes told keeps buffer x tables old new r
 slot_refused takes told keeps buffer x y tables old new f g r named err is refused = rw (named, err, is) refused
 
@@ -182,7 +196,8 @@ pub member_slot_refused : {V K : Type 0} (takes : Type 0) (told : V → List Ste
     (silent : (v : V) → told v [] v) (keeps : K → Datum → Type 0) (buffer : Buffer) (m : Option ℕ) (c t q tables : ℕ)
     (old new : Walk V) (f g : ReadFault) (r : Result (Option K) ReadFault) → m ≡ Some t → r ≡ Err g → g ≡ f
     → IsRefused takes buffer old new (visit_in buffer (place (ref_place (table_part t)) q) tables old.spent)
-    (HearsFrom told buffer (Some (place (ref_place (table_part t)) q)) tables old.spent old.visitor new.visitor) f
+    (ComesFrom told buffer (Some (place (ref_place (table_part t)) q)) tables old.spent old.visitor new.visitor
+    old.ticks new.ticks) f
     → EndsAtEntry takes told (λ kept. (f : Slot) → f.if_absent ≡ None
     → KeepsInSlot keeps buffer f (union_place c q m) kept) buffer (union_place c q m) tables old new r
 member_slot_refused takes told silent keeps buffer m c t q tables old new f g r known err is refused =
@@ -190,8 +205,8 @@ member_slot_refused takes told silent keeps buffer m c t q tables old new f g r 
       visit = λ lasts. visit_member buffer.layout.now buffer.bytes.now (limits_of buffer) c t q tables old.spent
           ∙ refused.visit lasts;
       ticks = refused.ticks;
-      hears = λ lasts. member_heard told silent buffer c t q tables old.spent old.visitor new.visitor
-          (refused.hears lasts);
+      comes = λ lasts. member_heard told silent buffer c t q tables old.spent old.visitor new.visitor old.ticks
+          new.ticks (refused.comes lasts);
     })
 
 -- at a slot of a union, whose value has no default
@@ -204,6 +219,7 @@ union_slot_ends takes told keeps buffer x y tables old new f (Ok kept) is none p
   visit = passes.visit;
   few = passes.few;
   ticks = passes.ticks;
+  exact = passes.exact;
   each = passes.each;
   silent = passes.silent;
   kept = passes.kept f none;
@@ -222,6 +238,7 @@ inline_slot_ends takes told silent keeps buffer x kind q tables walk f (Ok kept)
   visit = gives;
   few = few;
   ticks = omega arith;
+  exact = rw (parts_none buffer.layout.now buffer.bytes.now (place (inline_place kind) q) refl refl) (omega arith);
   each = λ g o lies. let free = inline_slot_entered buffer.layout.now buffer.bytes.now g kind q o lies in
       omega (arith, free);
   silent = refl;
@@ -230,6 +247,6 @@ inline_slot_ends takes told silent keeps buffer x kind q tables walk f (Ok kept)
 inline_slot_ends takes told silent keeps buffer x kind q tables walk f (Err e) is few gives known = rw is (record {
   visit = gives;
   ticks = omega arith;
-  hears = λ lasts. leaf_heard told silent buffer (place (inline_place kind) q) tables walk.spent e walk.visitor refl
-      (gives lasts);
+  comes = λ lasts. leaf_heard told silent buffer (place (inline_place kind) q) tables walk.spent e walk.visitor
+      walk.ticks walk.ticks refl (gives lasts) (omega arith);
 })

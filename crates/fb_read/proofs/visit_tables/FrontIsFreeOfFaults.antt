@@ -15,7 +15,7 @@ use Rattle.fb_value.specs.Faults.{sum_over, all, first_among, fault_from}
 use Rattle.fb_value.specs.Nth.{slot_place}
 use Rattle.fb_value.proofs.rules.ComputedFaultIsTheLeast.{among_none}
 use Rattle.fb_read.specs.Visits.{outcome, visit_each, visit_entry, slot_seen, slots_seen}
-use Rattle.fb_read.proofs.places.FieldsAreTheirSlots.{slot_there, seen_drop, drop_past}
+use Rattle.fb_read.proofs.places.FieldsAreTheirSlots.{slot_there, seen_drop, drop_past, named_drop}
 use Rattle.fb_read.proofs.places.AbsentSlotNamesNoPlace.{unset_place}
 use Rattle.fb_read.proofs.visit_tables.VisitsOnePlaceAfterAnother.{each_nil, each_step, each_stop}
 
@@ -29,15 +29,6 @@ front_entry (x ∷ xs) (suc j) (suc k) less = front_entry xs j k (omega arith)
 none_left : (o : Option ReadFault) (n m : ℕ) → outcome o n ≡ Ok m → (o ≡ None) × (n ≡ m)
 none_left None n m e = (refl, cc)
 none_left (Some f) n m e = cc
-
-named_drop : (L : LaidSchema) (b : Bytes) (p j k : ℕ) (fs : List Slot)
-    → drop k (named_slots L b p j fs) ≡ named_slots L b p (j + k) (drop k fs)
-unfolding named_slots
-named_drop L b p j zero fs = let here : j + 0 ≡ j = omega arith in rw here refl
-named_drop L b p j (suc k) [] = refl
-named_drop L b p j (suc k) (f ∷ fs) =
-    let there : j + suc k ≡ suc j + k = omega arith in
-    rw there (named_drop L b p (suc j) k fs)
 
 module _ (L : LaidSchema) (b : Bytes) (most : Bounds) where
   -- one place more

@@ -18,6 +18,7 @@ use Rattle.fb_value.specs.Faults.{first_among, fault_from}
 use Rattle.fb_value.proofs.rules.ComputedFaultIsTheLeast.{all_is}
 use Rattle.fb_value.proofs.rules.FaultOfAPlaceByOneStep.{fault_from_is}
 use Rattle.fb_read.specs.Visits.{outcome, visit, visit_each, visit_entry, union_place}
+use Rattle.fb_read.proofs.visit_tables.PartsAddUp.{parts_text}
 
 module _ (L : LaidSchema) (b : Bytes) (most : Bounds) where
   pub each_nil : (tables spent : ℕ) → visit_each L b most [] tables spent ≡ Ok spent
@@ -230,7 +231,7 @@ module _ (L : LaidSchema) (b : Bytes) (most : Bounds) where
   no_references p tables spent = each_nil tables spent
 
 -- what a visit gives of a text, and of what names nothing
-pub ruleset text_visits = (visit_fault, visit_text)
+pub ruleset text_visits = (visit_fault, visit_text, parts_text)
 
 pub ruleset inline_visits = (visit_fault, visit_inline)
 

@@ -1,18 +1,21 @@
 //! The path of a buffer's least fault.
-ghost use Rattle.std.specs.Prelude.{◌≡◌, ◌⊎◌, Some, IfOk, MatchOption};
+ghost use Rattle.std.specs.Prelude.{◌≡◌, ◌⊎◌, ◌+◌, ◌≤◌, map, Some, IfOk, MatchOption};
+ghost use Rattle.fb_value.specs.Counts.{entered};
+ghost use Rattle.fb_value.specs.Datum.{Datum};
 ghost use Rattle.fb_value.specs.declared.faults.ReadFault.{ReadFault};
 ghost use Rattle.fb_value.specs.Holds.{front_fault, checked_identifier, HasNoFaultFramed};
-ghost use Rattle.fb_read.specs.FaultPaths.{IsFaultPathFramed};
+ghost use Rattle.fb_value.specs.Holds.{front_of, root_at, HoldsFramed};
+ghost use Rattle.fb_read.specs.Entered.{parts_along};
+ghost use Rattle.fb_read.specs.FaultPaths.{number_of, IsFaultPathFramed};
 
 use crate::buffer::Buffer;
-use crate::reader::ticks::Ticks;
+use crate::entries::Entries;
+use crate::reader::ticks::walk_root;
 use crate::step::Step;
 use crate::trail::Trail;
 use crate::verdict::Verdict;
-use crate::visit_tables::visit_table_behind;
-use crate::walk::Walk;
 use fb_layout::Layout;
-use fb_value::{Limits, front_of};
+use fb_value::Limits;
 use std::alloc::{AllocError, Global};
 
 /// The steps from the root to the least fault of the bytes.
@@ -21,7 +24,8 @@ use std::alloc::{AllocError, Global};
 /// table's type, so a layout is enough to name what each step leads to. `raw` skips the file identifier check, and a
 /// `prefixed` buffer has the count of its bytes in front.
 ///
-/// It checks the bytes once more, and is for a buffer that was refused.
+/// It checks the bytes once more, and is for a buffer that was refused. `entries` rises by one for each table, vector
+/// and text that is entered.
 pub fn fault_path(
     alloc: Global,
     layout: &Layout,
@@ -29,25 +33,30 @@ pub fn fault_path(
     limits: Limits,
     raw: bool,
     prefixed: bool,
+    entries: &mut Entries,
 ) -> Result<Option<Vec<Step>>, AllocError>
-    ensures { IfOk result (λ found. MatchOption found
+    ensures path { IfOk result (λ found. MatchOption found
         (((f : ReadFault) × (front_fault prefixed bytes.now (checked_identifier layout.now raw) ≡ Some f))
         ⊎ HasNoFaultFramed prefixed layout.now limits raw bytes.now)
         (λ steps. (f : ReadFault) × IsFaultPathFramed prefixed layout.now limits raw bytes.now steps.items f)) }
+    ensures rises { entries.old.count ≤ entries.new.count }
+    ensures counted { entries.new.count ≤ entries.old.count + (limits.cells + 1) }
+    ensures front { (f : ReadFault) → front_fault prefixed bytes.now (checked_identifier layout.now raw) ≡ Some f
+        → entries.new.count ≡ entries.old.count }
+    ensures each { IfOk result (λ found. MatchOption found ((v : Datum)
+        → HoldsFramed prefixed layout.now limits raw bytes.now v → entries.new.count ≡ entries.old.count + entered v)
+        (λ steps. entries.new.count ≡ entries.old.count + parts_along layout.now bytes.now
+        (root_at layout.now (front_of prefixed)) (map number_of steps.items))) }
 {
     let Ok(buffer) = Buffer::checked(layout, bytes, limits, raw, prefixed) else {
         return Ok(None);
     };
-    let root = layout.schema().root();
-    let mut walk = Walk {
-        spent: 0,
-        ticks: Ticks::new(),
-        visitor: Verdict {
-            hearer: Trail::new(alloc),
-        },
+    let trail = Verdict {
+        hearer: Trail::new(alloc),
     };
-    match visit_table_behind(&buffer, &mut walk, root, front_of(prefixed), 0) {
+    let (verdict, visited) = walk_root(&buffer, trail, prefixed, entries);
+    match visited {
         Ok(()) => Ok(None),
-        Err(_) => Ok(Some(walk.visitor.hearer.into_steps()?)),
+        Err(_) => Ok(Some(verdict.hearer.into_steps()?)),
     }
 }

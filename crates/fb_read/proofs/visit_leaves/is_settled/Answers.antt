@@ -1,4 +1,4 @@
-use Rattle.std.proofs.Common.{◌≡◌, ◌+◌, true, Some, Result, Ok, Err, MatchResult, is_ok, sym, ◌∙◌, rules}
+use Rattle.std.proofs.Common.{◌≡◌, ◌+◌, true, Some, Result, Ok, Err, MatchResult, is_ok, refl, sym, ◌∙◌, rules}
 use Rattle.fb_schema.specs.declared.kinds.Base.{Base}
 use Rattle.fb_layout.specs.Laid.{StoredKind, scalar_kind, struct_kind, table_kind, union_kind, code_kind, text_kind}
 use Rattle.fb_layout.specs.Laid.{stored_kind}
@@ -7,6 +7,8 @@ use Rattle.fb_value.specs.Places.{inline_place}
 use Rattle.fb_value.specs.Nth.{slot_place}
 use Rattle.fb_read.specs.Kinds.{base_wanted}
 use Rattle.fb_read.specs.Visits.{slot_seen}
+use Rattle.fb_read.specs.Walks.{place}
+use Rattle.fb_read.proofs.visit_tables.PartsAddUp.{parts_none}
 use Rattle.fb_read.proofs.visit_tables.VisitsOnePlaceAfterAnother.{visit_inline}
 use Rattle.fb_read.proofs.visit_leaves.is_settled.Goals as goal
 
@@ -40,3 +42,18 @@ returns-clause-visit c fine fs tables spent =
     }) = search rules in
     rw named (visit_inline L b most (scalar_kind c.in-Some.base) (c.args.table.at + c.held_slot-offset.result) tables
     spent keeps)
+
+pub returns-clause-parts : goal.returns-clause-parts
+returns-clause-parts c fine fs =
+    let L = c.args.buffer.now.layout.now in
+    let b = c.args.buffer.now.bytes.now in
+    let number : stored_kind L.schema c.in-One.kind ≡ scalar_kind c.in-Some.base =
+    number_kind _ _ (sym c.in-Some.ensures) in
+    let named : slot_place L b c.args.table.at c.args.slot fs (slot_seen L c.args.field.now)
+    ≡ Some (record {
+      sort = inline_place (scalar_kind c.in-Some.base);
+      at =
+          c.args.table.at + c.held_slot-offset.result;
+    }) = search rules in
+    rw named (parts_none L b (place (inline_place (scalar_kind c.in-Some.base)) (c.args.table.at
+    + c.held_slot-offset.result)) refl refl)

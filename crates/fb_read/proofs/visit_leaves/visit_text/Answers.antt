@@ -20,7 +20,7 @@ returns-in_err-text g c tables =
     c.args.walk.now counted c.in_err-text.field-0.0
     (c.in_err-text.ensures.rules c.args.buffer.now.layout.now) (just_entered c.args.walk.now.ticks c.tick.new.self
     c.args.walk.now.spent c.args.buffer.now.most_cells
-    c.tick.ensures c.requires.few) refl)
+    c.tick.ensures c.requires.few) c.tick.ensures refl)
 
 pub returns-then-after-most : goal.returns-then-after-most
 returns-then-after-most g c tables =
@@ -32,4 +32,4 @@ returns-then-after-most g c tables =
     (c.args.walk.now.spent + (1 + num c.args.buffer.now.bytes.now c.args.at 4))
     (omega (arith, c.in_ok-text.ensures.long))) (just_entered c.args.walk.now.ticks c.tick.new.self
     c.args.walk.now.spent c.args.buffer.now.most_cells
-    c.tick.ensures c.requires.few) refl
+    c.tick.ensures c.requires.few) c.tick.ensures refl

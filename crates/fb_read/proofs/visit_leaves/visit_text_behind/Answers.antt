@@ -1,4 +1,4 @@
-use Rattle.std.proofs.Common.{refl}
+use Rattle.std.proofs.Common.{refl, sym, add-zero}
 use Rattle.std.proofs.lemmas.Result.{err_from_is_err_and}
 use Rattle.fb_value.specs.Places.{text_part, ref_place, part_place}
 use Rattle.fb_read.specs.Walks.{place}
@@ -16,7 +16,8 @@ returns-in_err-target g c =
     (rule_refused g.V.Visitor.takes_memory g.V.Visitor.told g.met.V.Visitor.silent c.args.buffer.now x c.args.tables
     c.args.walk.now c.args.walk.now c.in_err-target.field-0.0
     (c.in_err-target.ensures.rules c.args.buffer.now.layout.now text_part) (not_entered c.args.walk.now.ticks
-    c.args.walk.now.spent c.args.buffer.now.most_cells c.requires.limits.few) refl)
+    c.args.walk.now.spent c.args.buffer.now.most_cells c.requires.limits.few) (sym (add-zero c.args.walk.now.ticks))
+    refl)
 
 pub returns-in-Some : goal.returns-in-Some
 returns-in-Some g c =

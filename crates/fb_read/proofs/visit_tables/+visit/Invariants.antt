@@ -7,6 +7,7 @@ use Rattle.fb_value.specs.Lies.{LiesItems, LiesSlots}
 use Rattle.fb_read.specs.Tails.{entries_from, parts_from}
 use Rattle.fb_read.specs.Values.{led_to, KeepsSlots}
 use Rattle.fb_read.specs.Visits.{slots_seen}
+use Rattle.fb_read.specs.Ends.{parts_in_each}
 use Rattle.fb_read.specs.Walks.{visit_each_in}
 use Rattle.fb_read.proofs.visit_tables.+visit.Given as goal
 
@@ -45,6 +46,8 @@ invariant-visit_slots-loop-slot g l = record {
   silent : l.walk.visitor ≡ l.fn.walk.visitor;
   few : l.walk.spent ≤ l.buffer.most_cells;
   ticked : l.walk.ticks + l.fn.walk.spent ≤ l.fn.walk.ticks + l.walk.spent;
+  exact : l.walk.ticks ≡ l.fn.walk.ticks + parts_in_each l.buffer (take l.slot (named_slots l.buffer.layout.now
+      l.buffer.bytes.now l.table.at 0 (slots_seen l.buffer.layout.now l.slots)));
   entered : (es : SlotEntries) → LiesSlots l.buffer.layout.now l.buffer.bytes.now
       (slots_seen l.buffer.layout.now l.slots) (named_slots l.buffer.layout.now l.buffer.bytes.now l.table.at 0
       (slots_seen l.buffer.layout.now l.slots)) es
@@ -61,6 +64,8 @@ invariant-visit_elements-loop-i g l = record {
   silent : l.walk.visitor ≡ l.fn.walk.visitor;
   few : l.walk.spent ≤ l.buffer.most_cells;
   ticked : l.walk.ticks + l.fn.walk.spent ≤ l.fn.walk.ticks + l.walk.spent;
+  exact : l.walk.ticks ≡ l.fn.walk.ticks + parts_in_each l.buffer (take l.i (named_elements (led_to l.reference) l.at
+      l.count));
   entered : (kind : StoredKind) → target_of kind ≡ Some (led_to l.reference) → (ds : Parts) → count ds ≡ l.count
       → LiesItems l.buffer.layout.now l.buffer.bytes.now kind l.at ds
       → l.walk.ticks + parts_entered (parts_from l.i ds) ≡ l.fn.walk.ticks + parts_entered ds;

@@ -27,6 +27,7 @@ leave-requires-clause-visited g c =
           c.args.mark.spent cells fewer less taken h i;
       counted = record {
         few = omega (arith, c.counted_since.ensures, visited.ticks, rises);
+        exact = omega (arith, c.counted_since.ensures, visited.exact);
         each = λ d lies. omega (arith, c.counted_since.ensures, visited.each d lies);
       };
     }

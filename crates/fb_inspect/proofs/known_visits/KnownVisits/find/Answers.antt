@@ -21,7 +21,11 @@ takes_known buffer known part at tables spent left v is same_part same_at cells 
     rw (← same_part, ← same_at) (record {
       visit = rw cells (is.visit tables spent few room);
       few = rw cells room;
-      counted = record { few = rw (parts, cells) is.counted.few; each = λ d h. rw parts (is.counted.each d h) };
+      counted = record {
+        few = rw (parts, cells) is.counted.few;
+        exact = rw parts is.counted.exact;
+        each = λ d h. rw parts (is.counted.each d h);
+      };
     })
 
 pub returns-then-known-at : goal.returns-then-known-at

@@ -15,13 +15,13 @@ use Rattle.fb_read.proofs.visit_tables.EndsAtASlot.{slot_passed}
 use Rattle.fb_read.proofs.visit_tables.+visit.Goals as goal
 
 memory_ended : {V K : Type 0} (takes : Type 0) (buffer : Buffer) (old new : Walk V) (given : Result ℕ ReadFault)
-    (heard : Type 0) (enters : ℕ → ℕ → Type 0) (keeps : K → Type 0) (r : Result K ReadFault) (f : ReadFault)
+    (comes : Type 0) (parts : ℕ) (enters : ℕ → ℕ → Type 0) (keeps : K → Type 0) (r : Result K ReadFault) (f : ReadFault)
     → r ≡ Err f → f ≡ Memory → takes → new.ticks + old.spent ≤ old.ticks + (buffer.most_cells + 1)
-    → Ends takes buffer old new given heard enters keeps r
-memory_ended takes buffer old new given heard enters keeps r f err is memory ticks = rw (err, is) (record {
+    → Ends takes buffer old new given comes parts enters keeps r
+memory_ended takes buffer old new given comes parts enters keeps r f err is memory ticks = rw (err, is) (record {
   visit = λ lasts. absurd (lasts memory refl);
   ticks = ticks;
-  hears = λ lasts. absurd (lasts memory refl);
+  comes = λ lasts. absurd (lasts memory refl);
 })
 
 -- Another fault isn't that memory ran out.
@@ -49,7 +49,7 @@ entered_few_then old spent mid spent_mid new spent_new last most before here few
 pub no_elements_kept : goal.visit_elements-returns-in_err-elements
 no_elements_kept g t c =
     let p = err_from_is_err_and c.from_residual.result c.from_residual.ensures.1 in
-    memory_ended _ _ _ _ _ _ _ _ c.from_residual.result p.0 p.1 p.2 c.in_err-elements.ensures.memory
+    memory_ended _ _ _ _ _ _ _ _ _ c.from_residual.result p.0 p.1 p.2 c.in_err-elements.ensures.memory
     (not_entered _ _ _ c.requires.limits.few)
 
 pub element_not_kept : goal.visit_elements-returns-in_err-add_element
@@ -60,7 +60,7 @@ element_not_kept g t c =
     (place (ref_place (led_to c.args.reference)) (c.args.at + 4 * c.loop-i.i)) c.args.tables c.loop-i.walk
     c.visit_behind-visited.new.walk
     c.visit_behind-visited.result c.in_ok-visited.field-0 c.in_ok-visited.was c.visit_behind-visited.ensures in
-    memory_ended _ _ _ _ _ _ _ _ c.from_residual-in_err-add_element.result p.0 p.1 p.2
+    memory_ended _ _ _ _ _ _ _ _ _ c.from_residual-in_err-add_element.result p.0 p.1 p.2
     c.in_err-add_element.ensures.memory
     (entered_few_then _ _ c.loop-i.walk.ticks c.loop-i.walk.spent c.visit_behind-visited.new.walk.ticks
     c.visit_behind-visited.new.walk.spent _ _ c.loop-i.invariant.ticked passes.ticks passes.few c.tell.ensures.ticks)
@@ -68,7 +68,7 @@ element_not_kept g t c =
 pub no_entries_kept : goal.visit_slots-returns-in_err-entries
 no_entries_kept g t c =
     let p = err_from_is_err_and c.from_residual.result c.from_residual.ensures.1 in
-    memory_ended _ _ _ _ _ _ _ _ c.from_residual.result p.0 p.1 p.2 c.in_err-entries.ensures.memory
+    memory_ended _ _ _ _ _ _ _ _ _ c.from_residual.result p.0 p.1 p.2 c.in_err-entries.ensures.memory
     (not_entered _ _ _ c.requires.limits.few)
 
 pub entry_not_kept : goal.visit_slots-returns-in_err-add_entry
@@ -79,7 +79,7 @@ entry_not_kept g t c =
     c.index-slots-slot.result c.args.tables c.loop-slot.walk c.visit_slot-visited.new.walk c.visit_slot-visited.result
     c.in_ok-visited.field-0
     c.split_at.ensures.back c.in_ok-visited.was c.visit_slot-visited.ensures in
-    memory_ended _ _ _ _ _ _ _ _ c.from_residual-in_err-add_entry.result p.0 p.1 p.2 c.in_err-add_entry.ensures.memory
+    memory_ended _ _ _ _ _ _ _ _ _ c.from_residual-in_err-add_entry.result p.0 p.1 p.2 c.in_err-add_entry.ensures.memory
     (entered_few_then _ _ c.loop-slot.walk.ticks c.loop-slot.walk.spent c.visit_slot-visited.new.walk.ticks
     c.visit_slot-visited.new.walk.spent _ _ c.loop-slot.invariant.ticked passes.ticks passes.few
     c.tell.ensures.ticks)
@@ -88,7 +88,7 @@ pub defaults_not_kept : goal.visit_slots-returns-in_err-add_defaults
 defaults_not_kept g t c =
     let p = err_from_is_err_and c.from_residual-in_err-add_defaults.result
     c.from_residual-in_err-add_defaults.ensures.1 in
-    memory_ended _ _ _ _ _ _ _ _ c.from_residual-in_err-add_defaults.result p.0 p.1 p.2
+    memory_ended _ _ _ _ _ _ _ _ _ c.from_residual-in_err-add_defaults.result p.0 p.1 p.2
     c.in_err-add_defaults.ensures.memory
     (entered_few _ _ _ c.loop-slot.walk.spent _ c.loop-slot.invariant.ticked c.loop-slot.invariant.few)
 
@@ -97,7 +97,7 @@ member_not_kept g t c =
     let p = err_from_is_err_and c.from_residual-in_err-member-in-Some.result
     c.from_residual-in_err-member-in-Some.ensures.1 in
     let passes = c.in_ok-behind-in-Some.ensures.visit in
-    memory_ended _ _ _ _ _ _ _ _ c.from_residual-in_err-member-in-Some.result p.0 p.1 p.2
+    memory_ended _ _ _ _ _ _ _ _ _ c.from_residual-in_err-member-in-Some.result p.0 p.1 p.2
     c.in_err-member-in-Some.ensures.memory (entered_few _ _ _ c.visit_table_behind.new.walk.spent _ passes.ticks
     passes.few)
 
@@ -105,7 +105,7 @@ pub inlines_not_kept : goal.visit_vector-returns-in_err-inlines-in-None
 inlines_not_kept g t c =
     let p = err_from_is_err_and c.from_residual-in_err-inlines-in-None.result
     c.from_residual-in_err-inlines-in-None.ensures.1 in
-    memory_ended _ _ _ _ _ _ _ _ c.from_residual-in_err-inlines-in-None.result p.0 p.1 p.2
+    memory_ended _ _ _ _ _ _ _ _ _ c.from_residual-in_err-inlines-in-None.result p.0 p.1 p.2
     c.in_err-inlines-in-None.ensures.memory (just_entered _ _ _ _ c.tick.ensures c.requires.limits.few)
 
 pub reference_not_open : goal.visit_table_behind-returns-in_err-target-clause-open

@@ -1,17 +1,20 @@
 -- How a walk ends at a table's slots, at one of them, and at a union's value.
-use Rattle.std.proofs.Common.{◌≡◌, ◌+◌, length, drop, None, refl, sym, arith}
+use Rattle.std.proofs.Common.{◌≡◌, ◌+◌, length, drop, None, refl, sym, arith, add-zero}
 use Rattle.std.proofs.lemmas.Result.{err_from_is_err_and}
 use Rattle.fb_schema.specs.declared.kinds.Kind.{Kind}
 use Rattle.fb_schema.specs.declared.kinds.Shape.{Shape}
 use Rattle.fb_layout.specs.Laid.{stored_kind, member_by_code}
 use Rattle.fb_value.specs.Places.{table_part, vector_part, text_part, ref_place, code_place, is_present, next_required}
 use Rattle.fb_read.specs.Ends.{slot_at, slots_at}
+use Rattle.fb_read.specs.Entered.{parts_from}
 use Rattle.fb_read.specs.Values.{KeepsInSlot}
 use Rattle.fb_read.specs.Visits.{slot_seen, slots_seen, union_place}
 use Rattle.fb_read.specs.Walks.{place, limits_of}
 use Rattle.fb_value.specs.Counts.{entries_entered}
 use Rattle.fb_read.specs.Tails.{entries_from}
-use Rattle.fb_read.proofs.visit_tables.CountsGoOn.{not_entered, refused_then, none_left, at_end, below, rest_long}
+use Rattle.fb_read.proofs.visit_tables.CountsGoOn.{not_entered, refused_then, exact_then, none_left, at_end, below}
+use Rattle.fb_read.proofs.visit_tables.CountsGoOn.{rest_long}
+use Rattle.fb_read.proofs.visit_tables.PartsAddUp.{slots_sum}
 use Rattle.fb_read.proofs.visit_tables.EndsAtAPlace.{leaf_refused}
 use Rattle.fb_read.proofs.stored.SlotNamesItsPlace.{slot_names, slot_names_one, slot_names_code, slot_names_none}
 use Rattle.fb_read.proofs.stored.SlotNamesItsPlace.{slot_names_union, union_has_no_default}
@@ -51,7 +54,7 @@ a_slot_refused g t c =
       ticks = refused_then c.args.walk.now.ticks c.args.walk.now.spent c.loop-slot.walk.ticks c.loop-slot.walk.spent
           c.visit_slot-visited.new.walk.ticks c.tell.new.walk.ticks buffer.most_cells c.loop-slot.invariant.ticked
           ends.ticks c.tell.ensures.ticks;
-      hears = λ lasts. let heard = ends.hears lasts in rw (← c.loop-slot.invariant.silent) (record {
+      comes = λ lasts. let heard = ends.comes lasts in rw (← c.loop-slot.invariant.silent) (record {
         index = c.loop-slot.slot;
         there = there;
         spent_there = c.loop-slot.walk.spent;
@@ -60,6 +63,8 @@ a_slot_refused g t c =
         fault = heard.fault;
         heard = tells c.loop-slot.walk.visitor heard.steps heard.heard;
         leads = heard.leads;
+        entered = exact_then c.args.walk.now.ticks c.loop-slot.walk.ticks c.visit_slot-visited.new.walk.ticks
+            c.tell.new.walk.ticks _ _ c.loop-slot.invariant.exact heard.entered c.tell.ensures.ticks;
       });
     })
 
@@ -79,6 +84,8 @@ slots_passed g t c =
           c.loop-slot.invariant.before;
       few = c.loop-slot.invariant.few;
       ticks = c.loop-slot.invariant.ticked;
+      exact = slots_sum L b (parts_from L b) c.args.table.at c.loop-slot.slot c.stored_slots-present.result
+          c.args.slots.now c.args.walk.now.ticks c.loop-slot.walk.ticks end past c.loop-slot.invariant.exact;
       each = λ es lies.
           none_left c.loop-slot.walk.ticks (entries_entered (entries_from c.loop-slot.slot es)) (c.args.walk.now.ticks
           + entries_entered es) (rest_entered L b c.args.table.at c.loop-slot.slot c.stored_slots-present.result
@@ -244,7 +251,7 @@ code_refused g t c =
     c.args.walk.now c.in_err-visit_code-in-One-Code.field-0.0 refl (c.in_err-visit_code-in-One-Code.ensures
     c.args.tables c.args.walk.now.spent c.in-One-Code.union.0) (not_entered c.args.walk.now.ticks
     c.args.walk.now.spent buffer.most_cells
-    c.requires.limits.few) refl)
+    c.requires.limits.few) (sym (add-zero c.args.walk.now.ticks)) refl)
 
 pub code_passed : goal.visit_slot-returns-in_ok-visit_code-in-One-Code
 code_passed g t c =

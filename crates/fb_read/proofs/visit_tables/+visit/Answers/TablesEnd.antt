@@ -1,5 +1,5 @@
 -- How a walk ends at a table, and behind a reference to one.
-use Rattle.std.proofs.Common.{◌≡◌, ◌+◌, ◌<◌, length, refl, sym, arith}
+use Rattle.std.proofs.Common.{◌≡◌, ◌+◌, ◌<◌, length, refl, sym, arith, add-zero}
 use Rattle.std.proofs.lemmas.Result.{err_from_is_err_and}
 use Rattle.fb_layout.specs.Laid.{slots_of}
 use Rattle.fb_value.specs.declared.faults.ReadFault.TheVariants.{TooDeep, TooManyCells}
@@ -11,6 +11,7 @@ use Rattle.fb_read.proofs.visit_tables.CountsGoOn.{not_entered, just_entered, ta
 use Rattle.fb_read.proofs.visit_tables.EnteredPartsAreCounted.{table_entered}
 use Rattle.fb_read.proofs.visit_tables.HearsTheWayBack.{table_heard}
 use Rattle.fb_read.proofs.visit_tables.KeepsWhatLies.{slots_are_seen, table_kept, seen_count}
+use Rattle.fb_read.proofs.visit_tables.PartsAddUp.{parts_table}
 use Rattle.fb_read.proofs.visit_tables.VisitsOnePlaceAfterAnother.{visit_table, deep_no, both_no}
 use Rattle.fb_read.proofs.visit_tables.+visit.Goals as goal
 
@@ -24,7 +25,8 @@ table_reference_refused g t c =
     (rule_refused g.V.Visitor.takes_memory g.V.Visitor.told g.met.V.Visitor.silent c.args.buffer.now x c.args.tables
     c.args.walk.now c.args.walk.now c.in_err-target.field-0.0
     (c.in_err-target.ensures.rules c.args.buffer.now.layout.now X) (not_entered c.args.walk.now.ticks
-    c.args.walk.now.spent c.args.buffer.now.most_cells c.requires.limits.few) refl)
+    c.args.walk.now.spent c.args.buffer.now.most_cells c.requires.limits.few) (sym (add-zero c.args.walk.now.ticks))
+    refl)
 
 pub table_passed_over : goal.visit_table_behind-returns-in-Some-clause-visit
 table_passed_over g t c =
@@ -65,7 +67,7 @@ table_refused g t c =
     (rule_refused g.V.Visitor.takes_memory g.V.Visitor.told g.met.V.Visitor.silent c.args.buffer.now x c.args.tables
     c.args.walk.now counted c.in_err-vtable_at.field-0.0 c.in_err-vtable_at.ensures.rules
     (just_entered c.args.walk.now.ticks c.tick.new.self c.args.walk.now.spent c.args.buffer.now.most_cells
-    c.tick.ensures c.requires.limits.few) refl)
+    c.tick.ensures c.requires.limits.few) c.tick.ensures refl)
 
 pub deep_table_refused : goal.visit_table-returns-then-tables-buffer-clause-visit
 deep_table_refused g t c =
@@ -76,7 +78,7 @@ deep_table_refused g t c =
     c.in_ok-vtable_at.ensures.rules (deep_no c.args.buffer.now.layout.now c.args.buffer.now.bytes.now
     (limits_of c.args.buffer.now) c.args.at (c.args.tables + 1) (c.args.walk.now.spent + 1) (omega arith))
     (just_entered c.args.walk.now.ticks c.tick.new.self c.args.walk.now.spent c.args.buffer.now.most_cells
-    c.tick.ensures c.requires.limits.few) refl
+    c.tick.ensures c.requires.limits.few) c.tick.ensures refl
 
 pub last_table_refused : goal.visit_table-returns-then-walk-from-clause-visit
 last_table_refused g t c =
@@ -88,7 +90,7 @@ last_table_refused g t c =
     (limits_of c.args.buffer.now) c.args.at (c.args.tables + 1) (c.args.walk.now.spent + 1) (omega arith)
     (omega arith))
     (just_entered c.args.walk.now.ticks c.tick.new.self c.args.walk.now.spent c.args.buffer.now.most_cells
-    c.tick.ensures c.requires.limits.few) refl
+    c.tick.ensures c.requires.limits.few) c.tick.ensures refl
 
 pub entries_refused : goal.visit_table-returns-in_err-entries-clause-visit
 entries_refused g t c =
@@ -109,9 +111,9 @@ entries_refused g t c =
       ) (ends.visit lasts);
       ticks = table_refused_then c.args.walk.now.ticks c.tick.new.self c.args.walk.now.spent
           c.visit_slots.new.walk.ticks buffer.most_cells c.tick.ensures ends.ticks;
-      hears = λ lasts. table_heard g.V.Visitor.told g.met.V.Visitor.silent buffer c.args.table c.args.at c.args.tables
-          c.args.walk.now.spent c.args.walk.now.visitor c.visit_slots.new.walk.visitor rules deep small (rw slots
-          (ends.hears lasts));
+      comes = λ lasts. table_heard g.V.Visitor.told g.met.V.Visitor.silent buffer c.args.table c.args.at c.args.tables
+          c.args.walk.now.spent c.args.walk.now.visitor c.visit_slots.new.walk.visitor c.args.walk.now.ticks
+          c.tick.new.self c.visit_slots.new.walk.ticks rules deep small c.tick.ensures (rw slots (ends.comes lasts));
     })
 
 pub table_passed : goal.visit_table-returns-clause-visit
@@ -134,6 +136,8 @@ table_passed g t c =
       few = ends.few;
       ticks = table_then c.args.walk.now.ticks c.tick.new.self c.args.walk.now.spent c.visit_slots.new.walk.ticks
           c.visit_slots.new.walk.spent c.tick.ensures ends.ticks;
+      exact = rw (parts_table L b c.args.table.0 c.args.at c.in_ok-vtable_at.ensures.rules, slots)
+          (omega (arith, c.tick.ensures, ends.exact));
       each = table_entered L b c.args.table.0 c.args.at c.args.walk.now.ticks
           c.visit_slots.new.walk.ticks (rw (slots, ← c.tick.ensures)
           ends.each);

@@ -1,5 +1,6 @@
 -- How a walk ends at a vector, at its elements, and behind a reference.
-use Rattle.std.proofs.Common.{◌≡◌, ◌+◌, ◌*◌, ◌≤◌, Some, refl, sym, ◌∙◌, arith}
+use Rattle.std.proofs.Common.{◌≡◌, ◌+◌, ◌*◌, ◌≤◌, Some, refl, sym, ◌∙◌, arith, add-zero}
+use Rattle.std.proofs.lemmas.List.{take_all}
 use Rattle.std.proofs.lemmas.Result.{err_from_is_err_and}
 use Rattle.fb_layout.specs.Laid.{stored_kind}
 use Rattle.fb_value.specs.declared.faults.ReadFault.TheVariants.{TooManyCells}
@@ -9,7 +10,9 @@ use Rattle.fb_read.specs.Values.{led_to}
 use Rattle.fb_read.specs.Walks.{place, limits_of}
 use Rattle.fb_value.specs.Counts.{parts_entered}
 use Rattle.fb_read.specs.Tails.{parts_from}
-use Rattle.fb_read.proofs.visit_tables.CountsGoOn.{not_entered, just_entered, refused_then, none_left, at_end}
+use Rattle.fb_read.proofs.visit_tables.CountsGoOn.{not_entered, just_entered, refused_then, exact_then, none_left}
+use Rattle.fb_read.proofs.visit_tables.CountsGoOn.{at_end}
+use Rattle.fb_read.proofs.visit_tables.PartsAddUp.{parts_vector}
 use Rattle.fb_read.proofs.visit_tables.EndsAtAPlace.{ticked, ends_refused, place_refused, rule_refused}
 use Rattle.fb_read.proofs.visit_tables.EndsAtAPlace.{limit_refused}
 use Rattle.fb_read.proofs.visit_tables.EndsAtAPlace.{passes_behind, ends_behind, has_visited, vector_ends}
@@ -30,7 +33,8 @@ vector_reference_refused g t c =
     c.args.walk.now c.args.walk.now c.in_err-target.field-0.0 p.0 c.from_residual.result p.1 p.2
     (rule_refused g.V.Visitor.takes_memory g.V.Visitor.told g.met.V.Visitor.silent c.args.buffer.now x c.args.tables
     c.args.walk.now c.args.walk.now c.in_err-target.field-0.0 (c.in_err-target.ensures.rules L X)
-    (not_entered c.args.walk.now.ticks c.args.walk.now.spent c.args.buffer.now.most_cells c.requires.limits.few) refl)
+    (not_entered c.args.walk.now.ticks c.args.walk.now.spent c.args.buffer.now.most_cells c.requires.limits.few)
+    (sym (add-zero c.args.walk.now.ticks)) refl)
 
 pub vector_passed_over : goal.visit_vector_behind-returns-in-Some
 vector_passed_over g t c =
@@ -72,7 +76,7 @@ vector_refused g t c =
     c.args.walk.now counted c.in_err-count.field-0.0 (c.in_err-count.ensures.rules L kind c.size_in-size.ensures
     c.align_in.ensures)
     (just_entered c.args.walk.now.ticks c.tick.new.self c.args.walk.now.spent c.args.buffer.now.most_cells
-    c.tick.ensures c.requires.limits.few) refl)
+    c.tick.ensures c.requires.limits.few) c.tick.ensures refl)
 
 pub long_vector_refused : goal.visit_vector-returns-then-after-most
 long_vector_refused g t c =
@@ -86,7 +90,7 @@ long_vector_refused g t c =
     (small_no L c.args.buffer.now.bytes.now (limits_of c.args.buffer.now) c.args.at (c.args.walk.now.spent
     + (1 + num c.args.buffer.now.bytes.now c.args.at 4)) (omega (arith, c.in_ok-count.ensures.count)))
     (just_entered c.args.walk.now.ticks c.tick.new.self c.args.walk.now.spent c.args.buffer.now.most_cells
-    c.tick.ensures c.requires.limits.few) refl
+    c.tick.ensures c.requires.limits.few) c.tick.ensures refl
 
 pub references_end : goal.visit_vector-returns-in-Some
 references_end g t c =
@@ -122,6 +126,7 @@ inlines_passed g t c =
           + (1 + num b c.args.at 4)));
       few = omega arith;
       ticks = omega arith;
+      exact = rw (parts_vector L b kind c.args.at keeps, none) c.tick.ensures;
       each = vector_entered L b kind c.args.at c.in_ok-count.count c.args.walk.now.ticks c.tick.new.self
           c.in_ok-count.ensures.count (λ ds long lies.
           let free = items_free L b kind (c.args.at + 4) ds none lies in omega (arith, free, c.tick.ensures));
@@ -151,7 +156,7 @@ element_refused g t c =
       ticks = refused_then c.args.walk.now.ticks c.args.walk.now.spent c.loop-i.walk.ticks c.loop-i.walk.spent
           c.visit_behind-visited.new.walk.ticks c.tell.new.walk.ticks c.args.buffer.now.most_cells
           c.loop-i.invariant.ticked ends.ticks c.tell.ensures.ticks;
-      hears = λ lasts. let heard = ends.hears lasts in rw (← c.loop-i.invariant.silent) (record {
+      comes = λ lasts. let heard = ends.comes lasts in rw (← c.loop-i.invariant.silent) (record {
         index = c.loop-i.i;
         there = there;
         spent_there = c.loop-i.walk.spent;
@@ -160,6 +165,8 @@ element_refused g t c =
         fault = heard.fault;
         heard = tells c.loop-i.walk.visitor heard.steps heard.heard;
         leads = heard.leads;
+        entered = exact_then c.args.walk.now.ticks c.loop-i.walk.ticks c.visit_behind-visited.new.walk.ticks
+            c.tell.new.walk.ticks _ _ c.loop-i.invariant.exact heard.entered c.tell.ensures.ticks;
       });
     })
 
@@ -174,6 +181,8 @@ elements_passed g t c =
           (omega (arith, long)) c.loop-i.invariant.before;
       few = c.loop-i.invariant.few;
       ticks = c.loop-i.invariant.ticked;
+      exact = rw (take_all c.loop-i.i (named_elements X c.args.at c.args.count) (omega (arith, long))) at
+          c.loop-i.invariant.exact;
       each = λ kind is ds long lies.
           none_left c.loop-i.walk.ticks (parts_entered (parts_from c.loop-i.i ds)) (c.args.walk.now.ticks
           + parts_entered ds) (parts_end c.loop-i.i ds (rw long end)) (c.loop-i.invariant.entered kind is ds long lies);

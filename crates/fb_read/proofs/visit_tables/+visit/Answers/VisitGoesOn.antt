@@ -10,6 +10,8 @@ use Rattle.fb_read.proofs.visit_tables.EndsAtAPlace.{ends_passed}
 use Rattle.fb_read.proofs.visit_tables.EndsAtASlot.{slot_passed}
 use Rattle.fb_read.proofs.visit_tables.CountsGoOn.{entered_then, below}
 use Rattle.fb_read.proofs.visit_tables.EnteredPartsAreCounted.{slot_step, element_step}
+use Rattle.fb_read.specs.Entered.{parts_from}
+use Rattle.fb_read.proofs.visit_tables.PartsAddUp.{sum_next}
 use Rattle.fb_read.proofs.visit_tables.VisitsOnePlaceAfterAnother.{each_nil}
 use Rattle.fb_read.proofs.visit_tables.FrontIsFreeOfFaults.{front_next}
 use Rattle.fb_read.proofs.visit_tables.FrontIsFreeOfFaults.{slot_found, element_named}
@@ -37,6 +39,12 @@ next_element_visited g t c =
           c.visit_behind-visited.new.walk.ticks c.visit_behind-visited.new.walk.spent c.tell.new.walk.ticks
           c.tell.new.walk.spent
           c.loop-i.invariant.ticked passes.ticks c.tell.ensures.ticks c.tell.ensures.spent;
+      exact = rw c.tell.ensures.ticks (sum_next (parts_from c.args.buffer.now.layout.now c.args.buffer.now.bytes.now)
+          (named_elements (led_to c.args.reference) c.args.at c.args.count) c.loop-i.i
+          (Some (place (ref_place (led_to c.args.reference)) (c.args.at + 4 * c.loop-i.i))) c.args.walk.now.ticks
+          c.loop-i.walk.ticks c.visit_behind-visited.new.walk.ticks
+          (element_named (led_to c.args.reference) c.args.at c.args.count c.loop-i.i c.loop-i-test.true)
+          c.loop-i.invariant.exact passes.exact);
       entered = λ kind is ds long lies. rw c.tell.ensures.ticks
           (element_step c.args.buffer.now.layout.now c.args.buffer.now.bytes.now kind
           (led_to c.args.reference) c.args.at c.loop-i.i ds _ _ _ is lies (rw long c.loop-i-test.true)
@@ -73,6 +81,11 @@ next_slot_visited g t c =
           c.visit_slot-visited.new.walk.ticks c.visit_slot-visited.new.walk.spent c.tell.new.walk.ticks
           c.tell.new.walk.spent
           c.loop-slot.invariant.ticked passes.ticks c.tell.ensures.ticks c.tell.ensures.spent;
+      exact = rw c.tell.ensures.ticks (sum_next (parts_from L b) (named_slots L b c.args.table.at 0 (slots_seen L
+          c.args.slots.now)) c.loop-slot.slot _ c.args.walk.now.ticks c.loop-slot.walk.ticks
+          c.visit_slot-visited.new.walk.ticks
+          (slot_found L b c.args.table.at c.loop-slot.slot c.args.slots.now c.index-slots-slot.result less
+          c.index-slots-slot.is) c.loop-slot.invariant.exact passes.exact);
       entered = λ es lies. rw c.tell.ensures.ticks (slot_step L b c.args.table.at
           c.loop-slot.slot c.args.slots.now c.index-slots-slot.result es _ _ _ lies less c.index-slots-slot.is
           passes.each (c.loop-slot.invariant.entered es lies));
@@ -102,6 +115,11 @@ next_slot_passed_by g t c =
       silent = c.loop-slot.invariant.silent;
       few = c.loop-slot.invariant.few;
       ticked = c.loop-slot.invariant.ticked;
+      exact = sum_next (parts_from L b) (named_slots L b c.args.table.at 0 (slots_seen L c.args.slots.now))
+          c.loop-slot.slot _ c.args.walk.now.ticks c.loop-slot.walk.ticks c.loop-slot.walk.ticks
+          (slot_found L b c.args.table.at c.loop-slot.slot c.args.slots.now c.index-slots-slot.result less
+          c.index-slots-slot.is) c.loop-slot.invariant.exact
+          (rw (c.is_passed_by.ensures.parts c.if-is_passed_by.true rest) (omega arith));
       entered = λ es lies. slot_step L b c.args.table.at c.loop-slot.slot c.args.slots.now c.index-slots-slot.result es
           _ _ _ lies less c.index-slots-slot.is still (c.loop-slot.invariant.entered es lies);
       kept = λ es lies. c.is_passed_by.ensures.kept c.if-is_passed_by.true c.loop-slot.entries c.loop-slot.slot es
@@ -117,6 +135,7 @@ no_slot_yet g t c =
       silent = refl;
       few = c.requires.limits.few;
       ticked = omega arith;
+      exact = omega arith;
       entered = λ es lies. refl;
       kept = λ es lies. c.in_ok-entries.ensures.kept es;
     }
@@ -130,6 +149,7 @@ no_element_yet g t c =
       silent = refl;
       few = c.requires.limits.few;
       ticked = omega arith;
+      exact = omega arith;
       entered = λ kind is ds long lies. refl;
       kept = λ kind is ds long lies. c.in_ok-elements.ensures.kept ds;
     }

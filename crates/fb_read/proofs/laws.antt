@@ -1,0 +1,2 @@
+-- What the proofs of src/laws.rt use.
+pub mod ReachedPartsAreThoseOfTheValue
