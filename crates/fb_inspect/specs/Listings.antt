@@ -10,7 +10,7 @@ use Rattle.fb_inspect.specs.declared.pieces.Piece.{Piece}
 use Rattle.fb_inspect.specs.declared.pieces.What.{What}
 use Rattle.fb_inspect.specs.declared.pieces.What.TheVariants.{Gap, Fault}
 
--- not the bytes between others
+-- something was noted there; a gap is the bytes between such pieces
 abbrev pub is_noted : What → Bool
 is_noted Gap = false
 is_noted _ = true
@@ -37,13 +37,13 @@ pub record IsListedTo (pieces : List Piece) (end : ℕ) : Type 0 where
   pub ordered : IsInOrder pieces
   pub begun : BeginBy end pieces
 
--- Each of these pieces was noted in the others once, and nothing else was.
+-- Each of these pieces is among the others once, whatever its end, and all else there are gaps.
 pub record IsKeptIn (pieces all : List Piece) : Type 0 where
   pub sorted : List Piece
   pub same : IsPermutation pieces sorted
   pub kept : noted_in all ≡ noted_in sorted
 
--- where a fault is listed in so many bytes: at its offset, if it has one, and at most where they end
+-- the piece of a fault in a buffer of this length: at its offset, if it has one, and at most at the end
 abbrev pub fault_piece : ℕ → ReadFault → Piece
 fault_piece len fault = let at = min (unwrap_or (offset_of fault) 0) (min len 4294967295) in record {
   start = at;
@@ -52,7 +52,7 @@ fault_piece len fault = let at = min (unwrap_or (offset_of fault) 0) (min len 42
   what = Fault;
 }
 
--- pieces, and that of the fault if there is one
+-- the pieces, and that of the fault if there is one
 abbrev pub with_fault : ℕ → Option ReadFault → List Piece → List Piece
 with_fault len None pieces = pieces
 with_fault len (Some fault) pieces = pieces ++ fault_piece len fault ∷ []

@@ -57,8 +57,6 @@ const CALLS: &[&str] = &[
     "take_all",
     "request_of",
     "fault_line",
-    "report",
-    "report_noted",
     "fault_path",
     "json_fault_path",
     "all_breaches",
