@@ -45,8 +45,6 @@ CALLS = {
     "take_all": {114},
     "request_of": {0},
     "fault_line": {0},
-    "report": {114},
-    "report_noted": {114},
     "fault_path": {0},
     "json_fault_path": {0},
     "text_fault_path": {0},

@@ -1,1 +1,2 @@
 pub mod OneMoreCoversMore
+pub mod OneMoreIsKept

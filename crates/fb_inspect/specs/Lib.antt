@@ -1,2 +1,4 @@
 pub mod Covers
 pub mod Known
+pub mod Listings
+pub mod Progress

@@ -1,9 +1,10 @@
 //! A listing of a buffer's bytes, some lines at a time.
-ghost use Rattle.std.specs.Prelude.{◌≡◌, IfOk, IfSome, chars, length, min};
+ghost use Rattle.std.specs.Prelude.{◌≡◌, IfOk, IfSome, OnOk, chars, length, min};
 ghost use Rattle.std.specs.String.{string_bytes};
 ghost use Rattle.fb_explain_pages.specs.Lines.{IsPage};
 ghost use Rattle.fb_value.specs.Holds.{framed_fault};
 ghost use Rattle.fb_inspect.specs.Covers.{CoversBelow};
+ghost use Rattle.fb_inspect.specs.Listings.{IsInOrder, IsKeptIn, fault_piece, with_fault};
 
 use crate::cover::without_gaps;
 use crate::details::{details_of, push_detail};
@@ -49,6 +50,17 @@ pub struct Listing<'a> {
     ghost whole: { ∥ CoversBelow pieces.items (min (length bytes.now) 4294967295) ∥₁ },
 }
 
+/// What a call of `next_lines` lists of a piece: some of its details, after its first line if they are the first.
+#[derive(Clone, Copy, Drop)]
+struct Turn {
+    piece: Piece,
+    /// The details that are listed, from this one up to the other.
+    start: u32,
+    end: u32,
+    /// Whether no more are left.
+    is_last: bool,
+}
+
 /// Notes the pieces of a buffer's front: a count, the reference to the root, and the identifier.
 fn note_front(notes: &mut Notes<'_>, front: usize) {
     notes.note(0, 0, front, What::Count);
@@ -85,46 +97,57 @@ fn collect<'a>(
     }
 }
 
-/// Notes where a fault is.
-fn note_fault(notes: &mut Notes<'_>, fault: ReadFault) {
-    let offset = fault.offset().unwrap_or(0);
-    let at = (notes.bytes.len() as u64)
-        .min(offset)
-        .min(u64::from(u32::MAX)) as u32;
-    let piece = Piece {
+/// Where a fault is listed: at its offset if it has one, and at most where the bytes end.
+fn fault_piece(fault: ReadFault, bytes: &[u8]) -> Piece
+    ensures { result ≡ fault_piece (length bytes.now) fault }
+{
+    let len = bytes.len().min(u32::MAX as usize) as u64;
+    let at = fault.offset().unwrap_or(0).min(len) as u32;
+    Piece {
         start: at,
         end: at,
         node: 0,
         what: What::Fault,
-    };
-    if notes.pieces.push(piece).is_err() {
-        notes.is_cut = true;
     }
 }
 
-/// Ends each unknown field where the next piece begins, since how long it is isn't known.
-fn end_unknown(pieces: &mut Vec<Piece>) {
-    let mut next = u32::MAX;
-    for piece in pieces.iter_mut().rev() {
-        if matches!(piece.what, What::UnknownField(_)) && piece.start < next {
-            piece.end = piece.end.min(next);
-        }
-        next = piece.start;
+/// Adds the piece of a fault, if there is one.
+fn push_fault(
+    pieces: &mut Vec<Piece>,
+    fault: Option<ReadFault>,
+    bytes: &[u8],
+) -> Result<(), AllocError>
+    ensures { OnOk result (pieces.new.items ≡ with_fault (length bytes.now) fault pieces.old.items) }
+{
+    if let Some(fault) = fault {
+        pieces.push(fault_piece(fault, bytes))?;
     }
+    Ok(())
 }
 
-/// The pieces of a buffer in their order, with the gaps between them.
-fn in_order(alloc: Global, pieces: Vec<Piece>, bytes: &[u8]) -> Result<Vec<Piece>, AllocError>
+/// The pieces of a buffer and of its fault in their order, with the gaps between them.
+fn in_order(
+    alloc: Global,
+    pieces: Vec<Piece>,
+    fault: Option<ReadFault>,
+    bytes: &[u8],
+) -> Result<Vec<Piece>, AllocError>
     ensures covers { IfOk result (λ all. CoversBelow all.items (min (length bytes.now) 4294967295)) }
+    ensures ordered { IfOk result (λ all. IsInOrder all.items) }
+    ensures kept { IfOk result (λ all. IsKeptIn (with_fault (length bytes.now) fault pieces.items) all.items) }
 {
     let mut pieces = pieces;
+    push_fault(&mut pieces, fault, bytes)?;
     pieces.sort_by_key(|piece| piece.start)?;
-    end_unknown(&mut pieces);
     let len = bytes.len().min(u32::MAX as usize) as u32;
     without_gaps(alloc, pieces.as_slice(), len)
 }
 
 impl<'a> Listing<'a> {
+    ghost use Rattle.std.specs.Prelude.{◌↔◌, ◌+◌, ◌<◌, [], Contains, IfNone, IsNone, OnErr, Some, false, slice_get, true};
+    ghost use Rattle.fb_inspect.specs.Listings.{head_of, noted_in};
+    ghost use Rattle.fb_inspect.specs.Progress.{ListsNext, details_listed, left_of, pieces_of};
+
     /// The listing of a buffer, up to its fault if it has one.
     ///
     /// `raw` skips the file identifier check, and a `prefixed` buffer has the count of its bytes in front. It
@@ -139,11 +162,15 @@ impl<'a> Listing<'a> {
     ) -> Result<Listing<'a>, AllocError>
         ensures fault { IfOk result (λ listing. listing.fault ≡ framed_fault prefixed layout.now limits raw
             bytes.now) }
+        ensures covers { IfOk result (λ listing. CoversBelow (pieces_of listing)
+            (min (length bytes.now) 4294967295)) }
+        ensures ordered { IfOk result (λ listing. IsInOrder (pieces_of listing)) }
+        ensures faulty { IfOk result (λ listing. IfSome listing.fault (λ fault.
+            Contains (noted_in (pieces_of listing)) (head_of (fault_piece (length bytes.now) fault)))) }
+        ensures fresh { IfOk result (λ listing. left_of listing ≡ pieces_of listing) }
+        ensures unlisted { IfOk result (λ listing. details_listed listing ≡ 0) }
     {
-        let (mut notes, fault) = collect(alloc, layout, bytes, limits, raw, prefixed);
-        if let Some(fault) = fault {
-            note_fault(&mut notes, fault);
-        }
+        let (notes, fault) = collect(alloc, layout, bytes, limits, raw, prefixed);
         let Notes {
             reached,
             pieces,
@@ -156,7 +183,7 @@ impl<'a> Listing<'a> {
             return Err(AllocError);
         }
         let nodes = reached.into_nodes();
-        let pieces = in_order(alloc, pieces, bytes)?;
+        let pieces = in_order(alloc, pieces, fault, bytes)?;
         Ok(Listing {
             alloc,
             layout,
@@ -189,33 +216,67 @@ impl<'a> Listing<'a> {
         }
     }
 
-    /// The next lines; None after the last ones.
+    /// What is listed next; None after the last piece.
+    fn next_turn(&self) -> Option<Turn>
+        ensures end { IsNone result ↔ (left_of self.now ≡ []) }
+        ensures piece { IfSome result (λ turn. slice_get self.now.pieces.items self.now.next ≡ Some turn.piece) }
+        ensures start { IfSome result (λ turn. turn.start ≡ details_listed self.now) }
+        ensures more { IfSome result (λ turn. turn.is_last ≡ false → turn.start < turn.end) }
+    {
+        let piece = self.pieces.get(self.next).copied()?;
+        let count = details_of(self.scene(), &piece);
+        let start = self.detail;
+        let end = start.saturating_add(AT_A_TIME).min(count);
+        Some(Turn {
+            piece,
+            start,
+            end,
+            is_last: end == count,
+        })
+    }
+
+    /// The next lines; None after the last ones. Where memory runs out the same lines are still next.
     pub fn next_lines(&mut self) -> Result<Option<String>, AllocError>
         ensures plain { IfOk result (λ lines. IfSome lines (λ text. IsPage (chars (string_bytes text)))) }
+        ensures end { IfOk result (λ lines. IsNone lines ↔ (left_of self.old ≡ [])) }
+        ensures next { IfOk result (λ lines. IfSome lines (λ text. ListsNext self.old self.new)) }
+        ensures ended { IfOk result (λ lines. IfNone lines (self.new ≡ self.old)) }
+        ensures failed { OnErr result (self.new ≡ self.old) }
     {
-        let Some(piece) = self.pieces.get(self.next).copied() else {
+        let Some(turn) = self.next_turn() else {
             return Ok(None);
         };
+        let lines = self.lines_of(&turn)?;
+        self.note_listed(&turn);
+        Ok(Some(lines))
+    }
+
+    /// The lines of a turn.
+    fn lines_of(&self, turn: &Turn) -> Result<String, AllocError>
+        ensures plain { IfOk result (λ text. IsPage (chars (string_bytes text))) }
+    {
         let mut page = Page::new(self.alloc, COLUMNS);
-        if self.detail == 0 {
-            self.push_first(&mut page, &piece);
+        if turn.start == 0 {
+            self.push_first(&mut page, &turn.piece);
         }
-        self.push_details(&mut page, &piece);
-        Ok(Some(page.into_text()?))
+        for detail in turn.start..turn.end {
+            push_detail(&mut page, self.scene(), &turn.piece, detail);
+        }
+        page.into_text()
+    }
+
+    /// Adds a piece's first line.
+    fn push_first(&self, page: &mut Page, piece: &Piece) {
+        match piece.what {
+            What::Fault => self.push_fault_line(page, piece),
+            _ => self.push_piece(page, piece),
+        }
     }
 
     /// Whether a piece begins before one above it ends. Tables of several types may have one vtable.
     fn overlaps(&self, piece: &Piece) -> bool {
         let is_again = matches!(piece.what, What::Vtable) && self.vtable == Some(piece.start);
         piece.start < self.covered && !is_again
-    }
-
-    /// Notes that a piece was listed.
-    fn note_listed(&mut self, piece: &Piece) {
-        self.covered = self.covered.max(piece.end);
-        if let What::Vtable = piece.what {
-            self.vtable = Some(piece.start);
-        }
     }
 
     /// Adds the line of a piece that isn't the fault.
@@ -225,36 +286,27 @@ impl<'a> Listing<'a> {
         push_head(page, self.scene(), piece, is_whole, overlaps);
     }
 
-    /// Adds a piece's first line.
-    fn push_first(&mut self, page: &mut Page, piece: &Piece) {
-        match piece.what {
-            What::Fault => self.push_fault(page, piece),
-            _ => {
-                self.push_piece(page, piece);
-                self.note_listed(piece);
-            }
+    /// Notes that a turn was listed, and goes on to the next piece after the last of its details.
+    fn note_listed(&mut self, turn: &Turn)
+        requires piece { slice_get self.old.pieces.items self.old.next ≡ Some turn.now.piece }
+        requires start { turn.now.start ≡ details_listed self.old }
+        requires more { turn.now.is_last ≡ false → turn.now.start < turn.now.end }
+        ensures { ListsNext self.old self.new }
+    {
+        self.covered = self.covered.max(turn.piece.end);
+        if let What::Vtable = turn.piece.what {
+            self.vtable = Some(turn.piece.start);
         }
-    }
-
-    /// Adds the next of a piece's details, and goes on to the next piece after the last one.
-    fn push_details(&mut self, page: &mut Page, piece: &Piece) {
-        let count = details_of(self.scene(), piece);
-        for _ in 0..AT_A_TIME {
-            if self.detail >= count {
-                break;
-            }
-            let detail = self.detail;
-            push_detail(page, self.scene(), piece, detail);
-            self.detail = self.detail.saturating_add(1);
-        }
-        if self.detail >= count {
-            self.next = self.next.saturating_add(1);
+        if turn.is_last {
+            self.next += 1;
             self.detail = 0;
+        } else {
+            self.detail = turn.end;
         }
     }
 
     /// Adds the line of the fault.
-    fn push_fault(&self, page: &mut Page, piece: &Piece) {
+    fn push_fault_line(&self, page: &mut Page, piece: &Piece) {
         begin_piece(page, self.bytes, piece);
         let Some(fault) = self.fault else {
             page.end_line();

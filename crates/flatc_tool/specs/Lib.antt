@@ -6,6 +6,7 @@ pub mod Answers
 pub mod Headline
 pub mod Chains
 pub mod FaultLines
+pub mod LineBuffers
 pub mod Reports
 pub mod FileFaults
 pub mod Checks

@@ -1,5 +1,6 @@
 //! What the command does with files and streams: reads a file, and writes a text or the line of a fault.
 mod heard;
+mod line_buffer;
 mod lines;
 mod reports;
 

@@ -18,8 +18,6 @@ const LINE: &str = "75 MissingMember in type 0 slot 2";
 
 const ENDED: &str = "75 MissingMember in type 0 slot 2\n";
 
-const NO_MEMORY: &str = "114 Memory\n";
-
 /// The longest file that is read.
 const MOST: u32 = 2_147_483_647;
 
@@ -83,34 +81,20 @@ fn try_line(rt: &HostRuntime, arms: bool) -> Outcome {
     }
 }
 
-/// What comes of a report on a fault: its line, or the line that says that memory ran out.
-fn of_report(status: u8, out: &Matching<'_>, err: &Matching<'_>) -> Outcome {
-    if status != 1 || !out.is_first() {
-        return Outcome::Wrong;
-    }
-    if err.is_other() {
-        return Outcome::Short(114);
-    }
-    Outcome::of(err.is_first())
-}
-
-fn try_report(rt: &HostRuntime, arms: bool) -> Outcome {
-    let mut out = Matching::either("", "");
-    let mut err = Matching::either(ENDED, NO_MEMORY);
-    arm(rt, arms);
-    let status = report(rt.alloc(), Err(FAULT), &mut out, &mut err);
-    disarm(rt, arms);
-    of_report(status, &out, &err)
+/// Whether a report on a fault writes its line and returns 1; it takes no memory.
+pub(crate) fn is_reported(alloc: Global) -> bool {
+    let mut out = Matching::one("");
+    let mut err = Matching::one(ENDED);
+    report(alloc, Err(FAULT), &mut out, &mut err) == 1 && out.is_first() && err.is_first()
 }
 
 /// The same, to writers that remember whether their last write failed.
-fn try_report_noted(rt: &HostRuntime, arms: bool) -> Outcome {
-    let mut out = Noted::over(Matching::either("", ""));
-    let mut err = Noted::over(Matching::either(ENDED, NO_MEMORY));
-    arm(rt, arms);
-    let status = report_noted(rt.alloc(), Err(FAULT), &mut out, &mut err);
-    disarm(rt, arms);
-    of_report(status, &out.into_inner(), &err.into_inner())
+pub(crate) fn is_report_noted(alloc: Global) -> bool {
+    let mut out = Noted::over(Matching::one(""));
+    let mut err = Noted::over(Matching::one(ENDED));
+    report_noted(alloc, Err(FAULT), &mut out, &mut err) == 1
+        && out.into_inner().is_first()
+        && err.into_inner().is_first()
 }
 
 /// What comes of a call of the command; None where it is none of these.
@@ -124,8 +108,6 @@ pub(crate) fn try_command_call(
         "take_all" => Some(try_take(rt, example, arms)),
         "request_of" => Some(try_request_of(rt, arms)),
         "fault_line" => Some(try_line(rt, arms)),
-        "report" => Some(try_report(rt, arms)),
-        "report_noted" => Some(try_report_noted(rt, arms)),
         _ => None,
     }
 }

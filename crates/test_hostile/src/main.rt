@@ -58,8 +58,6 @@ const CALLS: &[&str] = &[
     "take_all",
     "request_of",
     "fault_line",
-    "report",
-    "report_noted",
     "fault_path",
     "json_fault_path",
     "text_fault_path",

@@ -5,6 +5,7 @@ ghost use Rattle.fb_value.specs.Counts.{depth, nesting, is_whole};
 ghost use Rattle.fb_value.specs.Fits.{FitsRoot};
 
 use crate::arming::{Matching, Outcome, arm, disarm};
+use crate::commands::{is_report_noted, is_reported};
 use crate::examples::Example;
 use crate::meanings::limits;
 use fb_conform::conform;
@@ -159,7 +160,8 @@ pub(crate) fn try_memoryless(
         text: of_text,
     };
     arm(rt, arms);
-    let is_right = is_all_right(example, layout, &newer, value, plans);
+    let are_reports = is_reported(rt.alloc()) && is_report_noted(rt.alloc());
+    let is_right = is_all_right(example, layout, &newer, value, plans) && are_reports;
     disarm(rt, arms);
     Outcome::of(is_right)
 }

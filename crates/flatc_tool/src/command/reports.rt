@@ -1,18 +1,18 @@
-//! What the command tells of an answer.
-ghost use Rattle.std.specs.Prelude.{◌≡◌, ◌≤◌, ◌<◌, ◌++◌, ℕ, length, take, true, false, IfOk, IfErr, string_bytes};
+//! What the command reports of an answer.
+ghost use Rattle.std.specs.Prelude.{◌≡◌, ◌≤◌, ◌<◌, ℕ, length, take, true, false, IfOk, IfErr};
 ghost use Rattle.std.specs.Prelude.{if◌then◌else◌};
 ghost use Rattle.std.specs.Io.KnownBytes.{Appends};
 ghost use Rattle.fb_text.specs.Noted.{write_failed, writer_of, IsWrittenUnlessFailed};
 ghost use Rattle.flatc_tool.specs.FaultLines.{line_of};
+ghost use Rattle.flatc_tool.specs.LineBuffers.{text_of};
 ghost use Rattle.flatc_tool.specs.Reports.{ended, IsTold, IsToldUnlessFailed};
 
-use crate::command::lines::fault_line;
+use crate::command::line_buffer::LineBuffer;
+use crate::command::lines::line_of;
 use fb_faults::ToolFault;
 use fb_text::Noted;
-use std::alloc::{AllocError, Global};
+use std::alloc::Global;
 use std::io::Write;
-
-const NO_MEMORY: &str = "114 Memory\n";
 
 /// Writes a text from its first byte to its last, until a write fails or takes nothing; returns
 /// whether all of it was written.
@@ -33,40 +33,34 @@ fn write_text<W: Write>(text: &str, out: &mut W) -> bool
 }
 
 /// The line of a fault with its line feed.
-fn ended_line(alloc: Global, fault: &ToolFault) -> Result<String, AllocError>
-    ensures { IfOk result (λ line. string_bytes line ≡ ended (line_of fault.now)) }
+fn ended_line(fault: &ToolFault) -> LineBuffer
+    ensures { text_of result ≡ ended (line_of fault.now) }
 {
-    let mut line = fault_line(alloc, fault)?;
-    line.push_str("\n")?;
-    Ok(line)
+    let mut line = line_of(fault);
+    line.push_str("\n");
+    line
 }
 
-/// Writes the line of a fault. Where there is no memory for it, the line says that.
-fn write_line<E: Write>(alloc: Global, fault: &ToolFault, err: &mut E)
+/// Writes the line of a fault.
+fn write_line<E: Write>(fault: &ToolFault, err: &mut E)
     ensures { IsTold fault.now (E.contents err.old) (E.contents err.new) }
 {
-    let _all = match ended_line(alloc, fault) {
-        Ok(line) => write_text(line.as_str(), err),
-        Err(_) => write_text(NO_MEMORY, err),
-    };
+    let _all = write_text(ended_line(fault).as_str(), err);
 }
 
 /// The same to a writer that remembers whether its last write failed.
-fn write_noted_line<E: Write>(alloc: Global, fault: &ToolFault, err: &mut Noted<E>)
+fn write_noted_line<E: Write>(fault: &ToolFault, err: &mut Noted<E>)
     requires { write_failed err.old ≡ false }
     ensures { IsToldUnlessFailed fault.now (write_failed err.new)
         (E.contents (writer_of err.old)) (E.contents (writer_of err.new)) }
 {
-    match ended_line(alloc, fault) {
-        Ok(line) => err.write_whole(line.as_str()),
-        Err(_) => err.write_whole(NO_MEMORY),
-    }
+    err.write_whole(ended_line(fault).as_str());
 }
 
 /// Writes the text to `out` and returns 0, or the line of the fault and a line feed to `err` and
 /// returns 1. Where a write fails 1 is returned too.
 pub fn report<O: Write, E: Write>(
-    alloc: Global,
+    _alloc: Global,
     answer: Result<&str, ToolFault>,
     out: &mut O,
     err: &mut E,
@@ -84,7 +78,7 @@ pub fn report<O: Write, E: Write>(
     match answer {
         Ok(text) => if write_text(text, out) { 0 } else { 1 },
         Err(fault) => {
-            write_line(alloc, &fault, err);
+            write_line(&fault, err);
             1
         }
     }
@@ -95,7 +89,7 @@ pub fn report<O: Write, E: Write>(
 /// A text or a line is cut only where a write failed or took none of its bytes; the status of a text is 1 exactly
 /// there.
 pub fn report_noted<O: Write, E: Write>(
-    alloc: Global,
+    _alloc: Global,
     answer: Result<&str, ToolFault>,
     out: &mut Noted<O>,
     err: &mut Noted<E>,
@@ -117,7 +111,7 @@ pub fn report_noted<O: Write, E: Write>(
             if out.failed() { 1 } else { 0 }
         }
         Err(fault) => {
-            write_noted_line(alloc, &fault, err);
+            write_noted_line(&fault, err);
             1
         }
     }

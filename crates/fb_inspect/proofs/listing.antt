@@ -1,0 +1,2 @@
+-- What the proofs of src/listing.rt use.
+pub mod FaultIsListed

@@ -1,0 +1,2 @@
+-- What the proofs of src/command/lines.rt use.
+pub mod NamesAreShort
