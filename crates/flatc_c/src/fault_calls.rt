@@ -4,7 +4,7 @@ ghost use Rattle.fb_explain_pages.specs.Lines.{IsPage};
 ghost use Rattle.fb_faults.specs.FaultTable.{name_of, number_of};
 ghost use Rattle.fb_faults.specs.declared.faults.ToolFault.{ToolFault};
 ghost use Rattle.flatc_c.specs.Handles.{HasBytes};
-ghost use Rattle.flatc_c.specs.Faults.{IsTold, StartsWith};
+ghost use Rattle.flatc_c.specs.Faults.{IsTold, name_field};
 ghost use Rattle.flatc_c.specs.Settings.{AreSet};
 
 use crate::contents::{clear, give};
@@ -21,7 +21,7 @@ use std::alloc::Global;
 #[unsafe(no_mangle)]
 pub extern "C" fn flatc_fault_name(number: u8, name: &mut FaultName) -> bool
     ensures named { IsTrue result → (f : ToolFault) × (number_of f ≡ number)
-        × StartsWith name.new.text (name_of f) }
+        × (name.new.text ≡ name_field (name_of f)) }
     ensures unnamed { ¬ IsTrue result → name.new ≡ name.old }
 {
     let place = Place {
