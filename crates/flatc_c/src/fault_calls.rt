@@ -70,6 +70,7 @@ fn sentence_of(alloc: Global, fault: ToolFault) -> Result<String, AllocError>
 #[unsafe(no_mangle)]
 pub extern "C" fn flatc_fault_message(alloc: Global, fault: &Fault, out: &mut Bytes) -> u32
     ensures told { (result ≡ 0) → (f : ToolFault) × IsTold fault.now f }
+    ensures no_fault { (result ≡ 5) → (f : ToolFault) → IsReported f → ¬ IsTold fault.now f }
     ensures sentence { (result ≡ 0) → HasBytes out.new (λ text. IsTrue (is_sentence text)) }
     ensures status { (result ≡ 0) ⊎ ((result ≡ 2) ⊎ (result ≡ 5)) }
     ensures empty { (result ≢ 0) → out.new.held.value ≡ None }
@@ -110,6 +111,7 @@ pub extern "C" fn flatc_explain<'a>(
     out: &mut Bytes,
 ) -> u32
     ensures told { (result ≡ 0) → (f : ToolFault) × IsTold fault.now f }
+    ensures no_fault { (result ≡ 5) → (f : ToolFault) → IsReported f → ¬ IsTold fault.now f }
     ensures plain { (result ≡ 0) → HasBytes out.new (λ text. IsPage (chars text)) }
     ensures bad_options { (result ≡ 4) → ¬ AreSet options.now }
     ensures status { (result ≡ 0) ⊎ ((result ≡ 2) ⊎ ((result ≡ 4) ⊎ (result ≡ 5))) }

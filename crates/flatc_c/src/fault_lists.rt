@@ -1,6 +1,7 @@
 //! Each fault that the calls report, by its number and at given places.
-ghost use Rattle.std.specs.Prelude.{◌≡◌, ◌≢◌, ◌<◌, ◌⊎◌, IfNone, IfSome};
-ghost use Rattle.fb_faults.specs.FaultTable.{number_of};
+ghost use Rattle.std.specs.Prelude.{◌≡◌, ◌≢◌, ◌<◌, ◌⊎◌, IfNone, IfSome, unwrap_or};
+ghost use Rattle.fb_faults.specs.FaultTable.{number_of, offset_of};
+ghost use Rattle.fb_faults.specs.FaultPlaces.{owner_of, slot_of};
 ghost use Rattle.fb_faults.specs.declared.faults.ToolFault.{ToolFault};
 ghost use Rattle.flatc_c.specs.Faults.{IsReported, IsTold};
 
@@ -14,6 +15,8 @@ use flatc_tool::{
 fn syntax_fault(number: u8, at: u64) -> Option<ToolFault>
     ensures found { IfSome result (λ f. number_of f ≡ number) }
     ensures reported { IfSome result IsReported }
+    ensures exact { IfSome result (λ one. (f : ToolFault) → IsReported f → number_of f ≡ number
+        → unwrap_or (offset_of f) at ≡ at → f ≡ one) }
     ensures none { IfNone result ((number < 1) ⊎ (7 < number)) }
 {
     let fault = match number {
@@ -33,6 +36,8 @@ fn syntax_fault(number: u8, at: u64) -> Option<ToolFault>
 fn schema_fault(number: u8, at: u64) -> Option<ToolFault>
     ensures found { IfSome result (λ f. number_of f ≡ number) }
     ensures reported { IfSome result IsReported }
+    ensures exact { IfSome result (λ one. (f : ToolFault) → IsReported f → number_of f ≡ number
+        → unwrap_or (offset_of f) at ≡ at → f ≡ one) }
     ensures none { IfNone result ((number < 10) ⊎ (23 < number)) }
 {
     let fault = match number {
@@ -59,6 +64,8 @@ fn schema_fault(number: u8, at: u64) -> Option<ToolFault>
 fn layout_fault(number: u8, owner: TypeId) -> Option<ToolFault>
     ensures found { IfSome result (λ f. number_of f ≡ number) }
     ensures reported { IfSome result IsReported }
+    ensures exact { IfSome result (λ one. (f : ToolFault) → IsReported f → number_of f ≡ number
+        → unwrap_or (owner_of f) owner.0 ≡ owner.0 → f ≡ one) }
     ensures none { IfNone result ((number < 30) ⊎ (32 < number)) }
 {
     let fault = match number {
@@ -74,6 +81,8 @@ fn layout_fault(number: u8, owner: TypeId) -> Option<ToolFault>
 fn read_fault(number: u8, at: u64, slot: u16) -> Option<ToolFault>
     ensures found { IfSome result (λ f. number_of f ≡ number) }
     ensures reported { IfSome result IsReported }
+    ensures exact { IfSome result (λ one. (f : ToolFault) → IsReported f → number_of f ≡ number
+        → unwrap_or (offset_of f) at ≡ at → unwrap_or (slot_of f) slot ≡ slot → f ≡ one) }
     ensures none { IfNone result ((number < 50) ⊎ ((number ≡ 61) ⊎ (64 < number))) }
 {
     let fault = match number {
@@ -100,6 +109,8 @@ fn read_fault(number: u8, at: u64, slot: u16) -> Option<ToolFault>
 fn json_fault(number: u8, place: Place) -> Option<ToolFault>
     ensures found { IfSome result (λ f. number_of f ≡ number) }
     ensures reported { IfSome result IsReported }
+    ensures exact { IfSome result (λ one. (f : ToolFault) → IsReported f → number_of f ≡ number
+        → unwrap_or (owner_of f) place.owner.0 ≡ place.owner.0 → slot_of f ≡ place.slot → f ≡ one) }
     ensures none { IfNone result ((number < 70) ⊎ (80 < number)) }
 {
     let fault = match number {
@@ -123,6 +134,8 @@ fn json_fault(number: u8, place: Place) -> Option<ToolFault>
 fn breach(number: u8, owner: TypeId, slot: u16) -> Option<ToolFault>
     ensures found { IfSome result (λ f. number_of f ≡ number) }
     ensures reported { IfSome result IsReported }
+    ensures exact { IfSome result (λ one. (f : ToolFault) → IsReported f → number_of f ≡ number
+        → unwrap_or (owner_of f) owner.0 ≡ owner.0 → unwrap_or (slot_of f) slot ≡ slot → f ≡ one) }
     ensures none { IfNone result ((number < 90) ⊎ (102 < number)) }
 {
     let fault = match number {
@@ -148,6 +161,8 @@ fn breach(number: u8, owner: TypeId, slot: u16) -> Option<ToolFault>
 fn other_fault(number: u8, place: Place) -> Option<ToolFault>
     ensures found { IfSome result (λ f. number_of f ≡ number) }
     ensures reported { IfSome result IsReported }
+    ensures exact { IfSome result (λ one. (f : ToolFault) → IsReported f → number_of f ≡ number
+        → unwrap_or (owner_of f) place.owner.0 ≡ place.owner.0 → slot_of f ≡ place.slot → f ≡ one) }
     ensures none { IfNone result ((number ≢ 40) × (number ≢ 41) × (number ≢ 81) × (number ≢ 84)
         × (number ≢ 113) × (number ≢ 114)) }
 {
@@ -166,6 +181,9 @@ fn other_fault(number: u8, place: Place) -> Option<ToolFault>
 pub(crate) fn fault_at(number: u8, at: u64, place: Place) -> Option<ToolFault>
     ensures found { IfSome result (λ f. number_of f ≡ number) }
     ensures reported { IfSome result IsReported }
+    ensures exact { IfSome result (λ one. (f : ToolFault) → IsReported f → number_of f ≡ number
+        → unwrap_or (offset_of f) at ≡ at → unwrap_or (owner_of f) place.owner.0 ≡ place.owner.0
+        → slot_of f ≡ place.slot → f ≡ one) }
     ensures unknown { IfNone result ((f : ToolFault) → IsReported f → number_of f ≢ number) }
 {
     let slot = place.slot.unwrap_or(0);
@@ -182,7 +200,8 @@ pub(crate) fn fault_at(number: u8, at: u64, place: Place) -> Option<ToolFault>
 
 /// The fault that C was told of.
 pub(crate) fn fault_of(told_fault: &Fault) -> Option<ToolFault>
-    ensures { IfSome result (IsTold told_fault.now) }
+    ensures told { IfSome result (IsTold told_fault.now) }
+    ensures none { IfNone result ((f : ToolFault) → IsReported f → ¬ IsTold told_fault.now f) }
 {
     let place = Place {
         owner: TypeId(told_fault.type_id),
