@@ -1,5 +1,6 @@
 -- What C is told of a fault.
-use Rattle.std.specs.Prelude.{◌≡◌, ◌-◌, ◌++◌, ℕ, List, length, take, replicate, is_some, unwrap_or, ⊤, Bool, ◌&&◌, not, nat_eq, nat_lt}
+use Rattle.std.specs.Prelude.{◌≡◌, ◌-◌, ◌++◌, ℕ, List, length, take, replicate, is_some, unwrap_or, ⊤, Bool, ◌&&◌}
+use Rattle.std.specs.Prelude.{not, nat_eq, nat_lt}
 use Rattle.std.specs.List.{list_all, list_any}
 use Rattle.fb_conform.specs.declared.breaches.Breach as breaches
 use Rattle.fb_value.specs.declared.faults.ReadFault.{ReadFault}

@@ -1,5 +1,6 @@
 -- Where the files of a batch go.
-use Rattle.std.specs.Prelude.{◌≢◌, ◌++◌, ◌∷◌, [], Option, None, Some, List, Bool, All, AllPairs, unwrap_or, map, codes, string_bytes}
+use Rattle.std.specs.Prelude.{◌≢◌, ◌++◌, ◌∷◌, [], Option, None, Some, List, Bool, All, AllPairs, unwrap_or, map}
+use Rattle.std.specs.Prelude.{codes, string_bytes}
 use Rattle.std.specs.BTreeSet.{BTreeSet, contains_by}
 use Rattle.std.specs.Cmp.Lexicographic.{slice_cmp}
 use Rattle.std.specs.Ordering.{nat_cmp}

@@ -7,7 +7,8 @@ use Rattle.flatc_c.proofs.faults.padded.Goals.{then-text-lt32, else-text-lt32}
 -- a text's front copied to the front of 32 zeros
 copied : (text front : List ℕ) (shown : ℕ) → shown ≡ length (take 31 text) → front ≡ take 31 text
     → front ++ drop shown (replicate 32 0) ≡ name_field text
-copied text front shown is_length is_front = rw (is_front, is_length, drop-replicate {X = ℕ} (length (take 31 text)) 32 0) refl
+copied text front shown is_length is_front =
+    rw (is_front, is_length, drop-replicate {X = ℕ} (length (take 31 text)) 32 0) refl
 
 whole : (text : List ℕ) → length text < 32 → take 31 text ≡ text
 whole text short = take_all 31 text (omega arith)
@@ -16,16 +17,16 @@ pub returns : goal.returns
 returns c =
     let text = c.args.name.now in
     let bytes = c.as_bytes-text.ensures.value in
+    let front : c.copy_from_slice.new.self ≡ take c.if-text-lt32.shown text
+    = rw bytes at c.copy_from_slice.ensures.after in
     elim c.if-text-lt32.branch [
       | then-text-lt32 w ↦
           let shown : c.if-text-lt32.shown ≡ length text = rw bytes at w.shown-is in
           let short : length text < 32 = rw bytes at w.if-text-lt32.true in
-          let front : c.copy_from_slice.new.self ≡ take c.if-text-lt32.shown text = rw bytes at c.copy_from_slice.ensures.after in
           copied text c.copy_from_slice.new.self c.if-text-lt32.shown (shown ∙ ap length (sym (whole text short)))
           (front ∙ rw shown (take_all (length text) text (omega arith) ∙ sym (whole text short)))
       | else-text-lt32 w ↦
           let long : 32 ≤ length text = rw bytes at w.if-text-lt32.false in
-          let front : c.copy_from_slice.new.self ≡ take c.if-text-lt32.shown text = rw bytes at c.copy_from_slice.ensures.after in
           copied text c.copy_from_slice.new.self c.if-text-lt32.shown (omega (arith, length-take 31 text, w.shown-is))
           (front ∙ rw w.shown-is refl)
     ]

@@ -32,10 +32,11 @@ loop-path-preserved c =
 
 pub returns-clause-distinct : goal.returns-clause-distinct
 returns-clause-distinct c =
-    let all = rw (take_all c.loop-path.path-index c.args.paths.now c.loop-path-test.false) at c.loop-path.invariant.distinct in
-    always _ all
+    let end = take_all c.loop-path.path-index c.args.paths.now c.loop-path-test.false in
+    always _ (rw end at c.loop-path.invariant.distinct)
 
 pub returns-clause-apart : goal.returns-clause-apart
 returns-clause-apart c =
-    let all = rw (take_all c.loop-path.path-index c.args.paths.now c.loop-path-test.false) at c.loop-path.invariant.met in
+    let end = take_all c.loop-path.path-index c.args.paths.now c.loop-path-test.false in
+    let all = rw end at c.loop-path.invariant.met in
     if_ok _ (λ checked. apart c.loop-path.met (inputs_of c.args.batch.now) _ checked all) c.check_inputs.ensures

@@ -18,5 +18,6 @@ pub returns : goal.returns
 returns c =
     let checked : has_path c.args.outputs.now c.as_str.result.now ≡ false = c.in_ok-check_input.ensures in
     let schema = rw c.as_str.ensures.value at checked in
-    let all = rw (take_all c.loop-file.file-index c.args.batch.now.files.items (omega arith)) at c.loop-file.invariant in
+    let end = take_all c.loop-file.file-index c.args.batch.now.files.items (omega arith) in
+    let all = rw end at c.loop-file.invariant in
     All-cons (λ input. has_path c.args.outputs.now input ≡ false) _ _ schema all

@@ -63,4 +63,5 @@ returns c =
     (Decides-and _ _ (Decides-eqb _ _) (Decides-and _ _ (booleans_Decides _ _) (Decides-and _ _ (booleans_Decides _ _)
     (Decides-and _ _ (booleans_Decides _ _)
     (Decides-and _ _ (bytes_eq-Decides _ _) (bytes_eq-Decides _ _))))))))) in
-    Decides-like _ (told_too a b c.args.fault c.told.ensures) (λ told. both_told a b c.args.fault told c.told.ensures) compared
+    let told = c.told.ensures in
+    Decides-like _ (told_too a b c.args.fault told) (λ too. both_told a b c.args.fault too told) compared
