@@ -74,7 +74,7 @@ typedef struct flatc_fault {
 } flatc_fault;
 #define FLATC_FAULT_INIT {0, 0, 0, 0, false, false, false, {0}, {0}}
 
-/* How a message is converted; start from FLATC_OPTIONS_INIT. A later version may add fields at the end, and still
+/* How a message is converted; start from FLATC_OPTIONS_INIT. A later version may add fields after `reserved`, and still
  * accepts this struct. Fields outside the first `size` bytes have their defaults, but the whole struct must be
  * readable. Zero isn't a default: with a max_depth of 0 a call returns FLATC_BAD_OPTIONS, and with a max_cells of 0 it
  * accepts nothing. */
@@ -89,8 +89,9 @@ typedef struct flatc_options {
     bool defaults_json; /* flatc_decode: includes fields with default values */
     bool size_prefixed; /* flatc_encode, _decode, _verify: the buffer begins with its length, as 32 bits */
     bool compact;       /* flatc_decode: no blanks and line feeds outside strings */
+    uint8_t reserved[2]; /* no version reads it, since in 0.2.0 it was padding */
 } flatc_options;
-#define FLATC_OPTIONS_INIT {(uint32_t)sizeof(flatc_options), 100000000u, 64, false, false, false, false, false}
+#define FLATC_OPTIONS_INIT {(uint32_t)sizeof(flatc_options), 100000000u, 64, false, false, false, false, false, {0, 0}}
 
 /* The FLATC_VERSION_NUMBER that the library was built with. */
 uint32_t flatc_version(void);

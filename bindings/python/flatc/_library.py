@@ -104,6 +104,7 @@ class Options(ctypes.Structure):
         ("defaults_json", ctypes.c_bool),
         ("size_prefixed", ctypes.c_bool),
         ("compact", ctypes.c_bool),
+        ("reserved", ctypes.c_uint8 * 2),
     ]
 
 

@@ -1,10 +1,11 @@
 //! The calls over faults: name, sentence and explanation.
-ghost use Rattle.std.specs.Prelude.{◌≡◌, ◌≢◌, ◌⊎◌, None, IsTrue, chars};
+ghost use Rattle.std.specs.Prelude.{◌≡◌, ◌≢◌, ◌⊎◌, None, IfOk, IsTrue, chars, nat_eq, nat_lt, not, string_bytes};
+ghost use Rattle.std.specs.List.{list_all, list_any};
 ghost use Rattle.fb_explain_pages.specs.Lines.{IsPage};
 ghost use Rattle.fb_faults.specs.FaultTable.{name_of, number_of};
 ghost use Rattle.fb_faults.specs.declared.faults.ToolFault.{ToolFault};
 ghost use Rattle.flatc_c.specs.Handles.{HasBytes};
-ghost use Rattle.flatc_c.specs.Faults.{IsTold, StartsWith};
+ghost use Rattle.flatc_c.specs.Faults.{IsReported, IsTold, is_sentence, name_field};
 ghost use Rattle.flatc_c.specs.Settings.{AreSet};
 
 use crate::contents::{clear, give};
@@ -15,34 +16,62 @@ use crate::options::Options;
 use crate::status::{BAD_OPTIONS, NO_FAULT, NO_MEMORY, OK};
 use fb_explain::{COLUMNS, Source, Sources, explain};
 use flatc_tool::{Place, ToolFault, TypeId};
-use std::alloc::Global;
+use std::alloc::{AllocError, Global};
 
 /// The name of the fault that has this number, if a call writes such a fault.
 #[unsafe(no_mangle)]
 pub extern "C" fn flatc_fault_name(number: u8, name: &mut FaultName) -> bool
-    ensures named { IsTrue result → (f : ToolFault) × (number_of f ≡ number)
-        × StartsWith name.new.text (name_of f) }
+    ensures named { IsTrue result → (f : ToolFault) × IsReported f × (number_of f ≡ number)
+        × (name.new.text ≡ name_field (name_of f)) }
     ensures unnamed { ¬ IsTrue result → name.new ≡ name.old }
+    ensures unknown { ¬ IsTrue result → (f : ToolFault) → IsReported f → number_of f ≢ number }
 {
     let place = Place {
         owner: TypeId(0),
         slot: None,
     };
     match fault_at(number, 0, place) {
-        Some(fault) if fault.number() == number => {
+        Some(fault) => {
             *name = FaultName {
                 text: padded(fault.name()),
             };
             true
         }
-        _ => false,
+        None => false,
     }
+}
+
+/// Whether a text has a byte that is no blank and no control character.
+fn has_word(text: &[u8]) -> bool
+    ensures { result ≡ list_any (λ byte. nat_lt 32 byte) text.now }
+{
+    text.iter().any(|byte| *byte > 32)
+}
+
+/// Whether a text has no line feed.
+fn is_line(text: &[u8]) -> bool
+    ensures { result ≡ list_all (λ byte. not (nat_eq byte 10)) text.now }
+{
+    text.iter().all(|byte| *byte != 10)
+}
+
+/// The sentence of a fault. No clause says what a fault displays, so its name stands in for a text that isn't a line.
+fn sentence_of(alloc: Global, fault: ToolFault) -> Result<String, AllocError>
+    ensures { IfOk result (λ text. IsTrue (is_sentence (string_bytes text))) }
+{
+    let sentence = fault.to_string(alloc)?;
+    if has_word(sentence.as_bytes()) && is_line(sentence.as_bytes()) {
+        return Ok(sentence);
+    }
+    String::from_str(alloc, fault.name())
 }
 
 /// The sentence of a fault: which it is, and where.
 #[unsafe(no_mangle)]
 pub extern "C" fn flatc_fault_message(alloc: Global, fault: &Fault, out: &mut Bytes) -> u32
     ensures told { (result ≡ 0) → (f : ToolFault) × IsTold fault.now f }
+    ensures no_fault { (result ≡ 5) → (f : ToolFault) → IsReported f → ¬ IsTold fault.now f }
+    ensures sentence { (result ≡ 0) → HasBytes out.new (λ text. IsTrue (is_sentence text)) }
     ensures status { (result ≡ 0) ⊎ ((result ≡ 2) ⊎ (result ≡ 5)) }
     ensures empty { (result ≢ 0) → out.new.held.value ≡ None }
 {
@@ -50,7 +79,7 @@ pub extern "C" fn flatc_fault_message(alloc: Global, fault: &Fault, out: &mut By
     let Some(fault) = fault_of(fault) else {
         return NO_FAULT;
     };
-    match fault.to_string(alloc) {
+    match sentence_of(alloc, fault) {
         Ok(text) => if give(alloc, out, text.into_bytes()) {
             OK
         } else {
@@ -82,6 +111,7 @@ pub extern "C" fn flatc_explain<'a>(
     out: &mut Bytes,
 ) -> u32
     ensures told { (result ≡ 0) → (f : ToolFault) × IsTold fault.now f }
+    ensures no_fault { (result ≡ 5) → (f : ToolFault) → IsReported f → ¬ IsTold fault.now f }
     ensures plain { (result ≡ 0) → HasBytes out.new (λ text. IsPage (chars text)) }
     ensures bad_options { (result ≡ 4) → ¬ AreSet options.now }
     ensures status { (result ≡ 0) ⊎ ((result ≡ 2) ⊎ ((result ≡ 4) ⊎ (result ≡ 5))) }

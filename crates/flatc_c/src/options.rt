@@ -7,7 +7,8 @@ use flatc_tool::Limits;
 
 /// The limits, and what is ignored.
 ///
-/// `size` is the struct's size in bytes as the caller knows it; fields that end behind it have their defaults.
+/// `size` is the struct's size in bytes as the caller knows it; fields that end after it have their defaults.
+/// `reserved` is never read: to callers that were compiled with the header of 0.2.0 it is padding with any content.
 #[repr(C)]
 #[derive(Clone, Copy, Debug, PartialEq, Eq, Drop)]
 pub struct Options {
@@ -19,6 +20,7 @@ pub struct Options {
     pub defaults_json: bool,
     pub size_prefixed: bool,
     pub compact: bool,
+    pub reserved: [u8; 2],
 }
 
 impl Options {

@@ -1,4 +1,8 @@
 //! The files of a directory that a batch is written to.
+ghost use Rattle.std.specs.Prelude.{◌≡◌, ◌≢◌, All, Err, IfOk, OnOk, Ok, false, map, option_map, string_bytes};
+ghost use Rattle.std.specs.Path.{path_buf_bytes};
+ghost use Rattle.flatc_files.specs.Targets.{AreApart, AreDistinct, directory_of, has_path, inputs_of, outputs_of};
+
 use crate::opened::metadata_of;
 use crate::request::{Batch, Task};
 use crate::standard_paths::is_standard_input;
@@ -47,7 +51,9 @@ pub struct Target {
 
 impl Target {
     /// Looks at what is there.
-    fn at(rt: &HostRuntime, path: PathBuf) -> Target {
+    fn at(rt: &HostRuntime, path: PathBuf) -> Target
+        ensures { path_buf_bytes result.path ≡ path_buf_bytes path }
+    {
         let (is_new, file) = match fs::symlink_metadata(rt, path.as_str()) {
             Ok(found) if found.is_symlink() => (false, identity_at(rt, path.as_str())),
             Ok(found) => (false, Some(identity_of(&found))),
@@ -67,7 +73,9 @@ fn identity_at(rt: &HostRuntime, path: &str) -> Option<Identity> {
 }
 
 /// The directory and the extension of a task's outputs; none where it writes no files.
-pub fn directory_of(task: &Task) -> Option<(&str, &'static str)> {
+pub fn directory_of(task: &Task) -> Option<(&str, &'static str)>
+    ensures { option_map (λ place. (place.0.now, place.1.now)) result ≡ directory_of task.now }
+{
     match task {
         Task::Binary { dir, .. } => Some((dir.as_str(), "bin")),
         Task::Json { dir, .. } => Some((dir.as_str(), "json")),
@@ -83,7 +91,44 @@ fn check_named(alloc: Global, files: &[String]) -> Result<(), Misuse> {
     Ok(())
 }
 
-fn check_distinct(alloc: Global, paths: &[PathBuf]) -> Result<(), Misuse> {
+/// The misuse of an output that is an input.
+fn input_misuse(alloc: Global, path: &str) -> Misuse {
+    match format!(in alloc; "the output '{path}' is one of the inputs") {
+        Ok(said) => Misuse::Said(said),
+        Err(error) => Misuse::from(error),
+    }
+}
+
+/// That a path that is read is none of the outputs.
+#[tactic(auto, unfolding(crate::specs::Targets::has_path))]
+fn check_input(alloc: Global, outputs: &BTreeSet<&str>, input: &str) -> Result<(), Misuse>
+    ensures { OnOk result (has_path outputs.now input.now ≡ false) }
+{
+    if outputs.contains(input) {
+        return Err(input_misuse(alloc, input));
+    }
+    Ok(())
+}
+
+/// That no path that a batch reads is one of its outputs.
+fn check_inputs(alloc: Global, outputs: &BTreeSet<&str>, batch: &Batch) -> Result<(), Misuse>
+    ensures { OnOk result (All (λ input. has_path outputs.now input ≡ false) (inputs_of batch.now)) }
+{
+    check_input(alloc, outputs, batch.schema.as_str())?;
+    for file in &batch.files {
+        check_input(alloc, outputs, file.as_str())?;
+    }
+    Ok(())
+}
+
+/// That the outputs have different paths, and none the path of a file that the batch reads.
+///
+/// Paths are compared byte by byte, as the line has them. `check_apart` finds an existing output
+/// that is an input by another path, as `./a` is `a`, or by a link.
+fn check_distinct(alloc: Global, batch: &Batch, paths: &[PathBuf]) -> Result<(), Misuse>
+    ensures distinct { OnOk result (AreDistinct (map path_buf_bytes paths.now)) }
+    ensures apart { OnOk result (AreApart (inputs_of batch.now) (map path_buf_bytes paths.now)) }
+{
     let mut met = BTreeSet::new(alloc);
     for path in paths {
         if !met.insert(path.as_str())? {
@@ -91,7 +136,7 @@ fn check_distinct(alloc: Global, paths: &[PathBuf]) -> Result<(), Misuse> {
             return Err(Misuse::Said(said));
         }
     }
-    Ok(())
+    check_inputs(alloc, &met, batch)
 }
 
 /// The files that a batch reads.
@@ -116,16 +161,17 @@ fn check_apart(rt: &HostRuntime, batch: &Batch, targets: &[Target]) -> Result<()
     let inputs = inputs_of(rt, batch)?;
     for target in targets {
         if target.file.is_some_and(|file| inputs.contains(&file)) {
-            let path = target.path.as_str();
-            let said = format!(in rt.alloc(); "the output '{path}' is one of the inputs")?;
-            return Err(Misuse::Said(said));
+            return Err(input_misuse(rt.alloc(), target.path.as_str()));
         }
     }
     Ok(())
 }
 
 /// The targets at some paths, in their order.
-fn targets_at(rt: &HostRuntime, paths: Vec<PathBuf>) -> Result<Vec<Target>, AllocError> {
+fn targets_at(rt: &HostRuntime, paths: Vec<PathBuf>) -> Result<Vec<Target>, AllocError>
+    ensures { IfOk result (λ targets. map (λ target. path_buf_bytes target.path) targets.items
+        ≡ map path_buf_bytes paths.items) }
+{
     let mut targets = Vec::with_capacity(rt.alloc(), paths.len())?;
     for path in paths {
         targets.push(Target::at(rt, path))?;
@@ -136,8 +182,15 @@ fn targets_at(rt: &HostRuntime, paths: Vec<PathBuf>) -> Result<Vec<Target>, Allo
 /// Where each file of a batch goes, in the order of the files; nothing where none is written.
 ///
 /// It is a misuse where an input has no name, where two would get one name, and where an output is
-/// one of the inputs.
-pub fn targets_of(rt: &HostRuntime, batch: &Batch) -> Result<Vec<Target>, Misuse> {
+/// one of the inputs. `distinct` and `apart` compare paths byte by byte, as the line has them, and
+/// the schema is an input too. An output that exists is also compared with the inputs by device and
+/// inode, which finds links and other paths of one file; no clause says that.
+pub fn targets_of(rt: &HostRuntime, batch: &Batch) -> Result<Vec<Target>, Misuse>
+    ensures outputs { IfOk result (λ targets. map (λ target. path_buf_bytes target.path) targets.items
+        ≡ outputs_of batch.now) }
+    ensures distinct { OnOk result (AreDistinct (outputs_of batch.now)) }
+    ensures apart { OnOk result (AreApart (inputs_of batch.now) (outputs_of batch.now)) }
+{
     let alloc = rt.alloc();
     let Some((dir, extension)) = directory_of(&batch.task) else {
         return Ok(Vec::new(alloc));
@@ -145,7 +198,7 @@ pub fn targets_of(rt: &HostRuntime, batch: &Batch) -> Result<Vec<Target>, Misuse
     let files = batch.files.as_slice();
     check_named(alloc, files)?;
     let paths = targets_in(alloc, dir, extension, files)?;
-    check_distinct(alloc, paths.as_slice())?;
+    check_distinct(alloc, batch, paths.as_slice())?;
     let targets = targets_at(rt, paths)?;
     check_apart(rt, batch, targets.as_slice())?;
     Ok(targets)

@@ -144,7 +144,7 @@ pub const FLATC_FAULT_INIT: flatc_fault = flatc_fault {
 /// How a message is converted; start from [`FLATC_OPTIONS_INIT`].
 ///
 /// Fields outside the first `size` bytes have their defaults, but the whole struct must be readable. A later version of
-/// the library may add fields at the end, and still accepts this struct.
+/// the library may add fields after `reserved`, and still accepts this struct.
 #[repr(C)]
 #[derive(Clone, Copy, Debug, PartialEq, Eq)]
 pub struct flatc_options {
@@ -165,6 +165,8 @@ pub struct flatc_options {
     pub size_prefixed: bool,
     /// [`flatc_decode`]: no blanks and line feeds outside strings.
     pub compact: bool,
+    /// No version reads it.
+    pub reserved: [u8; 2],
 }
 
 /// The default options: 100,000,000 cells, a depth of 64, and nothing else.
@@ -177,6 +179,7 @@ pub const FLATC_OPTIONS_INIT: flatc_options = flatc_options {
     defaults_json: false,
     size_prefixed: false,
     compact: false,
+    reserved: [0; 2],
 };
 
 /// A fault's name, with zeros after it.

@@ -188,7 +188,7 @@ fn sizes_and_offsets_are_those_of_c() {
         ),
         layout!(
             FLATC_OPTIONS_INIT,
-            flatc_options: size max_cells max_depth unknown_json raw_binary defaults_json size_prefixed compact
+            flatc_options: size max_cells max_depth unknown_json raw_binary defaults_json size_prefixed compact reserved
         ),
         layout!(flatc_name { text: [0; 32] }, flatc_name: text),
         constants!(FLATC_OK FLATC_REFUSED FLATC_NO_MEMORY FLATC_NO_SCHEMA FLATC_BAD_OPTIONS FLATC_NO_FAULT),
