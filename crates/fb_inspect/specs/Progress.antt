@@ -11,7 +11,8 @@ pieces_of listing = listing.pieces.items
 abbrev pub left_of : Listing → List Piece
 left_of listing = drop listing.next listing.pieces.items
 
--- how many details of the first piece left were returned, and with them its first line; 0 where none of its lines were
+-- How many details of the first piece left were returned. Its first line comes with the first of them, so 0 says that
+-- none of its lines was returned.
 abbrev pub details_listed : Listing → ℕ
 details_listed listing = listing.detail
 

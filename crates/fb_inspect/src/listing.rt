@@ -144,7 +144,7 @@ fn in_order(
 }
 
 impl<'a> Listing<'a> {
-    ghost use Rattle.std.specs.Prelude.{◌↔◌, ◌+◌, ◌<◌, [], Contains, IfNone, IsNone, OnErr, Some, false, slice_get, true};
+    ghost use Rattle.std.specs.Prelude.{◌↔◌, ◌<◌, [], Contains, IfNone, IsNone, OnErr, Some, false, slice_get};
     ghost use Rattle.fb_inspect.specs.Listings.{head_of, noted_in};
     ghost use Rattle.fb_inspect.specs.Progress.{ListsNext, details_listed, left_of, pieces_of};
 

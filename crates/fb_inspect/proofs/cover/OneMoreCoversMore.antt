@@ -25,12 +25,14 @@ covered_more pieces piece covered end before near far byte below =
 
 -- after them in the order of their begins
 pub listed_more : (pieces : List Piece) (piece : Piece) (covered end : ℕ) → IsListedTo pieces covered
-    → BeginBy piece.start pieces → piece.start ≤ covered → piece.start ≤ end → covered ≤ end → end ≤ max covered piece.end
+    → BeginBy piece.start pieces → piece.start ≤ covered → piece.start ≤ end → covered ≤ end
+    → end ≤ max covered piece.end
     → IsListedTo (pieces ++ piece ∷ []) end
 listed_more pieces piece covered end before first near from more far =
     record {
       covers = covered_more pieces piece covered end before.covers near far;
       ordered = IsNonDecreasingBy-push (λ p. p.start) pieces piece before.ordered
           (λ d some. first (length pieces - 1) d (omega arith));
-      begun = All-push (λ p. p.start ≤ end) pieces piece (λ k d within. let b = before.begun k d within in omega (arith, b)) from;
+      begun = All-push (λ p. p.start ≤ end) pieces piece
+          (λ k d within. let by = before.begun k d within in omega (arith, by)) from;
     }

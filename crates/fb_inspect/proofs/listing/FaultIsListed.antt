@@ -18,10 +18,12 @@ noted_among pieces piece noted (k, within, is) =
     let all : pieces ≡ (take k pieces ++ piece ∷ []) ++ drop (k + 1) pieces =
     sym (take-append-drop (k + 1) pieces) ∙ ap (λ l. l ++ drop (k + 1) pieces) front in
     let heads : noted_in pieces ≡ (noted_in (take k pieces) ++ head_of piece ∷ []) ++ noted_in (drop (k + 1) pieces) =
-    ap noted_in all ∙ noted_both (take k pieces ++ piece ∷ []) (drop (k + 1) pieces) ∙ ap (λ l. l ++ noted_in (drop (k + 1) pieces))
+    ap noted_in all ∙ noted_both (take k pieces ++ piece ∷ []) (drop (k + 1) pieces)
+    ∙ ap (λ l. l ++ noted_in (drop (k + 1) pieces))
     (noted_both (take k pieces) (piece ∷ []) ∙ ap (λ l. noted_in (take k pieces) ++ l) (noted_alone piece noted)) in
     subst (λ l. Contains l (head_of piece)) (sym heads)
-    (Contains-append_left (noted_in (take k pieces) ++ head_of piece ∷ []) _ _ (Contains-push (noted_in (take k pieces)) (head_of piece)))
+    (Contains-append_left (noted_in (take k pieces) ++ head_of piece ∷ []) _ _
+    (Contains-push (noted_in (take k pieces)) (head_of piece)))
 
 pub fault_is_listed : (len : ℕ) (fault : Option ReadFault) (pieces all : List Piece)
     → IsKeptIn (with_fault len fault pieces) all
