@@ -12,6 +12,7 @@ import random
 import re
 import resource
 import shlex
+import struct
 import subprocess
 import sys
 from concurrent.futures import ThreadPoolExecutor
@@ -28,6 +29,9 @@ NAMED = 20
 GROWTHS = 20_000
 DAMAGES = 250
 SEED = 35
+# The most cells that a value has, and the fault of a buffer's string with one more.
+CELLS = 100_000_000
+AT_STRING = b"63 TooManyCells at 20\n"
 # Where the buffer with a union has its code.
 UNION_CODE = 19
 READ_FAULT = re.compile(rb"(5[0-9]|6[0-3]) [A-Z][A-Za-z0-9]+ at [0-9]+( slot [0-9]+)?\n")
@@ -282,9 +286,29 @@ def structs_nested(tests):
     tests.tell("json of a chain, cut after a megabyte", good, f"{status} {err}")
 
 
+def string_buffer(count):
+    """A buffer of a table with a string of so many bytes."""
+    return struct.pack("<IHHHHiII", 12, 6, 8, 4, 0, 8, 4, count) + b"a" * count + b"\0"
+
+
+def cells(tests):
+    """As many cells as are allowed, and one more: a table, a string and the string's bytes."""
+    write("s.fbs", b"table T { s:string; } root_type T;")
+    for count, lines in ((CELLS - 2, (b"", b"")), (CELLS - 1, (b"79 TooManyCells in type 0 slot 0\n", AT_STRING))):
+        status = 1 if lines[0] else 0
+        write("long.json", b'{"s":"' + b"a" * count + b'"}')
+        write("long.bin", string_buffer(count))
+        what = f"{count + 2} cells"
+        tests.expect(f"{what} encoded", ["binary", "s.fbs", "long.json", "out.bin"], status, err=lines[0])
+        ok = b"" if status else b"ok\n"
+        tests.expect(f"{what} verified", ["check", "s.fbs", "long.bin"], status, ok, lines[1])
+        text = b"" if status else b'{\n  "s": "' + b"a" * count + b'"\n}\n'
+        tests.expect(f"{what} decoded", ["json", "s.fbs", "long.bin"], status, text, lines[1])
+
+
 def main():
     tests = Tests("hostile", program_of(sys.argv, __doc__))
-    return tests.main((growths, pipes, damaged, tables_nested, many_types, structs_nested))
+    return tests.main((growths, pipes, damaged, tables_nested, many_types, structs_nested, cells))
 
 
 if __name__ == "__main__":
