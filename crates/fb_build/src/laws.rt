@@ -19,7 +19,7 @@ pub fn zero_outside()
     ensures { ZeroOutside }
 {}
 
-/// Bytes in no piece are fewer, one behind the other, than the greatest alignment.
+/// Bytes in no piece are fewer in a row than the greatest alignment.
 pub fn few_outside()
     ensures { FewOutside }
 {}

@@ -12,7 +12,7 @@ ghost use Rattle.fb_build.specs.Tails.{Grows, LaidInTail};
 
 use crate::tail::{Tail, laid_is_short};
 
-/// Lays bytes that refer to nothing, aligned behind their count, which they begin with.
+/// Lays bytes that refer to nothing, aligned after their count, which they begin with.
 pub(crate) fn lay_data(out: &mut Tail, align: usize, bytes: &[u8])
     requires power { IsAlignment align }
     requires counted { 4 ≤ length bytes.now }

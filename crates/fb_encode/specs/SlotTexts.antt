@@ -48,7 +48,7 @@ pub record AreTextsOf (brackets : ℕ) (texts : List (Option Excerpt)) (fs : Lis
       → slice_get texts k ≡ Some None
   pub brackets_are : (k : ℕ) (e : Excerpt) → slice_get texts k ≡ Some (Some e) → e.brackets ≡ brackets
 
--- the texts behind a member with this text, whose name finds this field
+-- the texts after a member with this text, whose name finds this field
 abbrev pub texts_with : List (Option Excerpt) → Option DeclaredField → Excerpt → List (Option Excerpt)
 texts_with texts None e = texts
 texts_with texts (Some f) e = if f.deprecated then texts else slice_set texts f.slot (Some e)
@@ -67,7 +67,7 @@ slot_meant L seen slot code levels left =
     (field_seen slot.field.now).name slot.field.now.shape >>= λ c.
     entry_meant L seen (field_seen slot.field.now) (slot_place slot.owner.0 slot.number) c levels left
 
--- The slot is noted, and the code and the cells behind it are these; or this is its fault.
+-- The slot is noted, and the code and the cells after it are these; or this is its fault.
 abbrev pub IsSlotNotedOr : LaidSchema → Look → SlotRead → ℕ → Behind → Noting → Noting → Result Behind JsonFault
     → Type 0
 IsSlotNotedOr L seen slot levels before a b (Ok behind) =
@@ -78,7 +78,7 @@ IsSlotNotedOr L seen slot levels before a b (Ok behind) =
     before.left) a.tape b.tape a.opened b.opened behind.left
 IsSlotNotedOr L seen slot levels before a b (Err f) = Fails f (slot_meant L seen slot before.code levels before.left)
 
--- The next slot is noted behind what was found before; behind a fault nothing is.
+-- The next slot is noted after what was found before; after a fault nothing is.
 abbrev pub IsNextNoted : LaidSchema → Look → SlotRead → ℕ → Result Behind JsonFault → Noting → Noting
     → Result Behind JsonFault → Type 0
 IsNextNoted L seen slot levels (Ok before) a b now = IsSlotNotedOr L seen slot levels before a b now

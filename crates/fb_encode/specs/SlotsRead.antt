@@ -28,7 +28,7 @@ abbrev pub NotesSlot : LaidSchema → SlotRead → Counted (Option Datum) → No
 NotesSlot L slot given a b rest =
     IsEntryNoted L slot.number (slot_seen L slot.field.now) given a.tape b.tape a.opened b.opened rest
 
--- the cells that are left behind an entry
+-- the cells that are left after an entry
 abbrev pub left_of : Result (Option Value × ℕ) JsonFault → Result ℕ JsonFault
 left_of (Ok x) = Ok x.1
 left_of (Err e) = Err e

@@ -27,14 +27,14 @@ abbrev pub AreElementsAddedOr : LaidSchema → StoredKind → (Taped → Taped �
 AreElementsAddedOr L kind AddsAll given count a b (Ok rest) = AreElementsAdded L kind AddsAll given count a b rest
 AreElementsAddedOr L kind AddsAll given count a b (Err f) = Fails f given
 
--- A run is on the tape in this way behind what was found before; behind a fault it is only read.
+-- A run is on the tape in this way after what was found before; after a fault it is only read.
 abbrev pub IsRunAdded : LaidSchema → StoredKind → (Taped → Taped → List Datum → Type 0) → (ℕ → Counted (List Datum))
     → ℕ → Taped → Taped → Result ℕ JsonFault → Result ℕ JsonFault → Type 0
 IsRunAdded L kind AddsAll given count a b (Ok left) now =
     AreElementsAddedOr L kind AddsAll (given left) count a b now
 IsRunAdded L kind AddsAll given count a b (Err f) now = now ≡ Err f
 
--- What a run names is noted behind what was found before.
+-- What a run names is noted after what was found before.
 abbrev pub IsRunNoted : LaidSchema → StoredKind → (ℕ → Counted (List Datum)) → ℕ → Taped → Taped
     → Result ℕ JsonFault → Result ℕ JsonFault → Type 0
 IsRunNoted L kind given count a b found now = IsRunAdded L kind (AddsTargets L kind) given count a b found now

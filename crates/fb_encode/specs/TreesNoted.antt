@@ -23,7 +23,7 @@ use Rattle.fb_build.specs.Fields.{IsElement, is_reference}
 use Rattle.fb_build.specs.Noted.{AddsFields, AddsParts}
 use Rattle.fb_build.specs.Parts.{EntryWhole}
 
--- The value that is given waits behind what waited, and so many cells are left.
+-- The value that is given waits after what waited, and so many cells are left.
 pub record IsNoted (L : LaidSchema) (shape : StoredShape) (given : Counted Datum) (a b : Taped) (rest : ℕ) : Type 0
   where
     pub value : Datum
@@ -51,7 +51,7 @@ pub record AreElementsAdded (L : LaidSchema) (kind : StoredKind) (AddsAll : Tape
   pub fits : EachElementFits L kind elements
   pub adds : AddsAll a b elements
 
--- What these elements name waits, one behind the other.
+-- What these elements name waits, one after the other.
 abbrev pub AddsTargets : LaidSchema → StoredKind → Taped → Taped → List Datum → Type 0
 AddsTargets L kind a b ds = AddsParts a b (elements_apart kind ds) (parts_room L kind (parts_in ds))
 
@@ -59,7 +59,7 @@ AddsTargets L kind a b ds = AddsParts a b (elements_apart kind ds) (parts_room L
 abbrev pub AreElementsNoted : LaidSchema → StoredKind → Counted (List Datum) → ℕ → Taped → Taped → ℕ → Type 0
 AreElementsNoted L kind given count a b rest = AreElementsAdded L kind (AddsTargets L kind) given count a b rest
 
--- These numbers or structs stand behind those of the vector that isn't finished, and what waited waits.
+-- These numbers or structs follow those of the vector that isn't finished, and what waited waits.
 pub record AddsInline (L : LaidSchema) (kind : StoredKind) (a b : Taped) (ds : List Datum) : Type 0 where
   pub unfinished : (count : ℕ) (before : List Datum) → IsUnfinished L kind count before a.unfinished
       → IsUnfinished L kind count (before ++ ds) b.unfinished
@@ -67,7 +67,7 @@ pub record AddsInline (L : LaidSchema) (kind : StoredKind) (a b : Taped) (ds : L
   pub room : b.room ≡ a.room
   pub layout : b.layout ≡ a.layout
 
--- The number or struct that is given stands behind those of the vector, and so many cells are left.
+-- The number or struct that is given follows those of the vector, and so many cells are left.
 pub record IsElementAdded (L : LaidSchema) (kind : StoredKind) (given : Counted Datum) (a b : Taped) (rest : ℕ) : Type 0
   where
     pub value : Datum

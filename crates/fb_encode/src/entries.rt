@@ -76,7 +76,7 @@ fn stored_as(shape: Shape) -> Stored
     }
 }
 
-/// Notes the table of a union's member, behind its code in the slot before, and returns the cells that are left.
+/// Notes the table of a union's member, after its code in the slot before, and returns the cells that are left.
 #[cycle(notes)]
 fn note_member(
     source: Source,
@@ -232,7 +232,7 @@ fn note_present(
     }
 }
 
-/// The cells that are left behind an entry.
+/// The cells that are left after an entry.
 fn left_of(read: Result<(Option<Value>, u32), JsonFault>) -> Result<u32, JsonFault>
     ensures { result ≡ left_of read }
 {

@@ -33,7 +33,7 @@ use fb_pieces::{cut_object_is_read, cut_object_is_utf8, text_is_read_without_bra
 use fb_schema::{Kind, Shape, TypeId};
 use serde_json::Value as Json;
 
-/// What is left behind a slot: the union code that was told last, and the cells.
+/// What is left after a slot: the last union code, and the cells.
 #[derive(Clone, Copy)]
 struct Behind {
     code: u8,

@@ -160,7 +160,7 @@ pub(crate) fn pass_by_text(reader: &mut Reader, text: Option<Excerpt<'_>>) -> Re
     }
 }
 
-/// Whether all names are known, behind one that finds this field. `unknown` lets any name through.
+/// Whether all names are known, after one that finds this field. With `unknown` any name is.
 fn known_with(
     known: Result<(), JsonFault>,
     unknown: bool,

@@ -1,5 +1,5 @@
-//! Trees in the place of long texts of which not all has a meaning under the schema. An object for a struct has only the
-//! struct's fields.
+//! Trees in the place of long texts of which not all has a meaning under the schema. An object for a struct has only
+//! the struct's fields.
 ghost use Rattle.std.specs.Prelude.{◌≡◌, ◌≤◌, ◌<◌, IfOk, IfSome, OnOk, false, string_bytes};
 ghost use Rattle.serde_json.specs.Data.{Members, object, put};
 ghost use Rattle.serde_json.specs.View.{members_view, view as tree_view};

@@ -97,7 +97,7 @@ pub(crate) fn note_runs(
     Ok(Ok(left))
 }
 
-/// Notes what a run of a vector's elements names, behind what was found before. Behind a fault the run is only read.
+/// Notes what a run of a vector's elements names, after what was found before. After a fault the run is only read.
 #[cycle(reads)]
 fn note_run(
     source: Source,
@@ -142,7 +142,7 @@ fn note_run(
     note_trees(source, walk, trees, elements, found)
 }
 
-/// Notes a long element of a vector, behind what was found before. Behind a fault it is only read.
+/// Notes a long element of a vector, after what was found before. After a fault it is only read.
 #[cycle(reads)]
 fn note_element(
     source: Source,
@@ -182,7 +182,7 @@ fn note_element(
     })
 }
 
-/// Notes elements of a vector that are trees, behind what was found before. Behind a fault they are only counted.
+/// Notes elements of a vector that are trees, after what was found before. After a fault they are only counted.
 fn note_trees(
     source: Source,
     walk: &mut TextWalk<'_>,
