@@ -1,10 +1,11 @@
 //! The calls that read a buffer to a value.
-ghost use Rattle.std.specs.Prelude.{◌≡◌, ◌≢◌, ◌+◌, ◌≤◌, IfOk, IfErr, Err};
+ghost use Rattle.std.specs.Prelude.{◌≡◌, ◌≢◌, ◌+◌, ◌≤◌, IfOk, IfErr, Err, false};
 ghost use Rattle.fb_value.specs.View.{view};
 ghost use Rattle.fb_value.specs.Counts.{depth, entered, nesting};
 ghost use Rattle.fb_value.specs.Fits.{FitsRoot};
 ghost use Rattle.fb_value.specs.Holds.{Holds, RootKeeps, Refuses};
 ghost use Rattle.fb_value.specs.Holds.{HoldsFramed, RootKeepsFramed, RefusesFramed};
+ghost use Rattle.fb_read.specs.Entered.{EntersRefused};
 ghost use Rattle.fb_owned.specs.Memory.{PartIsReached, PartIsReachedFramed};
 
 use crate::values::Values;
@@ -44,6 +45,8 @@ pub fn read<'a>(
     ensures rises { entries.old.count ≤ entries.new.count }
     ensures counted { entries.new.count ≤ entries.old.count + (limits.cells + 1) }
     ensures each { IfOk result (λ v. entries.new.count ≡ entries.old.count + entered (view v)) }
+    ensures refused { IfErr result (λ f. f ≢ ReadFault.Memory → EntersRefused false layout.now limits raw bytes.now f
+        entries.old.count entries.new.count) }
 {
     read_framed(alloc, layout, bytes, limits, raw, false, entries)
 }
@@ -72,6 +75,8 @@ pub fn read_framed<'a>(
     ensures rises { entries.old.count ≤ entries.new.count }
     ensures counted { entries.new.count ≤ entries.old.count + (limits.cells + 1) }
     ensures each { IfOk result (λ v. entries.new.count ≡ entries.old.count + entered (view v)) }
+    ensures refused { IfErr result (λ f. f ≢ ReadFault.Memory → EntersRefused prefixed layout.now limits raw bytes.now f
+        entries.old.count entries.new.count) }
 {
     layout_is_well_made(layout);
     let buffer = Buffer::checked(layout, bytes, limits, raw, prefixed)?;

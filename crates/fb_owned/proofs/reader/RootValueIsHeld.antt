@@ -1,5 +1,5 @@
 -- What a reading of the root table says of the whole buffer.
-use Rattle.std.proofs.Common.{◌≡◌, ℕ, ◌≢◌, ◌+◌, ◌<◌, ◌≤◌, [], ◌∷◌, true, nat_le, All, Option, None, Some}
+use Rattle.std.proofs.Common.{Bool, ◌≡◌, ℕ, ◌≢◌, ◌+◌, ◌<◌, ◌≤◌, [], ◌∷◌, true, nat_le, All, Option, None, Some}
 use Rattle.std.proofs.Common.{Result, Ok, Err}
 use Rattle.std.proofs.Common.{IfOk, IfErr, OnOk, refl, arith, inl, inr}
 use Rattle.std.proofs.lemmas.Bool.{le-leb}
@@ -15,6 +15,7 @@ use Rattle.fb_value.specs.Lies.{LiesAt}
 use Rattle.fb_value.specs.Reached.{Path, ComesBefore}
 use Rattle.fb_value.specs.Faults.{limited_fault, fault_from, FaultFrom}
 use Rattle.fb_value.specs.Holds.{HoldsBehind, RootKeepsBehind, RefusesBehind, root_at}
+use Rattle.fb_value.specs.Holds.{front_of, front_fault, checked_identifier}
 use Rattle.fb_value.specs.declared.faults.ReadFault.TheVariants.{Memory}
 use Rattle.fb_value.specs.declared.values.Value.{Value}
 use Rattle.fb_value.specs.View.{view}
@@ -25,7 +26,8 @@ use Rattle.fb_value.proofs.held.HeldValueFitsTheRoot.{fits_where_held_shown}
 use Rattle.fb_value.proofs.types.NestingIsBoundedByDepth.{nesting_of_depth_shown}
 use Rattle.fb_owned.specs.Memory.{PartIsReachedBehind}
 use Rattle.fb_read.specs.declared.buffer.Buffer.{Buffer}
-use Rattle.fb_read.specs.Values.{FindsWhile, KeepsAt}
+use Rattle.fb_read.specs.Entered.{EntersToFault, EntersRefused}
+use Rattle.fb_read.specs.Values.{FindsWhile, KeepsAt, MemoryLasts}
 use Rattle.fb_read.specs.Walks.{IsBufferOf}
 
 -- What is kept of a buffer's root stands for what lies in its bytes.
@@ -132,3 +134,12 @@ module _ (p : ℕ) (front : Option ReadFault) (L : LaidSchema) (most : Bounds) (
       before (j ∷ js) f (inl less) fails = absurd (omega arith)
       before (j ∷ []) f (inr both) fails = absurd both.1
       before (j ∷ k ∷ js) f (inr both) fails = absurd both.1
+
+-- What a refused reading has entered, where memory lasted.
+pub answer_entered_to_fault : (prefixed raw : Bool) (L : LaidSchema) (most : Bounds) (b : Bytes)
+    (r : Result Value ReadFault) (old new : ℕ) → front_fault prefixed b (checked_identifier L raw) ≡ None
+    → IfErr r (λ f. MemoryLasts (Unit {0}) f → EntersToFault L b most (root_at L (front_of prefixed)) f old new)
+    → IfErr r (λ f. f ≢ Memory → EntersRefused prefixed L most raw b f old new)
+answer_entered_to_fault prefixed raw L most b (Ok v) old new header entered = tt
+answer_entered_to_fault prefixed raw L most b (Err f) old new header entered = λ other.
+    inr (header, entered (λ may. other))

@@ -4,6 +4,7 @@ use Rattle.fb_value.specs.Holds.{front_of, front_fault, checked_identifier}
 use Rattle.fb_value.specs.View.{view}
 use Rattle.fb_owned.proofs.reader.RootValueIsHeld.{answer_held, answer_fits, answer_deep, answer_nests, answer_refused}
 use Rattle.fb_owned.proofs.reader.RootValueIsHeld.{answer_entered, root_reached, kept_of_bytes}
+use Rattle.fb_owned.proofs.reader.RootValueIsHeld.{answer_entered_to_fault}
 use Rattle.fb_owned.proofs.reader.read_framed.Goals as goal
 
 pub returns-clause-value : goal.returns-clause-value
@@ -61,3 +62,10 @@ returns-clause-each c =
     let each = rw (same.layout, same.bytes) at c.visit_root.ensures.each in
     answer_entered (front_of c.args.prefixed) _ c.args.layout.now c.args.limits c.args.bytes.now
     c.visit_root.result _ _ (returns-clause-value c) each
+
+pub returns-clause-refused : goal.returns-clause-refused
+returns-clause-refused c =
+    let same = c.in_ok-buffer.ensures.buffer in
+    let refused = rw (same.layout, same.bytes, same.depth, same.cells) at c.visit_root.ensures.refused in
+    answer_entered_to_fault c.args.prefixed c.args.raw c.args.layout.now c.args.limits c.args.bytes.now
+    c.visit_root.result _ _ c.in_ok-buffer.ensures.front refused
