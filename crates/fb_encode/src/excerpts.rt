@@ -206,7 +206,8 @@ fn note_string(
     requires whole { noting.old.tape.unfinished ≡ [] }
     requires part { IsPart source.layout.now (stored_shape source.layout.now.schema wanted.shape) }
     ensures noted { let L = source.entry.layout.now in IfOk result (IsNotedOr L (stored_shape L.schema wanted.shape)
-        (meant L source.entry.unknown (string text.now) wanted.shape wanted.place wanted.levels wanted.left) noting.old.tape noting.new.tape) }
+        (meant L source.entry.unknown (string text.now) wanted.shape wanted.place wanted.levels wanted.left)
+        noting.old.tape noting.new.tape) }
     ensures opened { IfOk result (λ found. OnOk found (noting.new.opened ≡ noting.old.opened)) }
 {
     let tree = Json::String(String::from_str(source.alloc, text)?);
