@@ -5,9 +5,10 @@
  *
  *  - A handle (flatc_schema, flatc_bytes) is all zeros before its first use, as FLATC_SCHEMA_INIT and FLATC_BYTES_INIT
  *    make it. After that only these calls may write it. Don't copy the struct: a copy isn't a second handle.
- *  - A handle is used in one call at a time, and the handles passed to one call are different ones. Any thread may use
- *    a handle, if the calls are ordered: by a lock, or by starting or joining a thread. Threads that share a schema
- *    need no lock if each has its own handle (flatc_schema_share).
+ *  - A handle is used in one call at a time, and the handles passed to one call are different ones. So no schema is
+ *    const here, not even in calls that only read it. Any thread may use a handle, if the calls are ordered: by a
+ *    lock, or by starting or joining a thread. Threads that share a schema need no lock if each has its own handle
+ *    (flatc_schema_share).
  *  - An input is `size` bytes that don't change during the call. It may be NULL where size is 0, and needs no
  *    alignment. It isn't part of the bytes held by `out`, which is cleared first.
  *  - No other pointer is NULL: each points to a valid struct of its type, `options` and `fault` too.
@@ -49,8 +50,9 @@ typedef struct flatc_schema {
 } flatc_schema;
 #define FLATC_SCHEMA_INIT {NULL, false}
 
-/* Bytes that a call made, or none: `size` bytes at `data`. The library owns them until the handle is cleared or passed
- * as `out` again. The struct stays as it is in later versions. */
+/* Bytes that a call made, or none: `size` bytes at `data`, which is aligned to 16, also where a schema's force_align asks
+ * for more. The library owns them until the handle is cleared or passed as `out` again. The struct stays as it is in
+ * later versions. */
 typedef struct flatc_bytes {
     const uint8_t *data;
     size_t size;
@@ -73,6 +75,69 @@ typedef struct flatc_fault {
     char name[32]; /* ends with a zero byte */
 } flatc_fault;
 #define FLATC_FAULT_INIT {0, 0, 0, 0, false, false, false, {0}, {0}}
+
+/* The numbers of the faults that a refusal has: flatc_fault's `number`. Where a JSON text and a buffer have faults of one
+ * name, the constants tell them apart. flatc_fault_name has the names, and `flatc explain NUMBER` an example of each. */
+#define FLATC_FAULT_NOT_UTF8 1u
+#define FLATC_FAULT_BAD_BYTE 2u
+#define FLATC_FAULT_UNTERMINATED 3u
+#define FLATC_FAULT_NUMBER_TOO_BIG 4u
+#define FLATC_FAULT_UNEXPECTED 5u
+#define FLATC_FAULT_NESTED_VECTOR 6u
+#define FLATC_FAULT_DUPLICATE_NAME 10u
+#define FLATC_FAULT_UNKNOWN_TYPE 11u
+#define FLATC_FAULT_BAD_DEFAULT 12u
+#define FLATC_FAULT_BAD_IDS 13u
+#define FLATC_FAULT_INCOMPLETE_STRUCT 14u
+#define FLATC_FAULT_EMPTY_STRUCT 15u
+#define FLATC_FAULT_BAD_ATTRIBUTE 16u
+#define FLATC_FAULT_UNKNOWN_ATTRIBUTE 17u
+#define FLATC_FAULT_UNSUPPORTED 18u
+#define FLATC_FAULT_BAD_ENUM_VALUE 19u
+#define FLATC_FAULT_BAD_MEMBER 20u
+#define FLATC_FAULT_BAD_ROOT 21u
+#define FLATC_FAULT_BAD_IDENTIFIER 22u
+#define FLATC_FAULT_STRUCT_TOO_BIG 30u
+#define FLATC_FAULT_TABLE_TOO_WIDE 31u
+#define FLATC_FAULT_TOO_BIG 40u
+#define FLATC_FAULT_SHORT 50u
+#define FLATC_FAULT_TOO_LONG 51u
+#define FLATC_FAULT_WRONG_IDENTIFIER 52u
+#define FLATC_FAULT_MISALIGNED 53u
+#define FLATC_FAULT_OUT_OF_BOUNDS 54u
+#define FLATC_FAULT_ZERO_OFFSET 55u
+#define FLATC_FAULT_BAD_VTABLE 56u
+#define FLATC_FAULT_BUFFER_MISSING_REQUIRED 57u
+#define FLATC_FAULT_NO_TERMINATOR 58u
+#define FLATC_FAULT_BAD_UTF8 59u
+#define FLATC_FAULT_BUFFER_UNION_MISMATCH 60u
+#define FLATC_FAULT_BUFFER_TOO_DEEP 62u
+#define FLATC_FAULT_BUFFER_TOO_MANY_CELLS 63u
+#define FLATC_FAULT_WRONG_SHAPE 70u
+#define FLATC_FAULT_NOT_WHOLE 71u
+#define FLATC_FAULT_OUT_OF_RANGE 72u
+#define FLATC_FAULT_UNKNOWN_NAME 73u
+#define FLATC_FAULT_UNKNOWN_MEMBER 74u
+#define FLATC_FAULT_MISSING_MEMBER 75u
+#define FLATC_FAULT_JSON_MISSING_REQUIRED 76u
+#define FLATC_FAULT_JSON_UNION_MISMATCH 77u
+#define FLATC_FAULT_JSON_TOO_DEEP 78u
+#define FLATC_FAULT_JSON_TOO_MANY_CELLS 79u
+#define FLATC_FAULT_NO_MEMBER_NAME 81u
+#define FLATC_FAULT_ROOT_CHANGED 90u
+#define FLATC_FAULT_IDENTIFIER_CHANGED 91u
+#define FLATC_FAULT_TYPE_GONE 92u
+#define FLATC_FAULT_KIND_CHANGED 93u
+#define FLATC_FAULT_STRUCT_CHANGED 94u
+#define FLATC_FAULT_SLOT_GONE 95u
+#define FLATC_FAULT_FIELD_TYPE_CHANGED 96u
+#define FLATC_FAULT_DEFAULT_CHANGED 97u
+#define FLATC_FAULT_REQUIRED_CHANGED 98u
+#define FLATC_FAULT_DEPRECATED_TAKEN_BACK 99u
+#define FLATC_FAULT_NEW_REQUIRED 100u
+#define FLATC_FAULT_ENUM_CHANGED 101u
+#define FLATC_FAULT_UNION_CHANGED 102u
+#define FLATC_FAULT_BAD_JSON 113u
 
 /* How a message is converted; start from FLATC_OPTIONS_INIT. A later version may add fields after `reserved`, and still
  * accepts this struct. Fields outside the first `size` bytes have their defaults, but the whole struct must be

@@ -1,6 +1,6 @@
 #!/usr/bin/env python3
 """The library for C as it is built: what it exports, the headers, calls that go wrong, growths that are refused, what
-is installed, the examples in C and C++, and the programs of docs/LIBRARY.md. tests/python_package.py and
+is installed, the wrapper for C++, the examples in C and C++, and the programs of docs/LIBRARY.md. tests/python_package.py and
 tests/rust_crates.py test the package for Python and the crates for Rust.
 
 usage: tests/library.py FOLDER PROGRAM
@@ -11,6 +11,7 @@ A C and a C++ compiler have to be there (cc, c++, or what CC and CXX name), and 
 and Google's FlatBuffers are used where they are installed. With --valgrind only the C example is run, under
 valgrind. The last line is 'N passed, M failed'.
 """
+import ctypes
 import os
 import re
 import shlex
@@ -41,6 +42,7 @@ HEADERS = [
     ("C++20", "c++", "CXX", ["-std=c++20"], "flatc.hpp"),
 ]
 STRICT = ["-pedantic", "-Wall", "-Wextra", "-Werror"]
+SANITIZERS = ["-fsanitize=address,undefined", "-fno-sanitize-recover=all"]
 FLATBUFFERS = "/usr/include/flatbuffers/flatbuffers.h"
 
 
@@ -193,6 +195,38 @@ def cpp_example(tests):
     tests.tell("what it prints", said.startswith(first + elf + rest) and "JSON:1:" in said, said)
 
 
+def fault_numbers(tests):
+    """The constants of the header are the numbers of all faults but those of memory, with their names."""
+    header = content(os.path.join(INCLUDE, "flatc.h")).decode()
+    constants = {int(number): name for name, number in re.findall(r"#define FLATC_FAULT_(\w+) (\d+)u", header)}
+    library = ctypes.CDLL(f"{tests.folder}/libflatc.so")
+    library.flatc_fault_name.restype = ctypes.c_bool
+    name = ctypes.create_string_buffer(32)
+    names = {number: name.value.decode() for number in range(256) if library.flatc_fault_name(number, name)}
+    wanted = {number for number, name in names.items() if name != "Memory"}
+    tests.tell("a constant for each fault", set(constants) == wanted, f"{sorted(set(constants) ^ wanted)}")
+    for number, constant in constants.items():
+        words = "".join(word.capitalize() for word in constant.split("_"))
+        good = names.get(number) in (words, words.removeprefix("Json"), words.removeprefix("Buffer"))
+        tests.tell(f"the name of FLATC_FAULT_{constant}", good, f"{names.get(number)}")
+
+
+def cpp_calls(tests):
+    """tests/library.cpp, with the compiler's sanitizers where it has them."""
+    for standard in ("c++17", "c++20"):
+        words = [*compiler("CXX", "c++"), f"-std={standard}", "-O1", "-g", *STRICT, f"-I{INCLUDE}"]
+        words += [f"{ROOT}/tests/library.cpp", f"{tests.folder}/libflatc.a", "-pthread", "-o", "calls"]
+        if done([*words, *SANITIZERS]).returncode != 0:
+            skipped(f"sanitizers in {standard}", "the compiler has none")
+            if succeeded(tests, f"library.cpp compiles as {standard}", words) is None:
+                continue
+        ran = done(["./calls"])
+        tests.tell(f"library.cpp as {standard}", ran.returncode == 0, f"{ran.returncode} {ran.stderr[-600:]}")
+        for line in ran.stdout.splitlines():
+            how, _, what = line.partition(": ")
+            tests.tell(f"{what} as {standard}", how == "right", how)
+
+
 def page_program(kind, path):
     """The first program in a language of docs/LIBRARY.md, as a file."""
     text = content(f"{ROOT}/docs/LIBRARY.md").decode()
@@ -265,7 +299,7 @@ def valgrind(tests):
             tests.tell(f"valgrind over {name}", ran.returncode == status, why)
 
 
-PARTS = (headers, exports, c_example, c_message, misuse, growths, cpp_example, page, installed)
+PARTS = (headers, exports, fault_numbers, c_example, c_message, misuse, growths, cpp_calls, cpp_example, page, installed)
 
 
 def main():

@@ -21,7 +21,7 @@ static std::string load(const char *path) {
 }
 
 // Encodes JSON here; Google's verifier and generated code read the buffer.
-static bool read_by_generated_code(flatc::Schema &schema, std::string_view json) {
+static bool read_by_generated_code(const flatc::Schema &schema, std::string_view json) {
     flatc::Bytes buffer = schema.encode(json);
     flatbuffers::Verifier verifier(buffer.data(), buffer.size());
     if (!Game::VerifyMonsterBuffer(verifier)) return false;
@@ -32,7 +32,7 @@ static bool read_by_generated_code(flatc::Schema &schema, std::string_view json)
 }
 
 // Builds with FlatBufferBuilder; the buffer is printed here.
-static void print_what_is_built(flatc::Schema &schema) {
+static void print_what_is_built(const flatc::Schema &schema) {
     flatbuffers::FlatBufferBuilder builder;
     auto name = builder.CreateString("Elf");
     Game::Vec3 at(4, 5, 6);
@@ -44,17 +44,17 @@ static void print_what_is_built(flatc::Schema &schema) {
     std::cout << schema.decode(builder.GetBufferPointer(), builder.GetSize()).text();
 }
 
-// Each thread has a handle of its own, of one schema.
-static bool encode_in_threads(flatc::Schema &schema, const std::string &json) {
+// The threads share one schema.
+static bool encode_in_threads(const flatc::Schema &schema, const std::string &json) {
     const std::size_t size = schema.encode(json).size();
     std::vector<std::thread> threads;
     std::vector<char> same(4, false);
     for (std::size_t k = 0; k < same.size(); k++) {
-        threads.emplace_back([own = schema.share(), &json, &same, size, k]() mutable {
+        threads.emplace_back([&schema, &json, &same, size, k] {
             bool all = true;
             for (int i = 0; i < 500; i++) {
-                flatc::Bytes buffer = own.encode(json);
-                own.verify(buffer);
+                flatc::Bytes buffer = schema.encode(json);
+                schema.verify(buffer);
                 all = all && buffer.size() == size;
             }
             same[k] = all;
@@ -67,7 +67,7 @@ static bool encode_in_threads(flatc::Schema &schema, const std::string &json) {
 int main(int argc, char **argv) {
     if (argc != 3) return 2;
     const std::string text = load(argv[1]), json = load(argv[2]);
-    flatc::Schema schema(text);
+    const flatc::Schema schema(text);
     if (!read_by_generated_code(schema, json)) return 1;
     print_what_is_built(schema);
     std::cout << (encode_in_threads(schema, json) ? "four threads: the same\n" : "four threads: not the same\n");
