@@ -1,7 +1,7 @@
 #!/usr/bin/env python3
 """The library for C as it is built: what it exports, the headers, calls that go wrong, growths that are refused, what
-is installed, the wrapper for C++, the examples in C and C++, and the programs of docs/LIBRARY.md. tests/python_package.py and
-tests/rust_crates.py test the package for Python and the crates for Rust.
+is installed, the wrapper for C++, the examples in C and C++, and the programs of docs/LIBRARY.md.
+tests/python_package.py and tests/rust_crates.py test the package for Python and the crates for Rust.
 
 usage: tests/library.py FOLDER PROGRAM
        tests/library.py FOLDER --valgrind
