@@ -50,9 +50,9 @@ typedef struct flatc_schema {
 } flatc_schema;
 #define FLATC_SCHEMA_INIT {NULL, false}
 
-/* Bytes that a call made, or none: `size` bytes at `data`, which is aligned to 16, also where a schema's force_align asks
- * for more. The library owns them until the handle is cleared or passed as `out` again. The struct stays as it is in
- * later versions. */
+/* Bytes that a call made, or none: `size` bytes at `data`, which is aligned to 16, also where force_align asks for more.
+ * The library owns them until the handle is cleared or passed as `out` again. The struct stays as it is in later
+ * versions. */
 typedef struct flatc_bytes {
     const uint8_t *data;
     size_t size;
@@ -76,8 +76,9 @@ typedef struct flatc_fault {
 } flatc_fault;
 #define FLATC_FAULT_INIT {0, 0, 0, 0, false, false, false, {0}, {0}}
 
-/* The numbers of the faults that a refusal has: flatc_fault's `number`. Where a JSON text and a buffer have faults of one
- * name, the constants tell them apart. flatc_fault_name has the names, and `flatc explain NUMBER` an example of each. */
+/* The numbers of the faults that a refusal has: flatc_fault's `number`. Where a JSON text and a buffer have faults of
+ * one name, the constants begin with JSON_ and BUFFER_. flatc_fault_name has the names, and `flatc explain NUMBER`
+ * prints an example of each. */
 #define FLATC_FAULT_NOT_UTF8 1u
 #define FLATC_FAULT_BAD_BYTE 2u
 #define FLATC_FAULT_UNTERMINATED 3u

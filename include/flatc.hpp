@@ -5,7 +5,8 @@
 //     std::string_view json = schema.decode(buffer).text();   // lives as long as the Bytes
 //
 // A call that refuses throws flatc::Refused, and one that runs out of memory std::bad_alloc. Bad options throw
-// std::invalid_argument, and a Schema that was moved from std::logic_error. Threads may use one Schema at the same time.
+// std::invalid_argument, and a Schema that was moved from std::logic_error. Threads may use one Schema at the same
+// time.
 #ifndef FLATC_HPP
 #define FLATC_HPP
 
@@ -122,11 +123,12 @@ private:
     flatc_fault fault_;
 };
 
-/// A schema. A copy is the same schema, which isn't parsed again. Its calls are const, and may be made at the same time.
+/// A schema. A copy is the same schema, which isn't parsed again. Its calls are const, and may be made at the same
+/// time.
 ///
-/// The library's handles are in one call at a time. So a schema has a handle for calls, which each call tries to lock. A
-/// call that finds it in use makes a handle of its own, which costs an allocation; where memory for that runs out, it
-/// waits. A thread with a Schema of its own, by share(), never finds the handle in use.
+/// The library's handles are in one call at a time. So a schema has a handle for calls, which each call tries to lock.
+/// A call that finds it in use makes a handle of its own, which costs an allocation; where memory for that runs out,
+/// it waits. A thread with a Schema of its own, by share(), never finds the handle in use.
 class Schema {
 public:
     explicit Schema(View text) : handles_(std::make_shared<Handles>()) {
@@ -239,7 +241,8 @@ private:
 class Truncated : public std::runtime_error {
 public:
     explicit Truncated(std::size_t offset)
-        : std::runtime_error("the stream ends within the message at offset " + std::to_string(offset)), offset_(offset) {}
+        : std::runtime_error("the stream ends within the message at offset " + std::to_string(offset)),
+          offset_(offset) {}
 
     /// Where the message begins, in bytes from the start of the stream.
     std::size_t offset() const noexcept { return offset_; }

@@ -299,7 +299,9 @@ def valgrind(tests):
             tests.tell(f"valgrind over {name}", ran.returncode == status, why)
 
 
-PARTS = (headers, exports, fault_numbers, c_example, c_message, misuse, growths, cpp_calls, cpp_example, page, installed)
+PARTS = (
+    headers, exports, fault_numbers, c_example, c_message, misuse, growths, cpp_calls, cpp_example, page, installed
+)
 
 
 def main():
