@@ -50,7 +50,7 @@ typedef struct flatc_schema {
 } flatc_schema;
 #define FLATC_SCHEMA_INIT {NULL, false}
 
-/* Bytes that a call made, or none: `size` bytes at `data`, which is aligned to 16, also where force_align asks for more.
+/* Bytes that a call made, or none: `size` bytes at `data`, which is aligned to 16, whatever force_align asks for.
  * The library owns them until the handle is cleared or passed as `out` again. The struct stays as it is in later
  * versions. */
 typedef struct flatc_bytes {
