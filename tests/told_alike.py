@@ -148,7 +148,7 @@ def pipes(tests):
     write("s.fbs", NUMBER)
     write("v.json", b'{"a":300}')
     number = b"/dev/stdin:1:6: a: 300 isn't in 0 to 255, the range of ubyte\n  {\"a\":300}\n       ^\n"
-    cut = b"/dev/stdin:1:6: a value is missing\n  {\"a\":\n       ^\n"
+    cut = b"/dev/stdin:1:6: the text ends here, in the middle of a value\n  {\"a\":\n       ^\n"
     binary = ["binary", "s.fbs", "/dev/stdin", "out.bin"]
     piped(tests, "a JSON text with a bad number", binary, b'{"a":300}', b"72 OutOfRange in type 0 slot 0\n", number)
     piped(tests, "a JSON text that isn't one", binary, b'{"a":', b"113 BadJson\n", cut)
