@@ -32,7 +32,8 @@ struct Options : flatc_options {
     Options() : flatc_options(FLATC_OPTIONS_INIT) {}
 };
 
-/// Bytes that a call reads: of a string, a vector, a span or an array, or so many at an address. They aren't copied.
+/// Bytes that a call reads: of a string, a vector, a span or an array, or `size` bytes at an address. They aren't
+/// copied.
 class View {
 public:
     View() noexcept = default;

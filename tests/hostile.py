@@ -287,7 +287,7 @@ def structs_nested(tests):
 
 
 def string_buffer(count):
-    """A buffer of a table with a string of so many bytes."""
+    """A buffer of a table with a string of `count` bytes."""
     return struct.pack("<IHHHHiII", 12, 6, 8, 4, 0, 8, 4, count) + b"a" * count + b"\0"
 
 
