@@ -1,6 +1,6 @@
 #!/usr/bin/env python3
-"""The library for C as it is built: what it exports, the headers, calls that go wrong, growths that are refused, what
-is installed, the wrapper for C++, the examples in C and C++, and the programs of docs/LIBRARY.md.
+"""The library for C as it is built: what it exports, the headers, calls that go wrong, growths that are refused, long
+JSON texts, what is installed, the wrapper for C++, the examples in C and C++, and the programs of docs/LIBRARY.md.
 tests/python_package.py and tests/rust_crates.py test the package for Python and the crates for Rust.
 
 usage: tests/library.py FOLDER PROGRAM
@@ -20,6 +20,7 @@ import subprocess
 import sys
 from concurrent.futures import ThreadPoolExecutor
 
+import long_texts
 from harness import ROOT, Tests, content, write
 from hostile import refusing, shim
 from rust_crates import why_not
@@ -227,6 +228,23 @@ def cpp_calls(tests):
             tests.tell(f"{what} as {standard}", how == "right", how)
 
 
+def long_rows(tests):
+    """Long JSON texts have the command's outcome, and with an explanation take as little memory."""
+    if not built(tests, f"{ROOT}/tests/encode.c", "encode", flags=["-std=c99"]):
+        return
+    write("s.fbs", long_texts.SCHEMA)
+    write("none.json", b"{}")
+    taken = long_texts.Taken(os.path.abspath("encode"))
+    _, _, nothing = taken.of(["s.fbs", "none.json"])
+    for row in long_texts.ROWS:
+        json = row.of_size(long_texts.LONG)
+        write("long.json", json)
+        outcome, _, peak = taken.of(["s.fbs", "long.json", *row.flags])
+        tests.tell(f"{row.name}, long", outcome == (1 if row.line else 0, row.line), f"{outcome}, not {row.line}")
+        most = nothing + long_texts.MOST * len(json) / 1024 * (1 + row.share)
+        tests.tell(f"the memory of {row.name}", peak <= most, f"{peak} KiB, over {most:.0f} KiB")
+
+
 def page_program(kind, path):
     """The first program in a language of docs/LIBRARY.md, as a file."""
     text = content(f"{ROOT}/docs/LIBRARY.md").decode()
@@ -300,7 +318,18 @@ def valgrind(tests):
 
 
 PARTS = (
-    headers, exports, fault_numbers, c_example, c_message, misuse, growths, cpp_calls, cpp_example, page, installed
+    headers,
+    exports,
+    fault_numbers,
+    c_example,
+    c_message,
+    misuse,
+    growths,
+    cpp_calls,
+    cpp_example,
+    page,
+    long_rows,
+    installed,
 )
 
 

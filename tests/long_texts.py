@@ -320,8 +320,8 @@ for what, value in BROKEN:
 class Taken:
     """Runs a program by bench/runner.c, and says how it ended and what it took."""
 
-    def __init__(self, tests):
-        self.program = tests.program
+    def __init__(self, program):
+        self.program = program
         self.runner = Runner(".").program
 
     def of(self, words, stdin=subprocess.DEVNULL):
@@ -389,7 +389,7 @@ def least_of(taken, row):
 def try_rows(tests):
     write("s.fbs", SCHEMA)
     write("none.json", b"{}")
-    taken = Taken(tests)
+    taken = Taken(tests.program)
     _, _, nothing = taken.of(["binary", "s.fbs", "none.json", "none.bin"])
     seconds = {row.name: try_row(tests, taken, nothing, row) for row in ROWS}
     right = least_of(taken, ROWS[0])
@@ -405,7 +405,7 @@ def by_pipe(tests):
     """A text from a pipe takes as much."""
     write("s.fbs", SCHEMA)
     write("cut.json", b'{"v":' + tables(LONG))
-    taken = Taken(tests)
+    taken = Taken(tests.program)
     _, _, from_file = taken.of(["binary", "s.fbs", "cut.json", "out.bin"])
     with subprocess.Popen(["cat", "cut.json"], stdout=subprocess.PIPE) as cat:
         outcome, _, peak = taken.of(["binary", "s.fbs", "-", "out.bin"], stdin=cat.stdout)
