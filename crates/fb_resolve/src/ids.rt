@@ -1,6 +1,7 @@
 //! The ids of a table's fields name each slot once, or are wrong.
 ghost use Rattle.std.specs.Prelude.{◌≡◌, ◌<◌, ◌-◌, ◌^◌, IfOk, IfSome, IsSome, map, true, false};
-ghost use Rattle.std.specs.Prelude.{None};
+ghost use Rattle.std.specs.Prelude.{◌⊎◌, None, Some, not};
+ghost use Rattle.fb_resolve.specs.declared.ids.WrongIds.TheVariants.{Twice};
 ghost use Rattle.std.specs.List.{position};
 ghost use Rattle.std.specs.Option.{is_some};
 ghost use Rattle.fb_resolve.specs.SlotsRead.{union_in};
@@ -71,6 +72,23 @@ fn numbers_by_id(alloc: Global, fields: &[ResolvedField<'_, '_>]) -> Result<Vec<
     Ok(numbers)
 }
 
+/// The first place that isn't taken.
+fn first_free(taken: &[bool]) -> Option<usize>
+    ensures { result ≡ position not taken.now }
+{
+    taken.iter().position(|taken| !*taken)
+}
+
+/// The number that was met twice first, after one more, which was met before or not.
+fn first_twice(twice: Option<WrongIds>, again: bool, number: u64) -> Option<WrongIds>
+    ensures { (result ≡ twice) ⊎ ((again ≡ true) × (result ≡ Some (Twice number))) }
+{
+    match twice {
+        None if again => Some(WrongIds::Twice(number)),
+        _ => twice,
+    }
+}
+
 /// What keeps numbers from being 0, 1, .. without gap or repeat, in any order.
 fn wrong_number(alloc: Global, numbers: &[u64]) -> Result<Option<WrongIds>, AllocError>
     ensures right { IfOk result (λ found. found ≡ None → are_places numbers.now ≡ true) }
@@ -81,13 +99,11 @@ fn wrong_number(alloc: Global, numbers: &[u64]) -> Result<Option<WrongIds>, Allo
     for number in numbers {
         let place = *number as usize;
         if place < taken.len() {
-            if taken[place] && twice.is_none() {
-                twice = Some(WrongIds::Twice(*number));
-            }
+            twice = first_twice(twice, taken[place], *number);
             taken[place] = true;
         }
     }
-    let Some(free) = taken.iter().position(|taken| !*taken) else {
+    let Some(free) = first_free(taken.as_slice()) else {
         return Ok(None);
     };
     Ok(Some(twice.unwrap_or(WrongIds::Missing(free as u64))))
@@ -120,6 +136,7 @@ impl Slots {
 }
 
 /// Why a table's fields have ids that don't name each of its slots once, if they have.
+#[tactic(auto, unfolding(crate::specs::Ids::are_ids_wrong))]
 pub fn wrong_ids(table: &ResolvedTable<'_, '_>) -> Option<WrongIds>
     ensures why { IfSome result (AreWrongBy table.now.fields) }
     ensures wrong { is_some result ≡ are_ids_wrong table.now.fields }
