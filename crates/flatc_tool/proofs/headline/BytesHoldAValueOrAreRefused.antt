@@ -30,7 +30,6 @@ use Rattle.fb_faults.specs.declared.faults.ToolFault.TheVariants.{NameMoved}
 use Rattle.fb_faults.specs.declared.faults.ToolFault.TheVariants.{Older, Newer, FileRead, FileWrite, FileTooLong}
 use Rattle.fb_faults.specs.declared.faults.ToolFault.TheVariants.{BadJson, Memory}
 use Rattle.flatc_tool.proofs.evolution.BreachExcludesConforming.{conforms_at}
-use Rattle.fb_declare.proofs.SchemaTextHasOneLayout.{same_accepted, refused_excludes}
 use Rattle.flatc_tool.proofs.buffers.RefusalExcludesABuffer.{same_value}
 
 -- ---- what the calls return for bytes that hold a value
@@ -39,7 +38,7 @@ module _ (laws : LayerLaws) (schema : List ℕ) (b : Bytes) (most : Bounds) (raw
     (accepted : IsAccepted schema L) (v : Datum) (holds : Holds L most raw b v) where
   one_text : (defaults : Bool) (text : List ℕ) → IsText schema b most raw defaults text → text ≡ json_text L defaults v
   one_text defaults text is =
-      let same = same_accepted laws.schema schema is.layout L is.accepted accepted in
+      let same = laws.one_layout schema is.layout L is.accepted accepted in
       let here = rw same at is.has in
       let one = laws.one_value _ _ L most b here.value v here.holds holds in
       here.spelled ∙ ap (λ (w : Datum). json_text L defaults w) one
@@ -76,7 +75,7 @@ module _ (laws : LayerLaws) (schema json : List ℕ) (most : Bounds) (unknown : 
     (made : IsBinary schema json most unknown b) (L : LaidSchema) (accepted : IsAccepted schema L) (v : Datum)
     (means : JsonMeans L most unknown json v) where
   here : IsBinaryOf L json most unknown b
-  here = rw (← (same_accepted laws.schema schema made.layout L made.accepted accepted)) made.has
+  here = rw (← (laws.one_layout schema made.layout L made.accepted accepted)) made.has
 
   value : here.value ≡ v
   value = same_value laws L most unknown json here.value v here.means means
@@ -129,17 +128,17 @@ module _ (laws : LayerLaws) (schema : List ℕ) (b : Bytes) (most : Bounds) (raw
     (accepted : IsAccepted schema L) (none : (v : Datum) → ¬ Holds L most raw b v) where
   none_under : (K : LaidSchema) → IsAccepted schema K → (v : Datum) → Holds K most raw b v → ⊥
   none_under K other v holds =
-      none v (rw (← (same_accepted laws.schema schema K L other accepted)) holds)
+      none v (rw (← (laws.one_layout schema K L other accepted)) holds)
 
   module _ (fault : ReadFault) (least : IsLeastFault L most raw b fault) where
     same_fault : (f : ReadFault) (K : LaidSchema) → IsAccepted schema K → IsLeastFault K most raw b f
         → Read f ≡ Read fault
     same_fault f K other first =
-        let there = rw (same_accepted laws.schema schema K L other accepted) at first in
+        let there = rw (laws.one_layout schema K L other accepted) at first in
         ap Read (laws.one_least_fault _ _ L most b f fault there least)
 
     answered : (f : ToolFault) → TextRefused schema b most raw f → IsNotMemory f → f ≡ Read fault
-    answered (Schema f) refused rule = absurd (refused_excludes laws.schema schema f refused rule L accepted)
+    answered (Schema f) refused rule = absurd (laws.no_layout schema f refused rule L accepted)
     answered (Read f) refused rule = same_fault f refused.layout refused.accepted refused.has.0
     answered (Text f) refused rule =
         absurd (none_under refused.layout refused.accepted refused.has.0 refused.has.1)
@@ -157,7 +156,7 @@ module _ (laws : LayerLaws) (schema : List ℕ) (b : Bytes) (most : Bounds) (raw
     answered Memory refused rule = absurd refused.has
 
     checked : (f : ToolFault) → CheckRefused schema (Some b) most raw f → IsNotMemory f → f ≡ Read fault
-    checked (Schema f) refused rule = absurd (refused_excludes laws.schema schema f refused rule L accepted)
+    checked (Schema f) refused rule = absurd (laws.no_layout schema f refused rule L accepted)
     checked (Read f) refused rule = same_fault f refused.0 refused.1 refused.2.0
     checked (Text f) refused rule = absurd refused
     checked (Json f) refused rule = absurd refused
@@ -176,7 +175,7 @@ module _ (laws : LayerLaws) (schema : List ℕ) (b : Bytes) (most : Bounds) (raw
     printed : (defaults : Bool) (start known : Option (List ℕ)) (f : ToolFault)
         → PrintRefused schema b most raw defaults start known f → IsNotMemory f → f ≡ Read fault
     printed defaults start known (Schema f) refused rule =
-        absurd (refused_excludes laws.schema schema f refused rule L accepted)
+        absurd (laws.no_layout schema f refused rule L accepted)
     printed defaults start known (Read f) refused rule = same_fault f refused.layout refused.accepted refused.has.0
     printed defaults start known (Write (NoMemberName at)) refused rule =
         absurd (none_under refused.layout refused.accepted refused.has.0 refused.has.1)

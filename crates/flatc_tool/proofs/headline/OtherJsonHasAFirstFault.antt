@@ -24,7 +24,6 @@ use Rattle.fb_faults.specs.declared.faults.ToolFault.TheVariants.{NameMoved}
 use Rattle.fb_faults.specs.declared.faults.ToolFault.TheVariants.{Older, Newer, FileRead, FileWrite, FileTooLong}
 use Rattle.fb_faults.specs.declared.faults.ToolFault.TheVariants.{BadJson, Memory}
 use Rattle.flatc_tool.proofs.buffers.RefusalExcludesABuffer.{same_tree, broken}
-use Rattle.fb_declare.proofs.SchemaTextHasOneLayout.{same_accepted, refused_excludes}
 
 module _ (laws : LayerLaws) (schema json : List ℕ) (most : Bounds) (unknown : Bool) (L : LaidSchema)
     (accepted : IsAccepted schema L) where
@@ -32,7 +31,7 @@ module _ (laws : LayerLaws) (schema json : List ℕ) (most : Bounds) (unknown : 
     -- it means nothing under any layout of the schema text
     none_under : (K : LaidSchema) → IsAccepted schema K → (v : Datum) → JsonMeans K most unknown json v → ⊥
     none_under K other v means =
-        let here = rw (same_accepted laws.schema schema K L other accepted) at means in
+        let here = rw (laws.one_layout schema K L other accepted) at means in
         none v (rw (← (same_tree json here.0 t here.1 tree)) here.2)
 
     no_buffer : (b : Bytes) → IsBinary schema json most unknown b → ⊥
@@ -42,12 +41,12 @@ module _ (laws : LayerLaws) (schema json : List ℕ) (most : Bounds) (unknown : 
       same_fault : (f : JsonFault) (K : LaidSchema) → IsAccepted schema K → (u : Data) → IsTree json u
           → IsFirst K most unknown u f → Json f ≡ Json fault
       same_fault f K other u read found =
-          let here = rw (same_accepted laws.schema schema K L other accepted) at found in
+          let here = rw (laws.one_layout schema K L other accepted) at found in
           let there = rw (same_tree json u t read tree) at here in
           let both = sym there ∙ first in cc
 
       refused : (f : ToolFault) → BinaryRefused schema json most unknown f → IsNotMemory f → f ≡ Json fault
-      refused (Schema f) told rule = absurd (refused_excludes laws.schema schema f told rule L accepted)
+      refused (Schema f) told rule = absurd (laws.no_layout schema f told rule L accepted)
       refused (Json f) told rule =
           let h = told.has in
           same_fault f told.layout told.accepted h.0 h.1 (broken told.layout most unknown h.0 f h.2 rule).first
@@ -80,7 +79,7 @@ module _ (laws : LayerLaws) (schema json : List ℕ) (most : Bounds) (unknown : 
 
   module _ (none : (t : Data) → ¬ IsTree json t) where
     as_no_json : (f : ToolFault) → BinaryRefused schema json most unknown f → IsNotMemory f → f ≡ BadJson
-    as_no_json (Schema f) told rule = absurd (refused_excludes laws.schema schema f told rule L accepted)
+    as_no_json (Schema f) told rule = absurd (laws.no_layout schema f told rule L accepted)
     as_no_json (Json f) told rule = absurd (none told.has.0 told.has.1)
     as_no_json (Build the_build.TooBig) told rule = let means = told.has.1 in absurd (none means.0 means.1)
     as_no_json (Build the_build.Memory) told rule = absurd rule

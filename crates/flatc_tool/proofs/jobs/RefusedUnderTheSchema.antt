@@ -1,9 +1,10 @@
 -- What is refused under the layout of a schema text is refused under that text.
-use Rattle.std.proofs.Common.{List, ℕ, Bool, Option}
+use Rattle.std.proofs.Common.{List, ℕ, Bool, Option, subst}
 use Rattle.fb_layout.specs.Laid.{LaidSchema}
 use Rattle.fb_value.specs.Bounds.{Bounds}
 use Rattle.fb_value.specs.Num.{Bytes}
-use Rattle.fb_declare.specs.SchemaTexts.{IsAccepted}
+use Rattle.fb_declare.specs.SchemaLaws.{TextHasOneLayout}
+use Rattle.fb_declare.specs.SchemaTexts.{IsAccepted, OfLayout}
 use Rattle.flatc_tool.specs.Jobs.{BinaryRefused, BinaryRefusedOf, TextRefused, TextRefusedOf}
 use Rattle.flatc_tool.specs.Prints.{PrintRefused, PrintRefusedOf}
 use Rattle.fb_faults.specs.declared.faults.ToolFault.{ToolFault}
@@ -11,6 +12,12 @@ use Rattle.fb_faults.specs.declared.faults.ToolFault.TheVariants.{Schema, Json, 
 use Rattle.fb_faults.specs.declared.faults.ToolFault.TheVariants.{NameMoved}
 use Rattle.fb_faults.specs.declared.faults.ToolFault.TheVariants.{Older, Newer, FileRead, FileWrite, FileTooLong}
 use Rattle.fb_faults.specs.declared.faults.ToolFault.TheVariants.{BadJson, Memory}
+
+-- what doesn't hold of a text's layout holds of no layout of it
+pub none_of_layout : TextHasOneLayout → (schema : List ℕ) (L : LaidSchema) (P : LaidSchema → Type 0)
+    → IsAccepted schema L → ¬ P L → ¬ OfLayout schema P
+none_of_layout one schema L P accepted none other =
+    none (subst P (one schema other.layout L other.accepted accepted) other.has)
 
 module _ (schema json : List ℕ) (most : Bounds) (unknown : Bool) (L : LaidSchema) (accepted : IsAccepted schema L) where
   pub binary_refused : (f : ToolFault) → BinaryRefusedOf L json most unknown f

@@ -1,18 +1,16 @@
 use Rattle.std.proofs.lemmas.Result.{IfErr-weaker, IfOk-weaker}
 use Rattle.flatc_tool.specs.Jobs.{BinaryRefused, IsBinary, MayBeBinary, MayBeBinaryOf, IsNotMemory}
-use Rattle.fb_declare.proofs.SchemaTextHasOneLayout.{refused_has_none, none_of_layout}
-use Rattle.flatc_tool.proofs.jobs.RefusedUnderTheSchema.{binary_refused}
+use Rattle.flatc_tool.proofs.jobs.RefusedUnderTheSchema.{binary_refused, none_of_layout}
 use Rattle.flatc_tool.proofs.jobs.to_binary.Goals as goal
 
 pub returns-in-Err-clause-exact : goal.returns-in-Err-clause-exact
-returns-in-Err-clause-exact c rule =
-    refused_has_none c.layer_laws.ensures.laws.schema c.args.schema.now c.in-Err.fault _ c.in-Err.ensures.refused rule
+returns-in-Err-clause-exact c rule other = c.in-Err.ensures.exact rule other.layout other.accepted
 
 pub returns-clause-exact : goal.returns-clause-exact
 returns-clause-exact c =
     IfErr-weaker c.encode.result _
     (λ f. IsNotMemory f → ¬ (MayBeBinary c.args.schema.now c.args.json.now c.args.limits c.args.unknown))
-    (λ f exact rule. none_of_layout c.layer_laws.ensures.laws.schema c.args.schema.now c.in-Ok.layout
+    (λ f exact rule. none_of_layout c.layer_laws.ensures.laws.one_layout c.args.schema.now c.in-Ok.layout
     (λ L. MayBeBinaryOf L c.args.json.now c.args.limits c.args.unknown) c.in-Ok.ensures.accepted (exact rule))
     c.encode.ensures.exact
 
