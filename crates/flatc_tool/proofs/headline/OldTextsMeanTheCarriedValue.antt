@@ -23,7 +23,7 @@ old_texts_are_read_shown laws old new json most texts A B was is t tree v means 
     (t, tree, laws.names_carry A B most t v was.made is.made both.0 both.1 stay means)
 
 pub old_texts_are_carried_shown : LayerLaws → OldTextsAreCarried
-old_texts_are_carried_shown laws old new json most b made texts A B was is v means raw =
+old_texts_are_carried_shown laws prefixed old new json most b made texts A B was is v means raw =
     let both = kept_at laws old new A B was is texts in
     let here = rw (laws.one_layout new made.layout B made.accepted is) at made.has in
     let tree = same_tree json here.means.0 means.0 here.means.1 means.1 in

@@ -1,7 +1,7 @@
-use Rattle.std.proofs.Common.{string_bytes}
+use Rattle.std.proofs.Common.{string_bytes, false}
 use Rattle.std.proofs.lemmas.Result.{IfErr-weaker, IfOk-weaker}
-use Rattle.flatc_tool.specs.Jobs.{IsText, TextRefused, MayBeText, MayBeTextOf, IsNotMemory}
-use Rattle.flatc_tool.proofs.jobs.RefusedUnderTheSchema.{text_refused, none_of_layout}
+use Rattle.flatc_tool.specs.Jobs.{IsText, TextRefused, TextRefusedFramed, MayBeText, MayBeTextFramed, IsNotMemory}
+use Rattle.flatc_tool.proofs.jobs.RefusedUnderTheSchema.{none_of_layout, refused_under}
 use Rattle.flatc_tool.proofs.prints.to_json.Goals as goal
 
 pub returns-in-Err-clause-exact : goal.returns-in-Err-clause-exact
@@ -12,7 +12,7 @@ returns-clause-exact c =
     IfErr-weaker c.decode.result _
     (λ f. IsNotMemory f → ¬ (MayBeText c.args.schema.now c.args.bytes.now c.args.limits c.args.raw))
     (λ f exact rule. none_of_layout c.layer_laws.ensures.laws.one_layout c.args.schema.now c.in-Ok.layout
-    (λ L. MayBeTextOf L c.args.bytes.now c.args.limits c.args.raw) c.in-Ok.ensures.accepted (exact rule))
+    (λ L. MayBeTextFramed false L c.args.bytes.now c.args.limits c.args.raw) c.in-Ok.ensures.accepted (exact rule))
     c.decode.ensures.exact
 
 pub returns-in-Err-clause-refused : goal.returns-in-Err-clause-refused
@@ -28,5 +28,6 @@ returns-clause-text c =
 pub returns-clause-refused : goal.returns-clause-refused
 returns-clause-refused c =
     IfErr-weaker c.decode.result _ (TextRefused c.args.schema.now c.args.bytes.now c.args.limits c.args.raw)
-    (text_refused c.args.schema.now c.args.bytes.now c.args.limits c.args.raw c.in-Ok.layout c.in-Ok.ensures.accepted)
+    (refused_under c.args.schema.now (λ L. TextRefusedFramed false L c.args.bytes.now c.args.limits c.args.raw)
+    c.in-Ok.layout c.in-Ok.ensures.accepted (λ f none. none))
     c.decode.ensures.refused
