@@ -1,5 +1,5 @@
 //! Names in a JSON text that a schema doesn't have: of values, of unions' members and of fields.
-use fb_explain_pages::{Page, last_word, push_few, push_nearest};
+use fb_explain_pages::{Page, last_word, names_in, push_few, push_nearest};
 use fb_json::{Place, has_flags};
 use fb_layout::kind_in;
 use fb_schema::{
