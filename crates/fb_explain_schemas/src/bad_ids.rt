@@ -66,6 +66,12 @@ fn push_no_slot(page: &mut Page, field: &ResolvedField<'_, '_>, table: &str) {
     }
 }
 
+/// The name of the first field that takes a slot.
+fn first_with<'s>(fields: &[ResolvedField<'_, 's>], slot: u64) -> &'s str {
+    let first = fields.iter().find(|field| takes(field, slot));
+    first.map_or("?", |field| name_of(field).0)
+}
+
 /// Adds that a field before has a slot of a field already.
 fn push_twice(
     page: &mut Page,
@@ -80,8 +86,7 @@ fn push_twice(
     });
     page.push_number(slot);
     page.push_str(", which ");
-    let first = fields.iter().find(|field| takes(field, slot));
-    page.push_name(first.map_or("?", |first| name_of(first).0).as_bytes());
+    page.push_name(first_with(fields, slot).as_bytes());
     page.push_line(" has already");
 }
 
