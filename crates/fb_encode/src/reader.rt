@@ -1,14 +1,15 @@
 //! What reads a JSON text piece by piece.
 ghost use Rattle.std.specs.Prelude.{◌≡◌, ◌-◌, ◌≤◌, ◌<◌, ℕ, IfOk, IfSome, OnOk, IsUtf8, Some, length, true};
-ghost use Rattle.serde_json.specs.Data.{array, string};
+ghost use Rattle.serde_json.specs.Data.{Items, array, string};
 ghost use Rattle.serde_json.specs.Read.{read};
 ghost use Rattle.serde_json.specs.View.{items_view, view as tree_view};
+ghost use Rattle.fb_json.specs.Meant.{count};
 ghost use Rattle.fb_pieces.specs.InBrackets.{in_arrays, in_brackets};
 ghost use Rattle.fb_encode.specs.Outlines.{IsOutlined};
-ghost use Rattle.fb_encode.specs.TextsRead.{IsRead, IsReadAs};
+ghost use Rattle.fb_encode.specs.TextsRead.{IsRead, IsReadAs, IsRunReadAs};
 
 use crate::outlines::container_of;
-use fb_pieces::{Cuts, is_json_at, leading_blanks, string_of};
+use fb_pieces::{Cuts, count_elements, is_json_at, leading_blanks, string_of};
 use fb_schema::{Kind, Shape};
 use json::Scratch;
 use serde_json::Value as Json;
@@ -110,6 +111,17 @@ impl Reader {
             Ok(tree) => Ok(tree),
             Err(error) if error.is_memory() => Err(Unread::Memory),
             Err(_) => Err(Unread::Piece),
+        }
+    }
+
+    /// The number of elements of a run, which is read in a bracket of its own. No tree is made.
+    pub(crate) fn count_run(&mut self, text: &[u8], brackets: u8) -> Result<usize, Unread>
+        ensures { IfOk result (λ n. (ds : Items) × IsRunReadAs brackets text.entry.now ds × (n ≡ count ds)) }
+    {
+        self.put_in_brackets(text, 1)?;
+        match count_elements(self.bracketed.as_slice(), brackets, &mut *self.scratch)? {
+            Some(count) if count > 0 => Ok(count),
+            _ => Err(Unread::Piece),
         }
     }
 
