@@ -1,6 +1,6 @@
 //! What reads a JSON text piece by piece.
 ghost use Rattle.std.specs.Prelude.{◌≡◌, ◌-◌, ◌≤◌, ◌<◌, ℕ, IfOk, IfSome, OnOk, IsUtf8, Some, length, true};
-ghost use Rattle.serde_json.specs.Data.{Items, array, string};
+ghost use Rattle.serde_json.specs.Data.{Items, array, no_items, string};
 ghost use Rattle.serde_json.specs.Read.{read};
 ghost use Rattle.serde_json.specs.View.{items_view, view as tree_view};
 ghost use Rattle.fb_json.specs.Meant.{count};
@@ -8,7 +8,7 @@ ghost use Rattle.fb_pieces.specs.InBrackets.{in_arrays, in_brackets};
 ghost use Rattle.fb_encode.specs.Outlines.{IsOutlined};
 ghost use Rattle.fb_encode.specs.TextsRead.{IsRead, IsReadAs, IsRunReadAs};
 
-use crate::outlines::container_of;
+use crate::outlines::{Container, container_of};
 use fb_pieces::{Cuts, count_elements, is_json_at, leading_blanks, string_of};
 use fb_schema::{Kind, Shape};
 use json::Scratch;
@@ -91,6 +91,9 @@ impl Reader {
         ensures { OnOk result (self.new.bracketed.items ≡ in_brackets brackets text.now) }
     {
         self.bracketed.clear();
+        let around = 2 * usize::from(brackets);
+        self.bracketed
+            .reserve_exact(text.len().saturating_add(around))?;
         for _ in 0..brackets {
             self.bracketed.push(b'[')?;
         }
@@ -139,6 +142,18 @@ impl Reader {
         string_of(text, &mut *self.scratch)
     }
 
+    /// The tree of a text that is a string, without brackets. None of another text.
+    pub(crate) fn string_tree(&mut self, text: &[u8]) -> Result<Option<Json>, AllocError>
+        ensures { IfOk result (λ found. IfSome found (λ tree. (brackets : ℕ)
+            → IsReadAs brackets text.entry.now (tree_view tree))) }
+    {
+        let alloc = self.alloc;
+        match self.string(text)? {
+            Some(string) => Ok(Some(Json::String(String::from_str(alloc, string)?))),
+            None => Ok(None),
+        }
+    }
+
     /// The tree of an excerpt, in the brackets in which it is read.
     pub(crate) fn read(&mut self, excerpt: Excerpt<'_>) -> Result<Json, Unread>
         requires { excerpt.brackets ≤ 127 }
@@ -157,15 +172,16 @@ impl Reader {
     pub(crate) fn pass_by(&mut self, excerpt: Excerpt<'_>) -> Result<(), Unread>
         ensures { OnOk result (IsRead excerpt.entry.brackets excerpt.entry.text.now) }
     {
-        if is_json_at(excerpt.text, excerpt.brackets, &mut *self.scratch)? {
-            Ok(())
-        } else {
-            Err(Unread::Piece)
+        let is_json = is_json_at(excerpt.text, excerpt.brackets, &mut *self.scratch)?;
+        if excerpt.text.len() > self.most {
+            // It has grown to the text's length, and a tree may follow.
+            *self.scratch = Scratch::new(self.alloc);
         }
+        if is_json { Ok(()) } else { Err(Unread::Piece) }
     }
 
-    /// An empty array or object in the place of one whose content has no meaning where a value of this shape is wanted.
-    /// None for another text.
+    /// An empty array, object or string in the place of one whose content has no meaning where a value of this shape is
+    /// wanted. None for another text.
     pub(crate) fn outline(
         &mut self,
         excerpt: Excerpt<'_>,
@@ -179,6 +195,21 @@ impl Reader {
                 self.pass_by(excerpt)?;
                 Ok(Some(container.outline(self.alloc)))
             }
+            Some(Container::Array) => Ok(self.empty_array(excerpt)?),
+            _ => Ok(None),
+        }
+    }
+
+    /// An empty array in the place of a long one without elements, which isn't cut. None of another text.
+    fn empty_array(&mut self, excerpt: Excerpt<'_>) -> Result<Option<Json>, AllocError>
+        ensures { IfOk result (λ found. IfSome found (λ tree. (tree_view tree ≡ array no_items)
+            × IsReadAs excerpt.entry.brackets excerpt.entry.text.now (array no_items))) }
+    {
+        if excerpt.text.len() <= self.most {
+            return Ok(None);
+        }
+        match count_elements(excerpt.text, excerpt.brackets, &mut *self.scratch)? {
+            Some(0) => Ok(Some(Json::Array(Vec::new(self.alloc)))),
             _ => Ok(None),
         }
     }
