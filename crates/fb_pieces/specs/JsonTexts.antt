@@ -9,7 +9,7 @@ use Rattle.serde_json.specs.Data.{Data, array, Items, no_items, item}
 use Rattle.serde_json.specs.Read.{number_of}
 use Rattle.fb_pieces.specs.Reads.{read_at}
 
--- The text is UTF-8, and is read as this tree where so many levels of brackets may be open at once.
+-- The text is UTF-8, and is read as this tree where this many brackets may be open at once.
 pub record IsReadAs (levels : ℕ) (text : List ℕ) (d : Data) : Type 0 where
   pub utf8 : IsUtf8 text
   pub read : read_at levels text ≡ Some d

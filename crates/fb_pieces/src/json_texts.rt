@@ -17,7 +17,7 @@ fn is_unsigned_in_range(number: &Numeral<'_>) -> bool
     number.to_u64().is_some() || number.to_float::<f64>(false).is_finite()
 }
 
-/// The same after a minus sign.
+/// The same of a number after its minus sign.
 fn is_negative_in_range(number: &Numeral<'_>) -> bool
     ensures { result ≡ is_some (number_from true number.now) }
 {
@@ -32,7 +32,7 @@ fn is_negative(number: &[u8]) -> bool
 }
 
 /// Whether `serde_json` reads a number that the grammar of JSON accepts.
-fn is_in_range(number: &str) -> bool
+fn is_number_in_range(number: &str) -> bool
     ensures { result ≡ is_some (number_of number.now) }
 {
     let bytes = number.as_bytes();
@@ -43,13 +43,13 @@ fn is_in_range(number: &str) -> bool
     }
 }
 
-/// Whether all numbers that a reader comes to are in range.
-fn are_in_range(mut reader: Reader<'_>) -> bool
+/// Whether `serde_json` reads all numbers that a reader comes to.
+fn are_numbers_in_range(mut reader: Reader<'_>) -> bool
     ensures { result ≡ are_in_range reader.entry }
 {
     while let Some(token) = reader.next() {
         if let Token::Number(number) = token {
-            if !is_in_range(number) {
+            if !is_number_in_range(number) {
                 return false;
             }
         }
@@ -70,7 +70,7 @@ pub fn is_json_at(text: &[u8], levels: u8, scratch: &mut Scratch) -> Result<bool
     if reader.skip_value(levels as usize).is_err() || reader.next().is_some() {
         return Ok(false);
     }
-    Ok(are_in_range(Reader::new(text, scratch)?))
+    Ok(are_numbers_in_range(Reader::new(text, scratch)?))
 }
 
 /// Passes the elements of an array and the bracket that closes it, and returns how many they are.
@@ -100,8 +100,8 @@ fn skip_array(reader: &mut Reader<'_>, levels: u8) -> Result<usize, Invalid>
     skip_elements(reader, inner as usize)
 }
 
-/// How many elements the array has as which `serde_json` reads a text in which `levels` arrays and objects may be open
-/// at once. `None` where it reads no array. No tree is made.
+/// Counts the elements of a text that `serde_json` reads as an array, in which `levels` arrays and objects may be open
+/// at once. `None` for any other text. No tree is made.
 ///
 /// The only error is a refused allocation: `scratch` grows to the text's length.
 pub fn count_elements(
@@ -118,7 +118,7 @@ pub fn count_elements(
     let Ok(count) = skip_array(&mut reader, levels) else {
         return Ok(None);
     };
-    if reader.next().is_some() || !are_in_range(Reader::new(text, scratch)?) {
+    if reader.next().is_some() || !are_numbers_in_range(Reader::new(text, scratch)?) {
         return Ok(None);
     }
     Ok(Some(count))

@@ -5,7 +5,7 @@ use Rattle.fb_pieces.proofs.json_texts.TextHasFewTokens.{few_tokens}
 use Rattle.fb_pieces.proofs.json_texts.ArrayIsReadByItsElements.{array_is_read, read_array, whole_array}
 use Rattle.fb_pieces.proofs.json_texts.count_elements.Goals as goal
 use Rattle.fb_pieces.proofs.json_texts.count_elements.Goals.{then-is_some-via-then-is_some}
-use Rattle.fb_pieces.proofs.json_texts.count_elements.Goals.{then-is_some-via-else-is_some+in_ok-new+then-not-are_in_range}
+use Rattle.fb_pieces.proofs.json_texts.count_elements.Goals.{then-is_some-via-else-is_some+in_ok-new+then-not-are_numbers_in_range}
 
 pub skip_array-requires : goal.skip_array-requires
 skip_array-requires c =
@@ -34,7 +34,7 @@ returns-then-is_some c = λ n. (
       let range = (read_array c.args.levels c.args.text.now is.0 read).range in
       absurd (elim c.then-is_some.branch [
         | then-is_some-via-then-is_some w ↦ search rules
-        | then-is_some-via-else-is_some+in_ok-new+then-not-are_in_range w ↦ search rules
+        | then-is_some-via-else-is_some+in_ok-new+then-not-are_numbers_in_range w ↦ search rules
       ])),
 )
 
