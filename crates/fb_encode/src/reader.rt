@@ -33,7 +33,7 @@ impl From<AllocError> for Unread {
     }
 }
 
-/// A text within a JSON text, in which so many brackets may be open at once.
+/// A text within a JSON text, in which `brackets` arrays and objects may be open at once.
 #[derive(Clone, Copy)]
 pub(crate) struct Excerpt<'t> {
     pub(crate) text: &'t [u8],
@@ -86,7 +86,7 @@ impl Reader {
         excerpt.text.len() > self.most && excerpt.brackets > 0
     }
 
-    /// Puts a text into so many brackets.
+    /// Puts a text into this many brackets.
     fn put_in_brackets(&mut self, text: &[u8], brackets: u8) -> Result<(), AllocError>
         ensures { OnOk result (self.new.bracketed.items ≡ in_brackets brackets text.now) }
     {
@@ -104,7 +104,7 @@ impl Reader {
         Ok(())
     }
 
-    /// The tree of a text in so many brackets.
+    /// The tree of a text in this many brackets.
     pub(crate) fn read_in_brackets(&mut self, text: &[u8], brackets: u8) -> Result<Json, Unread>
         ensures utf8 { OnOk result (IsUtf8 text.now) }
         ensures tree { IfOk result (λ tree. read (in_brackets brackets text.now) ≡ Some (tree_view tree)) }
@@ -215,7 +215,7 @@ impl Reader {
     }
 }
 
-/// The tree in so many arrays. None where one of them isn't an array of one element.
+/// The tree in this many arrays. None where one of them isn't an array of one element.
 pub(crate) fn innermost(tree: &Json, arrays: u8) -> Option<&Json>
     ensures { IfSome result (λ inner. tree_view tree.now ≡ in_arrays arrays (tree_view inner.now)) }
 {
@@ -230,8 +230,8 @@ pub(crate) fn innermost(tree: &Json, arrays: u8) -> Option<&Json>
     Some(inner)
 }
 
-/// The elements of the array in so many arrays. None where one of those isn't an array of one element, or where this
-/// isn't an array or has no elements.
+/// The elements of the array in this many arrays. None where one of those isn't an array of one element, or where the
+/// innermost tree isn't an array or has no elements.
 pub(crate) fn innermost_elements(tree: &Json, arrays: u8) -> Option<&[Json]>
     ensures are { IfSome result (λ elements.
         tree_view tree.now ≡ in_arrays arrays (array (items_view elements.now))) }
