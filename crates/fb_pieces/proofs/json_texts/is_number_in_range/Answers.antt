@@ -3,7 +3,7 @@ use Rattle.std.proofs.lemmas.List.{take_all}
 use Rattle.serde_json.specs.Read.{number_from, number_of}
 use Rattle.fast_float.specs.Text.{scan}
 use Rattle.fb_pieces.proofs.json_texts.NumberIsReadByItsSign.{with_minus, without_minus}
-use Rattle.fb_pieces.proofs.json_texts.is_in_range.Goals as goal
+use Rattle.fb_pieces.proofs.json_texts.is_number_in_range.Goals as goal
 
 -- src/json_texts.rt:33:1
 pub returns-then-is_negative : goal.returns-then-is_negative
