@@ -201,11 +201,11 @@ fn note_slot_text(
         }
         return note_tree(source, walk, slot, None, after, levels);
     };
-    if walk.reader.is_long(text) && is_in_pieces(slot.field.shape) && is_bracketed(text.text) {
+    if walk.reader.is_long(text) && is_in_pieces(slot.field.shape) && is_enclosed(text.text) {
         return note_reference(source, walk, slot, text, after, levels);
     }
     if let Shape::One(Kind::Union(union)) = slot.field.shape {
-        if walk.reader.is_long(text) && is_bracketed(text.text) {
+        if walk.reader.is_long(text) && is_enclosed(text.text) {
             return note_union(source, walk, slot, union, text, after, levels);
         }
     }
@@ -227,8 +227,8 @@ fn is_in_pieces(shape: Shape) -> bool
     matches!(shape, Shape::Many(_) | Shape::One(Kind::Table(_)))
 }
 
-/// Whether a text begins with a bracket or brace, after blanks.
-fn is_bracketed(text: &[u8]) -> bool
+/// Whether a text begins with a bracket, brace or quote, after blanks.
+fn is_enclosed(text: &[u8]) -> bool
     ensures { result ≡ true → (brackets : ℕ) → read_at brackets text.now ≢ Some null }
 {
     container_of(text).is_some()

@@ -127,9 +127,9 @@ objects::note_slot_text-returns-in_default-clause-noted = slot_without_text_note
 pub objects::note_slot_text-note_reference-requires : goal.objects::note_slot_text-note_reference-requires
 objects::note_slot_text-note_reference-requires = bracketed_has_a_part
 
-pub objects::note_slot_text-returns-then-is_bracketed-clause-noted :
-    goal.objects::note_slot_text-returns-then-is_bracketed-clause-noted
-objects::note_slot_text-returns-then-is_bracketed-clause-noted = bracketed_noted
+pub objects::note_slot_text-returns-then-is_enclosed-clause-noted :
+    goal.objects::note_slot_text-returns-then-is_enclosed-clause-noted
+objects::note_slot_text-returns-then-is_enclosed-clause-noted = bracketed_noted
 
 pub objects::note_slot_text-returns-clause-read : goal.objects::note_slot_text-returns-clause-read
 objects::note_slot_text-returns-clause-read = text_read
@@ -155,9 +155,9 @@ objects::note_union-returns-clause-read = member_read
 pub objects::note_union-returns-in_err-left-clause-read : goal.objects::note_union-returns-in_err-left-clause-read
 objects::note_union-returns-in_err-left-clause-read = member_fault_read
 
-pub objects::note_slot_text-returns-then-is_bracketed-2-clause-noted :
-    goal.objects::note_slot_text-returns-then-is_bracketed-2-clause-noted
-objects::note_slot_text-returns-then-is_bracketed-2-clause-noted = union_noted
+pub objects::note_slot_text-returns-then-is_enclosed-2-clause-noted :
+    goal.objects::note_slot_text-returns-then-is_enclosed-2-clause-noted
+objects::note_slot_text-returns-then-is_enclosed-2-clause-noted = union_noted
 
 pub objects::note_slot_text-returns-in-Some-2-clause-noted : goal.objects::note_slot_text-returns-in-Some-2-clause-noted
 objects::note_slot_text-returns-in-Some-2-clause-noted = stand_in_noted

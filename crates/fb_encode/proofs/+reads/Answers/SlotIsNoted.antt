@@ -115,14 +115,14 @@ bracketed_has_a_part t c =
             used_by slot.field.now.deprecated c.args.text c.in-Some.text c.requires.old c.in-Some.is,
             (
               part_of L slot.field.now.shape simple low is.0 (is.1 L.schema),
-              (rw c.in-Some.is at c.requires.brackets, c.is_bracketed.ensures c.if-is_bracketed.true),
+              (rw c.in-Some.is at c.requires.brackets, c.is_enclosed.ensures c.if-is_enclosed.true),
             ),
           ),
         ),
       ),
     )
 
-pub bracketed_noted : goal.objects::note_slot_text-returns-then-is_bracketed-clause-noted
+pub bracketed_noted : goal.objects::note_slot_text-returns-then-is_enclosed-clause-noted
 bracketed_noted t c seen found =
     let used = used_by c.args.slot.field.now.deprecated c.args.text c.in-Some.text c.requires.old c.in-Some.is in
     c.note_reference.ensures.noted seen (rw c.in-Some.is at (found used))
@@ -216,7 +216,7 @@ member_fault_read t c =
     let p = err_from_is_err_and residual.result residual.ensures.1 in
     rw (p.1, p.2) (fault_then c.in_err-left.field-0.0 _ _ (λ f noted. (noted.0, noted.1)) c.in_err-left.ensures.noted)
 
-pub union_noted : goal.objects::note_slot_text-returns-then-is_bracketed-2-clause-noted
+pub union_noted : goal.objects::note_slot_text-returns-then-is_enclosed-2-clause-noted
 union_noted t c seen found =
     let used = used_by c.args.slot.field.now.deprecated c.args.text c.in-Some.text c.requires.old c.in-Some.is in
     c.note_union.ensures.noted seen (rw c.in-Some.is at (found used))
