@@ -1,9 +1,10 @@
 #!/usr/bin/env python3
-"""How well make run estimates its time: tools/seconds.txt against the log of another run.
+"""How well make run estimates its time: a log of one run, with the crates and the table of seconds that it had.
 
-usage: tests/estimate.py LOG
+usage: tests/estimate.py FOLDER
 
-The last line is 'N passed, M failed'.
+FOLDER has the log, crates.txt and tools/seconds.txt. The table's figures are of an older run. Each crate of today has
+to have its figure in today's table. The last line is 'N passed, M failed'.
 """
 import re
 import sys
@@ -20,22 +21,34 @@ LINE = re.compile(r"^\[\d+ of \d+, (\d+):(\d\d)\] (\w+): proved \((\d+) s of pro
 WRONG = 0.25
 
 
+def table(tests):
+    """The table has each crate that make run or make lib proves."""
+    crates = build.read_crates()
+    names = {it for name in ("flatc", "flatc_c") for it in [*build.below(crates, name), name]}
+    noted = set(build.noted_seconds())
+    tests.tell("the table has the crates of today", names == noted, f"{sorted(names ^ noted)}")
+
+
 def estimates(tests):
     """After each crate the time of the whole run is estimated well."""
-    log = content(tests.program).decode()
+    log = content(f"{tests.program}/log").decode()
+    build.ROOT = tests.program
+    build.noted_seconds.cache_clear()
+    build.seconds_of.cache_clear()
     count, jobs = (int(it) for it in HEAD.search(log).groups())
     found = LINE.findall(log)
     lines = [(60 * int(minutes) + int(rest), name, int(seconds)) for minutes, rest, name, seconds in found]
     names = [name for _, name, _ in lines]
     tests.tell("the log is of a whole run", len(names) == count and count > 20, f"{len(names)} of {count}")
     crates = build.read_crates()
-    tests.tell("its crates are those of today", set(names) <= set(crates), f"{set(names) - set(crates)}")
     noted = build.noted_seconds()
-    tests.tell("each has its seconds", set(names) <= set(noted), f"{set(names) - set(noted)}")
+    tests.tell("each crate has its seconds", set(names) <= set(noted), f"{set(names) - set(noted)}")
     differ = any(noted.get(name) != seconds for _, name, seconds in lines)
     tests.tell("the seconds are of another run", differ, "all are the same")
     took = lines[-1][0]
     estimate = build.Estimate(crates, names, jobs)
+    first = abs(estimate.total() - took) / took
+    tests.tell("the estimate at the start", first <= WRONG, f"{estimate.total():.0f} s, where it took {took} s")
     for _, name, seconds in lines:
         estimate.add(name, seconds)
         wrong = abs(estimate.total() - took) / took
@@ -43,7 +56,7 @@ def estimates(tests):
 
 
 def main():
-    return Tests("estimate", program_of(sys.argv, __doc__)).main([estimates])
+    return Tests("estimate", program_of(sys.argv, __doc__)).main([table, estimates])
 
 
 if __name__ == "__main__":

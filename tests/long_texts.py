@@ -37,8 +37,8 @@ LONG, SHORT = 10_000_000, 80
 MOST = 3
 # A buffer of tables, numbers and structs has so many times the bytes of their text; one of which nothing is kept, none.
 TABLES, NUMBERS, NOTHING = 1.5, 2, 0
-# A string is read at once, also where the schema wants something else: it takes up to 6.1 times its length.
-STRING = 1.25
+# A buffer has as many bytes of a string as its text.
+STRING = 1
 # How many times the processor time of a right text one takes that is refused. After a fault the pieces that are left
 # are still read as trees, and nothing is kept between two of them, so that their memory goes back to the system.
 TIMES = 2.5
@@ -72,6 +72,10 @@ def members(size):
 
 def string(size):
     return b'"' + b"x" * size + b'"'
+
+
+def blanks(size):
+    return b"[" + b" " * size + b"]"
 
 
 def nested(depth):
@@ -141,9 +145,13 @@ ROWS = [
     Row("a vector of structs", member(b"points", repeated(b'{"x":1,"y":2}')), share=NUMBERS),
     Row("a vector of strings", member(b"names", repeated(b'"some words"'))),
     Row("a string", member(b"name", string), share=STRING),
+    Row("a string in a vector", text(b'{"names":["a",', string, b"]}"), share=STRING),
+    Row("an array of blanks", member(b"v", blanks), share=NOTHING, same=b'{"v":[]}'),
+    Row("an array of blanks for numbers", member(b"numbers", blanks), share=NOTHING, same=b'{"numbers":[]}'),
+    Row("an array of blanks for a number", member(b"n", blanks), shape(2), share=NOTHING),
     Row(
         "an array of blanks before a vector",
-        text(b'{"v":[' + b" " * 20_000 + b'],"numbers":', repeated(b"7"), b"}"),
+        text(b'{"v":' + blanks(20_000) + b',"numbers":', repeated(b"7"), b"}"),
         share=NUMBERS,
     ),
     Row("the last byte is missing", text(b'{"v":', tables, b""), BAD),
@@ -193,6 +201,14 @@ ROWS = [
     ),
     Row("an array for a number", member(b"n", tables), shape(2), share=NOTHING),
     Row("an object for a number", member(b"n", members), shape(2), share=NOTHING),
+    Row("a string for a number", member(b"n", string), shape(2), share=NOTHING),
+    Row("a string for a struct", member(b"p", string), shape(3), share=NOTHING),
+    Row("a string for a table", member(b"a", string), shape(11), share=NOTHING),
+    Row("a string for a vector", member(b"v", string), shape(0), share=NOTHING),
+    Row("a string in a vector of numbers", text(b'{"numbers":[1,', string, b",2]}"), shape(7), share=NOTHING),
+    Row("a string in a vector of structs", text(b'{"points":[', string, b"]}"), shape(8), share=NOTHING),
+    Row("a string in a vector of tables", text(b'{"v":[{},', string, b"]}"), shape(0), share=NOTHING),
+    Row("a string for a union's member", text(b'{"u_type":"A","u":', string, b"}"), shape(5), share=NOTHING),
     Row("an array for a string", member(b"name", pairs), shape(1), share=NOTHING),
     Row("an object for a string", member(b"name", members), shape(1), share=NOTHING),
     Row("an array for an enum", member(b"e", pairs), shape(10), share=NOTHING),
@@ -211,6 +227,7 @@ ROWS = [
     Row("the first of two values", text(b'{"v":', tables, b',"v":[]}'), share=NOTHING, same=b'{"v":[]}'),
     Row("the second of two values", text(b'{"v":[],"v":', tables, b"}")),
     Row("an array as root", tables, "70 WrongShape in type 6", share=NOTHING),
+    Row("a string as root", string, "70 WrongShape in type 6", share=NOTHING),
     Row("a union's member", in_member(tables)),
     Row("a union's member by its number", text(b'{"u_type":2,"u":{"v":', tables, b"}}")),
     Row("a union's member before its code", text(b'{"u":{"v":', tables, b'},"u_type":"B"}')),
@@ -267,7 +284,7 @@ ROWS = [
         same=b'{"boxes":[{"n":3,"p":{"x":1,"y":2}}]}',
     ),
     Row("an array for a field of a struct", text(b'{"p":{"x":', pairs, b',"y":2}}'), FIELD, share=NOTHING),
-    Row("a string for a field of a struct", text(b'{"p":{"x":', string, b',"y":2}}'), FIELD, share=STRING),
+    Row("a string for a field of a struct", text(b'{"p":{"x":', string, b',"y":2}}'), FIELD, share=NOTHING),
     Row(
         "an array for a struct of a struct",
         text(b'{"q":{"p":', pairs, b',"n":3}}'),

@@ -8,7 +8,6 @@ use Rattle.std.specs.Str.{bytes_eq}
 use Rattle.std.proofs.lemmas.Bool.{or_parts, not-false, false≢true}
 use Rattle.std.proofs.lemmas.List.{append-nil, flat_map_more, map_push, get_or-map, length-map}
 use Rattle.std.proofs.lemmas.Option.{none-some, same_Some, get_or_from_slice_get, slice_get_within, slice_get-get_or}
-pub use Rattle.std.proofs.lemmas.Str.Pattern.{starts_text}
 use Rattle.fb_schema.specs.Schema.{Name}
 use Rattle.fb_resolve.specs.Outline.{TypeRead, name_of_type, word_of}
 use Rattle.fb_resolve.specs.ResolvedFields.{ResolvedField}
@@ -17,7 +16,7 @@ use Rattle.fb_resolve.specs.BasicTypes.{is_reserved}
 use Rattle.fb_declare.specs.declared.faults.SchemaFault.{SchemaFault}
 use Rattle.fb_declare.specs.declared.faults.SchemaFault.TheVariants.{DuplicateName, BadAttribute, Unsupported}
 use Rattle.fb_declare.specs.declared.field_faults.FieldHost.{FieldHost}
-use Rattle.fb_declare.specs.AttributeFaults.{metadata_faults, is_left_out, is_force_align_of_field, may_stand}
+use Rattle.fb_declare.specs.AttributeFaults.{metadata_faults, is_force_align_of_field, may_stand}
 use Rattle.fb_declare.specs.AttributeFaults.{faults_by_name, attribute_behind}
 use Rattle.fb_declare.specs.FaultRows.{when, faults_behind, faults_in_turn, name_again, field_type, bad_default}
 use Rattle.fb_declare.specs.FaultRows.{is_among}
@@ -30,7 +29,7 @@ use Rattle.std.proofs.lemmas.List.Sums.{passes_at_first}
 use Rattle.fb_syntax.specs.Attributes.{AttributeRead, built_in_attribute, is_same}
 use Rattle.fb_syntax.specs.declared.attributes.BuiltInAttribute.{BuiltInAttribute}
 use Rattle.fb_declare.specs.declared.attribute_faults.AttributeHost.{AttributeHost}
-use Rattle.fb_resolve.specs.Attributes.{attribute_called, has_attribute}
+use Rattle.fb_resolve.specs.Attributes.{attribute_called, has_attribute, is_left_out}
 use Rattle.std.specs.Bool.{Decides}
 use Rattle.std.specs.Cmp.{IsEquivalence}
 use Rattle.std.proofs.lemmas.Cmp.{nat_list_eq_equiv}

@@ -1,5 +1,5 @@
 -- A schema text has one layout at most, and none where a layer refuses it.
-use Rattle.std.proofs.Common.{◌≡◌, ◌≢◌, ◌∙◌, List, length, ℕ, Some, refl, sym, ap, subst}
+use Rattle.std.proofs.Common.{◌≡◌, ◌≢◌, ◌∙◌, List, length, ℕ, Some, refl, sym, ap}
 use Rattle.std.specs.Prelude.{IsUtf8}
 use Rattle.std.specs.Str.Lossy.{utf8_valid_len}
 use Rattle.std.proofs.lemmas.Option.{none-some}
@@ -15,10 +15,9 @@ use Rattle.fb_declare.specs.Declares.{Declares}
 use Rattle.fb_declare.specs.TypeFaults.{faults_of}
 use Rattle.fb_declare.specs.Faults.{least_of}
 use Rattle.fb_layout.specs.Laid.{LaidSchema}
-use Rattle.fb_declare.specs.declared.schema_layouts.SchemaTextFault.{SchemaTextFault}
 use Rattle.fb_declare.specs.declared.schema_layouts.SchemaTextFault.TheVariants.{Syntax, Schema, Layout}
-use Rattle.fb_declare.specs.SchemaLaws.{SchemaLaws}
-use Rattle.fb_declare.specs.SchemaTexts.{IsAccepted, IsSyntaxRefused, IsRefused, IsWant, OfLayout}
+use Rattle.fb_declare.specs.SchemaLaws.{RefusedTextHasNoLayout, SchemaLaws, TextHasOneLayout}
+use Rattle.fb_declare.specs.SchemaTexts.{IsAccepted, IsSyntaxRefused}
 
 -- a text reads as one list of declarations
 pub one_parse : (laws : SchemaLaws) (text : List ℕ) (d e : DeclsRead) → Parses text d → Parses text e → d ≡ e
@@ -33,8 +32,7 @@ same_schema laws text L K a b =
     (rw (one_parse laws text a.decls b.decls a.parsed b.parsed) at a.declared) b.declared
 
 -- an accepted text has one layout
-pub same_accepted : (laws : SchemaLaws) (text : List ℕ) (L K : LaidSchema) → IsAccepted text L → IsAccepted text K
-    → L ≡ K
+pub same_accepted : SchemaLaws → TextHasOneLayout
 same_accepted laws text L K a b =
     let schema = same_schema laws text L K a b in
     let structs = laws.one_layout K.schema L.structs K.structs b.made.declared (rw (← schema) a.made.sized)
@@ -76,8 +74,7 @@ syntax_excludes text (Unexpected at) h rule d parses = h.4 d parses
 syntax_excludes text (NestedVector at) h rule d parses = h.4 d parses
 
 -- A text that a layer refuses isn't accepted.
-pub refused_excludes : (laws : SchemaLaws) (text : List ℕ) (f : SchemaTextFault) → IsRefused text f → ¬ (IsWant f)
-    → (L : LaidSchema) → IsAccepted text L → ⊥
+pub refused_excludes : SchemaLaws → RefusedTextHasNoLayout
 refused_excludes laws text (Syntax f) refused rule L accepted =
     syntax_excludes text f refused rule accepted.decls accepted.parsed
 refused_excludes laws text (Schema f) refused rule L accepted =
@@ -88,15 +85,3 @@ refused_excludes laws text (Layout f) refused rule L accepted =
     let schema = laws.one_schema accepted.decls L.schema refused.1 accepted.declared
     (rw same at refused.3) in
     laws.no_layout refused.1 f (refused.4 rule) L schema accepted.made
-
--- nothing holds of the layout of a text that a layer refuses
-pub refused_has_none : (laws : SchemaLaws) (text : List ℕ) (f : SchemaTextFault) (P : LaidSchema → Type 0)
-    → IsRefused text f → ¬ (IsWant f) → ¬ OfLayout text P
-refused_has_none laws text f P refused rule other =
-    refused_excludes laws text f refused rule other.layout other.accepted
-
--- what doesn't hold of a text's layout holds of no layout of it
-pub none_of_layout : (laws : SchemaLaws) (text : List ℕ) (L : LaidSchema) (P : LaidSchema → Type 0)
-    → IsAccepted text L → ¬ P L → ¬ OfLayout text P
-none_of_layout laws text L P accepted none other =
-    none (subst P (same_accepted laws text other.layout L other.accepted accepted) other.has)

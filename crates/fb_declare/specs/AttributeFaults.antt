@@ -1,14 +1,12 @@
 -- Where each attribute may stand and with which value, and which are at fault.
 -- From the FlatBuffers documentation, "Writing a schema": Attributes.
-use Rattle.std.specs.Prelude.{◌||◌, not, Bool, true, false, List, [], ◌∷◌, Option, None, Some, codes, if◌then◌else◌}
-use Rattle.std.specs.List.{starts_with}
-use Rattle.std.specs.Bool.{nat_eq}
+use Rattle.std.specs.Prelude.{◌||◌, not, Bool, true, false, List, [], ◌∷◌, Option, None, Some, if◌then◌else◌}
 use Rattle.std.specs.Str.{bytes_eq}
 use Rattle.fb_syntax.specs.Attributes.{AttributeRead, built_in_attribute}
 use Rattle.fb_syntax.specs.declared.declarations.AttributeValue.{AttributeValue}
 use Rattle.fb_syntax.specs.declared.declarations.AttributeValue.TheVariants.{Integer}
 use Rattle.fb_schema.specs.Schema.{Name}
-use Rattle.fb_resolve.specs.Attributes.{is_alignment}
+use Rattle.fb_resolve.specs.Attributes.{is_alignment, is_left_out}
 use Rattle.fb_declare.specs.FaultRows.{when, faults_in_turn}
 use Rattle.fb_resolve.specs.RepeatedNames.{is_again}
 use Rattle.fb_declare.specs.declared.faults.SchemaFault.{SchemaFault}
@@ -19,13 +17,6 @@ use Rattle.fb_syntax.specs.declared.attributes.BuiltInAttribute.TheVariants.{Bit
 use Rattle.fb_declare.specs.declared.attribute_faults.AttributeHost.{AttributeHost}
 use Rattle.fb_declare.specs.declared.attribute_faults.AttributeHost.TheVariants.{Table, Struct, Enum, ScalarField}
 use Rattle.fb_declare.specs.declared.attribute_faults.AttributeHost.TheVariants.{TableField, StructField}
-
--- the attributes of FlatBuffers that this project leaves out
-abbrev pub is_left_out : Name → Bool
-is_left_out name =
-    (bytes_eq name (codes "key") || bytes_eq name (codes "hash") || bytes_eq name (codes "shared")
-    || bytes_eq name (codes "nested_flatbuffer") || bytes_eq name (codes "flexbuffer"))
-    || starts_with nat_eq name (codes "native_")
 
 -- `force_align` of a field, too, is left out
 abbrev pub is_force_align_of_field : AttributeHost → Option BuiltInAttribute → Bool

@@ -1,15 +1,13 @@
 //! What is wrong with attributes, and the places of these.
-ghost use Rattle.std.specs.Prelude.{◌≡◌, codes, IfOk};
-ghost use Rattle.std.specs.List.{starts_with};
-ghost use Rattle.std.specs.Bool.{nat_eq};
+ghost use Rattle.std.specs.Prelude.{◌≡◌, IfOk};
 ghost use Rattle.std.specs.Option.{option_copied};
-ghost use Rattle.fb_declare.specs.AttributeFaults.{is_left_out, may_stand, attribute_faults, metadata_faults};
+ghost use Rattle.fb_declare.specs.AttributeFaults.{may_stand, attribute_faults, metadata_faults};
 ghost use Rattle.fb_declare.specs.Faults.{least_of};
 ghost use Rattle.fb_declare.specs.NameSet.{is_met};
 
 use crate::faults::{SchemaFault, earlier, when};
 use crate::name_set::NameSet;
-use fb_resolve::is_alignment;
+use fb_resolve::{is_alignment, is_left_out};
 use fb_syntax::{Attribute, AttributeValue, BuiltInAttribute};
 use std::alloc::{AllocError, Global};
 
@@ -25,23 +23,6 @@ pub(crate) enum AttributeHost {
     ScalarField,
     TableField,
     StructField,
-}
-
-#[tactic(auto, using(crate::proofs::FaultFree::starts_text))]
-fn is_native(name: &str) -> bool
-    ensures { result ≡ starts_with nat_eq name.now (codes "native_") }
-{
-    name.starts_with("native_")
-}
-
-/// Whether an attribute of the name is left out.
-fn is_left_out(name: &str) -> bool
-    ensures { result ≡ is_left_out name.now }
-{
-    match name {
-        "key" | "hash" | "shared" | "nested_flatbuffer" | "flexbuffer" => true,
-        _ => is_native(name),
-    }
 }
 
 /// Whether a built-in attribute may stand on a host with a value.

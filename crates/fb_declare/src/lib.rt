@@ -15,6 +15,6 @@ mod types;
 mod unions;
 
 pub use faults::SchemaFault;
-pub use laws::schema_laws;
+pub use laws::{refused_text_has_no_layout, text_has_one_layout};
 pub use schema::{declare, one_schema};
 pub use schema_layouts::{SchemaTextFault, schema_of};

@@ -7,7 +7,7 @@ ghost use Rattle.fb_declare.specs.declared.schema_layouts.SchemaTextFault.TheVar
 ghost use Rattle.fb_declare.specs.SchemaTexts.{IsAccepted, IsRefused, IsWant};
 
 use crate::faults::SchemaFault;
-use crate::laws::schema_laws;
+use crate::laws::refused_text_has_no_layout;
 use crate::schema::declare;
 use fb_layout::{Layout, LayoutFault, lay};
 use fb_schema::TypeId;
@@ -86,7 +86,7 @@ pub fn schema_of(alloc: Global, text: &[u8]) -> Result<Layout, SchemaTextFault>
         ↔ (¬ (IsUtf8 text.now) × (at ≡ utf8_valid_len text.now))) }
     ensures exact { IfErr result (λ f. ¬ (IsWant f) → (L : LaidSchema) → ¬ (IsAccepted text.now L)) }
 {
-    schema_laws();
+    refused_text_has_no_layout();
     let decls = parse(alloc, text).map_err(SchemaTextFault::Syntax)?;
     let schema = declare(alloc, &decls).map_err(SchemaTextFault::Schema)?;
     lay(alloc, schema).map_err(|(fault, _schema)| SchemaTextFault::Layout(fault))

@@ -10,7 +10,7 @@ use crate::attribute_faults::{AttributeHost, metadata_fault};
 use crate::faults::{SchemaFault, earlier, when};
 use crate::field_faults::{FieldHost, fields_fault};
 use crate::name_set::NameSet;
-use fb_resolve::{ResolvedStruct, ResolvedTable, are_ids_wrong};
+use fb_resolve::{ResolvedStruct, ResolvedTable, wrong_ids};
 use std::alloc::{AllocError, Global};
 
 /// The least fault of a table. The only error is a refused allocation.
@@ -25,7 +25,10 @@ pub(crate) fn table_fault(
     let read = resolved.declared;
     let attributes = read.attributes.as_slice();
     let metadata = metadata_fault(alloc, declared, AttributeHost::Table, attributes)?;
-    let ids = when(are_ids_wrong(resolved), SchemaFault::BadIds(read.name.at));
+    let ids = when(
+        wrong_ids(resolved).is_some(),
+        SchemaFault::BadIds(read.name.at),
+    );
     let fields = resolved.fields.as_slice();
     let in_fields = fields_fault(alloc, declared, FieldHost::Table, fields)?;
     Ok(earlier(earlier(metadata, ids), in_fields))

@@ -1,1 +1,2 @@
 pub mod TextInBrackets
+pub mod RunIsCounted

@@ -3,6 +3,7 @@ pub mod TreesNoted
 pub mod StoredAs
 pub mod SlotsRead
 pub mod TextsRead
+pub mod Found
 pub mod RootsNoted
 pub mod TextsEncoded
 pub mod MembersRead

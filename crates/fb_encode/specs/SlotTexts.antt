@@ -15,7 +15,7 @@ use Rattle.fb_json.specs.Outcome.{◌>>=◌, Counted, Fails}
 use Rattle.fb_build.specs.declared.noting.Noting.{Noting}
 use Rattle.fb_pieces.specs.declared.cut.Piece.{Piece}
 use Rattle.fb_encode.specs.declared.entries.SlotRead.{SlotRead}
-use Rattle.fb_encode.specs.declared.objects.Behind.{Behind}
+use Rattle.fb_encode.specs.declared.objects.AfterSlot.{AfterSlot}
 use Rattle.fb_encode.specs.declared.reader.Excerpt.{Excerpt}
 use Rattle.fb_encode.specs.MembersRead.{object_read, tree_read}
 use Rattle.fb_encode.specs.TextsRead.{IsRead}
@@ -60,7 +60,7 @@ text_over texts (Some f) e = if f.deprecated then Some e else slice_index_or tex
 
 -- ---- what a slot gives
 
--- the entry of a slot, by the code that was told last
+-- the entry of a slot, by the union code that came last
 abbrev pub slot_meant : LaidSchema → Look → SlotRead → ℕ → ℕ → ℕ → Counted (Option Datum)
 slot_meant L seen slot code levels left =
     code_after L.schema seen (slot_place slot.owner.0 slot.number) code slot.field.now.deprecated
@@ -68,18 +68,12 @@ slot_meant L seen slot code levels left =
     entry_meant L seen (field_seen slot.field.now) (slot_place slot.owner.0 slot.number) c levels left
 
 -- The slot is noted, and the code and the cells after it are these; or this is its fault.
-abbrev pub IsSlotNotedOr : LaidSchema → Look → SlotRead → ℕ → Behind → Noting → Noting → Result Behind JsonFault
-    → Type 0
-IsSlotNotedOr L seen slot levels before a b (Ok behind) =
+abbrev pub IsSlotNotedOr : LaidSchema → Look → SlotRead → ℕ → AfterSlot → Noting → Noting
+    → Result AfterSlot JsonFault → Type 0
+IsSlotNotedOr L seen slot levels before a b (Ok after) =
     (code_after L.schema seen (slot_place slot.owner.0 slot.number) before.code slot.field.now.deprecated
-    (field_seen slot.field.now).name slot.field.now.shape ≡ Ok behind.code)
+    (field_seen slot.field.now).name slot.field.now.shape ≡ Ok after.code)
     × IsEntryNoted L slot.number (slot_seen L slot.field.now)
-    (entry_meant L seen (field_seen slot.field.now) (slot_place slot.owner.0 slot.number) behind.code levels
-    before.left) a.tape b.tape a.opened b.opened behind.left
+    (entry_meant L seen (field_seen slot.field.now) (slot_place slot.owner.0 slot.number) after.code levels
+    before.left) a.tape b.tape a.opened b.opened after.left
 IsSlotNotedOr L seen slot levels before a b (Err f) = Fails f (slot_meant L seen slot before.code levels before.left)
-
--- The next slot is noted after what was found before; after a fault nothing is.
-abbrev pub IsNextNoted : LaidSchema → Look → SlotRead → ℕ → Result Behind JsonFault → Noting → Noting
-    → Result Behind JsonFault → Type 0
-IsNextNoted L seen slot levels (Ok before) a b now = IsSlotNotedOr L seen slot levels before a b now
-IsNextNoted L seen slot levels (Err f) a b now = now ≡ Err f

@@ -1,7 +1,7 @@
 -- Trees in the place of texts of which not all has a meaning under a schema: they mean the same, and are smaller.
 use Rattle.std.specs.Prelude.{◌≡◌, ℕ, List, Bool, Option, None, Some}
 use Rattle.serde_json.specs.Data.{Data, Members, put}
-use Rattle.fb_schema.specs.declared.kinds.Kind.TheVariants.{Table, Union}
+use Rattle.fb_schema.specs.declared.kinds.Kind.TheVariants.{Code, Table, Union}
 use Rattle.fb_schema.specs.declared.kinds.Shape.{Shape}
 use Rattle.fb_schema.specs.declared.kinds.Shape.TheVariants.{One}
 use Rattle.fb_schema.specs.declared.kinds.TypeId.{TypeId}
@@ -19,7 +19,8 @@ pub record AreAlike (L : LaidSchema) (unknown : Bool) (shape : Shape) (t d : Dat
   pub value : (at : Place) (levels left : ℕ)
       → meant L unknown t shape at levels left ≡ meant L unknown d shape at levels left
   -- the code of a union
-  pub code : (u : ℕ) (at : Place) → code_told L.schema u t at ≡ code_told L.schema u d at
+  pub code : (u : TypeId) (at : Place) → shape ≡ One (Code u)
+      → code_told L.schema u.0 t at ≡ code_told L.schema u.0 d at
   -- the member of a union, which is a table
   pub member : (u table : TypeId) (at : Place) (levels left : ℕ) → shape ≡ One (Union u)
       → meant L unknown t (One (Table table)) at levels left ≡ meant L unknown d (One (Table table)) at levels left

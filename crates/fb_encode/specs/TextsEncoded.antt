@@ -16,8 +16,6 @@ use Rattle.fb_encode.specs.declared.faults.EncodeFault.TheVariants.{Json, Build}
 use Rattle.fb_encode.specs.declared.faults.TextFault.{TextFault}
 use Rattle.fb_encode.specs.declared.faults.TextFault.TheVariants.{BadJson, Encode}
 use Rattle.fb_encode.specs.declared.faults.TextFault.TheVariants as the_text
-use Rattle.fb_encode.specs.declared.texts.Unnoted.{Unnoted}
-use Rattle.fb_encode.specs.declared.texts.Unnoted.TheVariants.{Fault, Piece}
 
 -- the text is JSON, of this tree
 abbrev pub IsJsonOf : List ℕ → Data → Type 0
@@ -50,11 +48,6 @@ TextRefused prefixed L most unknown json (Encode f) =
 -- It is refused before anything is laid, with a count in front or without.
 abbrev pub IsUnread : LaidSchema → Bounds → Bool → List ℕ → TextFault → Type 0
 IsUnread L most unknown json f = (prefixed : Bool) → TextRefused prefixed L most unknown json f
-
--- The text's pieces say why it is refused; or nothing is said, since one of them can't be read.
-abbrev pub IsUnnoted : LaidSchema → Bounds → Bool → List ℕ → Unnoted → Type 0
-IsUnnoted L most unknown json (Fault f) = IsUnread L most unknown json f
-IsUnnoted L most unknown json Piece = ⊤
 
 -- The value that the text means is noted on the tape, as the root's.
 abbrev pub IsTextNoted : LaidSchema → Bounds → Bool → List ℕ → Taped → Type 0

@@ -1,9 +1,10 @@
 //! Excerpts of a JSON text: what each means is checked and noted, piece by piece where it is long.
-ghost use Rattle.std.specs.Prelude.{◌≡◌, ◌≤◌, [], IfOk, OnOk};
+ghost use Rattle.std.specs.Prelude.{◌≡◌, ◌≤◌, [], OnOk};
 ghost use Rattle.serde_json.specs.Data.{Data, string};
 ghost use Rattle.serde_json.specs.View.{view as tree_view};
 ghost use Rattle.fb_layout.specs.Laid.{stored_shape};
 ghost use Rattle.fb_json.specs.Meant.{meant};
+ghost use Rattle.fb_encode.specs.Found.{IfFound};
 ghost use Rattle.fb_encode.specs.TextsRead.{IsNotedOr, IsReadAs};
 ghost use Rattle.fb_encode.specs.TreesNoted.{IsPart};
 
@@ -12,10 +13,11 @@ use crate::numbers::note_number_runs;
 use crate::objects::note_members;
 use crate::parts::note_part;
 use crate::reader::{Excerpt, MOST_BRACKETS, Reader, Unread, innermost};
-use crate::steps::traced;
+use crate::steps::trace_tree;
+use crate::unnoted::Unnoted;
 use crate::vectors::note_runs;
 use fb_build::{Noting, is_reference};
-use fb_json::{JsonFault, Place, Source, Step, Trail};
+use fb_json::{Place, Source, Step, Trail};
 use fb_pieces::text_is_read_without_brackets;
 use fb_schema::{Kind, Shape};
 use fb_tape::Tape;
@@ -56,60 +58,42 @@ impl<'l> TextWalk<'l> {
     }
 }
 
-/// What was found, unless memory ran out.
-pub(crate) fn unless_memory(found: Result<u32, JsonFault>) -> Result<Result<u32, JsonFault>, Unread>
-    ensures { IfOk result (λ same. same ≡ found) }
-{
-    match found {
-        Err(JsonFault::Memory) => Err(Unread::Memory),
-        _ => Ok(found),
-    }
-}
-
-/// Notes what a reference of this shape names, and returns the cells that are left, or the first fault of the excerpt.
+/// Notes what a reference of this shape names, and returns the cells that are left.
 #[cycle(reads)]
 pub(crate) fn note_excerpt(
     source: Source,
     walk: &mut TextWalk<'_>,
     excerpt: Excerpt<'_>,
     wanted: Wanted,
-) -> Result<Result<u32, JsonFault>, Unread>
+) -> Result<u32, Unnoted>
     requires layout { walk.old.noting.tape.layout ≡ source.layout.now }
     requires whole { walk.old.noting.tape.unfinished ≡ [] }
     requires part { IsPart source.layout.now (stored_shape source.layout.now.schema wanted.shape) }
     requires brackets { excerpt.brackets ≤ 127 }
-    ensures noted { let L = source.entry.layout.now in IfOk result (λ found. (t : Data)
+    ensures noted { let L = source.entry.layout.now in IfFound result (λ found. (t : Data)
         × IsReadAs excerpt.entry.brackets excerpt.entry.text.now t
         × IsNotedOr L (stored_shape L.schema wanted.shape)
         (meant L source.entry.unknown t wanted.shape wanted.place wanted.levels wanted.left)
         walk.old.noting.tape walk.new.noting.tape found) }
-    ensures opened { IfOk result (λ found. OnOk found (walk.new.noting.opened ≡ walk.old.noting.opened)) }
+    ensures opened { OnOk result (walk.new.noting.opened ≡ walk.old.noting.opened) }
 {
     if !walk.reader.is_long(excerpt) {
         return note_at_once(source, walk, excerpt, wanted);
     }
-    let Wanted {
-        shape,
-        place,
-        levels,
-        left,
-    } = wanted;
-    match shape {
+    match wanted.shape {
         Shape::Many(kind) => {
             let elements = Elements {
                 kind,
-                place,
-                levels,
+                place: wanted.place,
+                levels: wanted.levels,
             };
             if is_reference(Shape::One(kind)) {
-                note_runs(source, walk, excerpt, elements, left)
+                note_runs(source, walk, excerpt, elements, wanted.left)
             } else {
-                note_number_runs(source, walk, excerpt, elements, left)
+                note_number_runs(source, walk, excerpt, elements, wanted.left)
             }
         }
-        Shape::One(Kind::Table(owner)) => {
-            note_members(source, walk, excerpt, owner, place, levels, left)
-        }
+        Shape::One(Kind::Table(owner)) => note_members(source, walk, excerpt, owner, wanted),
         _ => note_at_once(source, walk, excerpt, wanted),
     }
 }
@@ -120,17 +104,17 @@ pub(crate) fn note_at_once(
     walk: &mut TextWalk<'_>,
     excerpt: Excerpt<'_>,
     wanted: Wanted,
-) -> Result<Result<u32, JsonFault>, Unread>
+) -> Result<u32, Unnoted>
     requires layout { walk.old.noting.tape.layout ≡ source.layout.now }
     requires whole { walk.old.noting.tape.unfinished ≡ [] }
     requires part { IsPart source.layout.now (stored_shape source.layout.now.schema wanted.shape) }
     requires brackets { excerpt.brackets ≤ 127 }
-    ensures noted { let L = source.entry.layout.now in IfOk result (λ found. (t : Data)
+    ensures noted { let L = source.entry.layout.now in IfFound result (λ found. (t : Data)
         × IsReadAs excerpt.entry.brackets excerpt.entry.text.now t
         × IsNotedOr L (stored_shape L.schema wanted.shape)
         (meant L source.entry.unknown t wanted.shape wanted.place wanted.levels wanted.left)
         walk.old.noting.tape walk.new.noting.tape found) }
-    ensures opened { IfOk result (λ found. OnOk found (walk.new.noting.opened ≡ walk.old.noting.opened)) }
+    ensures opened { OnOk result (walk.new.noting.opened ≡ walk.old.noting.opened) }
 {
     if let Shape::One(Kind::Text) = wanted.shape {
         return match walk.reader.string(excerpt.text)? {
@@ -147,17 +131,17 @@ fn note_in_brackets(
     walk: &mut TextWalk<'_>,
     excerpt: Excerpt<'_>,
     wanted: Wanted,
-) -> Result<Result<u32, JsonFault>, Unread>
+) -> Result<u32, Unnoted>
     requires layout { walk.old.noting.tape.layout ≡ source.layout.now }
     requires whole { walk.old.noting.tape.unfinished ≡ [] }
     requires part { IsPart source.layout.now (stored_shape source.layout.now.schema wanted.shape) }
     requires brackets { excerpt.brackets ≤ 127 }
-    ensures noted { let L = source.entry.layout.now in IfOk result (λ found. (t : Data)
+    ensures noted { let L = source.entry.layout.now in IfFound result (λ found. (t : Data)
         × IsReadAs excerpt.entry.brackets excerpt.entry.text.now t
         × IsNotedOr L (stored_shape L.schema wanted.shape)
         (meant L source.entry.unknown t wanted.shape wanted.place wanted.levels wanted.left)
         walk.old.noting.tape walk.new.noting.tape found) }
-    ensures opened { IfOk result (λ found. OnOk found (walk.new.noting.opened ≡ walk.old.noting.opened)) }
+    ensures opened { OnOk result (walk.new.noting.opened ≡ walk.old.noting.opened) }
 {
     if let Some(outline) = walk.reader.outline(excerpt, wanted.shape)? {
         return note_wanted(source, walk, &outline, wanted);
@@ -165,25 +149,25 @@ fn note_in_brackets(
     text_is_read_without_brackets();
     let read = walk.reader.read(excerpt)?;
     let Some(tree) = innermost(&read, MOST_BRACKETS - excerpt.brackets) else {
-        return Err(Unread::Piece);
+        return Err(Unnoted::Unread(Unread::Piece));
     };
     note_wanted(source, walk, tree, wanted)
 }
 
-/// Notes what a tree gives for a reference, and returns the cells that are left, or its first fault.
+/// Notes what a tree gives for a reference, and returns the cells that are left.
 fn note_wanted(
     source: Source,
     walk: &mut TextWalk<'_>,
     tree: &Json,
     wanted: Wanted,
-) -> Result<Result<u32, JsonFault>, Unread>
+) -> Result<u32, Unnoted>
     requires layout { walk.old.noting.tape.layout ≡ source.layout.now }
     requires whole { walk.old.noting.tape.unfinished ≡ [] }
     requires part { IsPart source.layout.now (stored_shape source.layout.now.schema wanted.shape) }
-    ensures noted { let L = source.entry.layout.now in IfOk result (IsNotedOr L (stored_shape L.schema wanted.shape)
+    ensures noted { let L = source.entry.layout.now in IfFound result (IsNotedOr L (stored_shape L.schema wanted.shape)
         (meant L source.entry.unknown (tree_view tree.now) wanted.shape wanted.place wanted.levels wanted.left)
         walk.old.noting.tape walk.new.noting.tape) }
-    ensures opened { IfOk result (λ found. OnOk found (walk.new.noting.opened ≡ walk.old.noting.opened)) }
+    ensures opened { OnOk result (walk.new.noting.opened ≡ walk.old.noting.opened) }
 {
     let Wanted {
         shape,
@@ -191,24 +175,27 @@ fn note_wanted(
         levels,
         left,
     } = wanted;
-    let found = note_part(source, &mut walk.noting, tree, shape, place, levels, left);
-    traced(source, &mut walk.trail, tree, wanted, found)
+    let noted = note_part(source, &mut walk.noting, tree, shape, place, levels, left);
+    if noted.is_err() {
+        trace_tree(source, &mut walk.trail, tree, wanted)?;
+    }
+    Ok(noted?)
 }
 
-/// Notes what a string gives for a reference of this shape, and returns the cells that are left, or its fault.
+/// Notes what a string gives for a reference of this shape, and returns the cells that are left.
 fn note_string(
     source: Source,
     noting: &mut Noting<'_>,
     text: &str,
     wanted: Wanted,
-) -> Result<Result<u32, JsonFault>, Unread>
+) -> Result<u32, Unnoted>
     requires layout { noting.old.tape.layout ≡ source.layout.now }
     requires whole { noting.old.tape.unfinished ≡ [] }
     requires part { IsPart source.layout.now (stored_shape source.layout.now.schema wanted.shape) }
-    ensures noted { let L = source.entry.layout.now in IfOk result (IsNotedOr L (stored_shape L.schema wanted.shape)
+    ensures noted { let L = source.entry.layout.now in IfFound result (IsNotedOr L (stored_shape L.schema wanted.shape)
         (meant L source.entry.unknown (string text.now) wanted.shape wanted.place wanted.levels wanted.left)
         noting.old.tape noting.new.tape) }
-    ensures opened { IfOk result (λ found. OnOk found (noting.new.opened ≡ noting.old.opened)) }
+    ensures opened { OnOk result (noting.new.opened ≡ noting.old.opened) }
 {
     let tree = Json::String(String::from_str(source.alloc, text)?);
     let Wanted {
@@ -217,5 +204,5 @@ fn note_string(
         levels,
         left,
     } = wanted;
-    unless_memory(note_part(source, noting, &tree, shape, place, levels, left))
+    Ok(note_part(source, noting, &tree, shape, place, levels, left)?)
 }

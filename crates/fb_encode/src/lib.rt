@@ -11,12 +11,14 @@ mod outlines;
 mod parts;
 mod paths;
 mod reader;
+mod runs;
 mod slot_texts;
 mod stand_ins;
 mod steps;
 mod tables;
 mod texts;
 mod trees;
+mod unnoted;
 mod vectors;
 
 pub use faults::{EncodeFault, TextFault};

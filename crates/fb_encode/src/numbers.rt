@@ -1,39 +1,41 @@
 //! Vectors of numbers and structs of an excerpt that is long: their elements are read run by run.
-ghost use Rattle.std.specs.Prelude.{◌≡◌, ◌≤◌, ◌<◌, ◌+◌, ◌-◌, [], IfOk, IfSome, OnOk, length, false};
+ghost use Rattle.std.specs.Prelude.{◌≡◌, ◌≤◌, ◌<◌, [], OnOk, length, false};
 ghost use Rattle.serde_json.specs.Data.{Data, Items};
-ghost use Rattle.serde_json.specs.View.{items_view, view as tree_view};
+ghost use Rattle.serde_json.specs.View.{items_view};
 ghost use Rattle.fb_layout.specs.Laid.{align_of, one_of, stored_kind, vector_of};
 ghost use Rattle.fb_layout.specs.Widths.{greatest};
-ghost use Rattle.fb_schema.specs.declared.kinds.Shape.TheVariants.{Many, One};
+ghost use Rattle.fb_schema.specs.declared.kinds.Shape.TheVariants.{Many};
 ghost use Rattle.fb_json.specs.Meant.{count, items_meant, meant};
-ghost use Rattle.fb_pieces.specs.CutTexts.{run_text};
 ghost use Rattle.fb_build.specs.Fields.{IsElement, is_reference};
-ghost use Rattle.fb_encode.specs.StandIns.{IsStandIn};
-ghost use Rattle.fb_encode.specs.TextsRead.{IsNotedOr, IsReadAs, IsRunAdded, IsRunReadAs};
+ghost use Rattle.fb_encode.specs.Found.{IfFound};
+ghost use Rattle.fb_encode.specs.SlotTexts.{IsPieceOf};
+ghost use Rattle.fb_encode.specs.TextsRead.{AreElementsAddedOr, IsNotedOr, IsReadAs, IsRunRead};
 ghost use Rattle.fb_encode.specs.TreesNoted.{AddsInline};
 
 use crate::elements::{Elements, push_elements};
-use crate::excerpts::{TextWalk, note_at_once, unless_memory};
-use crate::reader::{Excerpt, MOST_BRACKETS, Reader, Unread, innermost_elements};
+use crate::excerpts::{TextWalk, note_at_once};
+use crate::reader::{Excerpt, MOST_BRACKETS};
+use crate::runs::{AfterElements, elements_of, elements_read, left_for, once_runs_read};
+use crate::slot_texts::piece_of;
 use crate::stand_ins::stand_in;
 use crate::steps::trace_elements;
-use crate::vectors::{Found, elements_of, left_for};
-use fb_json::{JsonFault, Source};
+use crate::unnoted::Unnoted;
+use fb_json::Source;
 use fb_pieces::{
     Run, cut_array, cut_array_is_read, cut_array_is_utf8, elements_make_the_array,
     text_is_read_without_brackets,
 };
-use fb_schema::{Kind, Shape};
+use fb_schema::Shape;
 use serde_json::Value as Json;
 
-/// Notes a vector of numbers or structs, and returns the cells that are left, or the first fault of the excerpt.
+/// Notes a vector of numbers or structs, and returns the cells that are left.
 pub(crate) fn note_number_runs(
     source: Source,
     walk: &mut TextWalk<'_>,
     excerpt: Excerpt<'_>,
     elements: Elements,
     left: u32,
-) -> Result<Result<u32, JsonFault>, Unread>
+) -> Result<u32, Unnoted>
     requires layout { walk.old.noting.tape.layout ≡ source.layout.now }
     requires whole { walk.old.noting.tape.unfinished ≡ [] }
     requires inline { is_reference (one_of (stored_kind source.layout.now.schema elements.kind)) ≡ false }
@@ -42,12 +44,12 @@ pub(crate) fn note_number_runs(
         ≤ greatest source.layout.now }
     requires some { 0 < excerpt.brackets }
     requires brackets { excerpt.brackets ≤ 127 }
-    ensures noted { let L = source.entry.layout.now in IfOk result (λ found. (t : Data)
+    ensures noted { let L = source.entry.layout.now in IfFound result (λ found. (t : Data)
         × IsReadAs excerpt.entry.brackets excerpt.entry.text.now t
         × IsNotedOr L (vector_of (stored_kind L.schema elements.kind))
         (meant L source.entry.unknown t (Many elements.kind) elements.place elements.levels left)
         walk.old.noting.tape walk.new.noting.tape found) }
-    ensures opened { IfOk result (λ found. OnOk found (walk.new.noting.opened ≡ walk.old.noting.opened)) }
+    ensures opened { OnOk result (walk.new.noting.opened ≡ walk.old.noting.opened) }
 {
     cut_array_is_read();
     cut_array_is_utf8();
@@ -56,130 +58,86 @@ pub(crate) fn note_number_runs(
     };
     let kind = elements.kind;
     let runs = cut.as_slice();
-    let count = elements_of(runs);
-    let mut found = Found {
-        left: left_for(count, elements.place, left),
+    let count = elements_of(runs)?;
+    let first = left_for(count, elements.place, left);
+    let mut after = AfterElements {
         count: 0,
+        left: once_runs_read(&mut walk.reader, excerpt, runs, first)?,
     };
     walk.noting.tape.open_vector(kind, count)?;
-    for run in runs {
-        found = push_run(source, walk, excerpt, *run, elements, found)?;
+    for (i, run) in runs.iter().enumerate() {
+        let added = push_run(source, walk, excerpt, *run, elements, after);
+        after = AfterElements {
+            count: after.count.saturating_add(run.count),
+            left: once_runs_read(&mut walk.reader, excerpt, &runs[i + 1..], added)?,
+        };
     }
-    if count == 0 || found.count != count {
-        return Err(Unread::Piece);
-    }
-    let Ok(left) = found.left else {
-        return Ok(found.left);
-    };
     walk.noting.tape.close_vector(kind, count)?;
-    Ok(Ok(left))
+    Ok(after.left)
 }
 
-/// Adds the elements of a run to the vector that was begun. Behind a fault the run is only read.
+/// Adds the elements of a run to the vector that was begun, and returns the cells that are left.
 fn push_run(
     source: Source,
     walk: &mut TextWalk<'_>,
     array: Excerpt<'_>,
     run: Run,
     elements: Elements,
-    found: Found,
-) -> Result<Found, Unread>
-    requires layout { OnOk found.left (walk.old.noting.tape.layout ≡ source.layout.now) }
+    after: AfterElements,
+) -> Result<u32, Unnoted>
+    requires layout { walk.old.noting.tape.layout ≡ source.layout.now }
     requires inline { is_reference (one_of (stored_kind source.layout.now.schema elements.kind)) ≡ false }
     requires element { IsElement source.layout.now (stored_kind source.layout.now.schema elements.kind) }
-    requires forward { run.elements.start ≤ run.elements.end }
-    requires inside { run.elements.end ≤ length array.text.now }
+    requires within { IsPieceOf array.text.now run.elements }
     requires some { 0 < array.brackets }
     requires brackets { array.brackets ≤ 127 }
     ensures added { let L = source.entry.layout.now in let stored = stored_kind L.schema elements.kind in
-        IfOk result (λ now. (ds : Items)
-        × IsRunReadAs array.entry.brackets (run_text array.entry.text.now run) ds
-        × (now.count ≡ found.count + count ds)
-        × IsRunAdded L stored (AddsInline L stored) (λ rest. items_meant L source.entry.unknown ds
-        elements.kind elements.place elements.levels rest) (count ds)
-        walk.old.noting.tape walk.new.noting.tape found.left now.left) }
-    ensures opened { IfOk result (λ now. OnOk now.left (walk.new.noting.opened ≡ walk.old.noting.opened)) }
+        IfFound result (λ found. (ds : Items) × IsRunRead array.entry.brackets array.entry.text.now run ds
+        × AreElementsAddedOr L stored (AddsInline L stored) (items_meant L source.entry.unknown ds
+        elements.kind elements.place elements.levels after.left) (count ds)
+        walk.old.noting.tape walk.new.noting.tape found) }
+    ensures opened { OnOk result (walk.new.noting.opened ≡ walk.old.noting.opened) }
 {
     text_is_read_without_brackets();
     elements_make_the_array();
-    if let Some(tree) = lone_stand_in(source, &mut walk.reader, array, run, elements.kind)? {
-        return push_trees(source, walk, &[tree], elements, found);
+    let text = piece_of(array, run.elements);
+    if run.count == 1 {
+        if let Some(tree) = stand_in(source, &mut walk.reader, text, Shape::One(elements.kind))? {
+            return push_trees(source, walk, &[tree], elements, after);
+        }
     }
-    let text = &array.text[run.elements.start..run.elements.end];
     let brackets = MOST_BRACKETS - array.brackets;
-    let read = walk.reader.read_in_brackets(text, brackets + 1)?;
-    let Some(trees) = innermost_elements(&read, brackets) else {
-        return Err(Unread::Piece);
-    };
-    push_trees(source, walk, trees, elements, found)
+    let read = walk.reader.read_in_brackets(text.text, brackets + 1)?;
+    let trees = elements_read(&read, brackets, run)?;
+    push_trees(source, walk, trees, elements, after)
 }
 
-/// The tree in the place of a run's one element, if there is one.
-fn lone_stand_in(
-    source: Source,
-    reader: &mut Reader,
-    array: Excerpt<'_>,
-    run: Run,
-    kind: Kind,
-) -> Result<Option<Json>, Unread>
-    requires forward { run.elements.start ≤ run.elements.end }
-    requires inside { run.elements.end ≤ length array.text.now }
-    requires some { 0 < array.brackets }
-    requires brackets { array.brackets ≤ 127 }
-    ensures { let L = source.entry.layout.now in IfOk result (λ found. IfSome found (λ tree. IsStandIn L
-        source.entry.unknown (array.entry.brackets - 1) (run_text array.entry.text.now run) (One kind)
-        (tree_view tree))) }
-{
-    if run.count != 1 {
-        return Ok(None);
-    }
-    let element = Excerpt {
-        text: &array.text[run.elements.start..run.elements.end],
-        brackets: array.brackets - 1,
-        at: array.at.saturating_add(run.elements.start),
-    };
-    stand_in(source, reader, element, Shape::One(kind))
-}
-
-/// Adds elements that are trees to the vector that was begun. Behind a fault they are only counted.
+/// Adds elements that are trees to the vector that was begun, and returns the cells that are left.
 fn push_trees(
     source: Source,
     walk: &mut TextWalk<'_>,
     trees: &[Json],
     elements: Elements,
-    found: Found,
-) -> Result<Found, Unread>
-    requires layout { OnOk found.left (walk.old.noting.tape.layout ≡ source.layout.now) }
+    after: AfterElements,
+) -> Result<u32, Unnoted>
+    requires layout { walk.old.noting.tape.layout ≡ source.layout.now }
     requires inline { is_reference (one_of (stored_kind source.layout.now.schema elements.kind)) ≡ false }
     requires element { IsElement source.layout.now (stored_kind source.layout.now.schema elements.kind) }
     ensures added { let L = source.entry.layout.now in let stored = stored_kind L.schema elements.kind in
-        IfOk result (λ now. IsRunAdded L stored (AddsInline L stored) (λ rest. items_meant L source.entry.unknown
-        (items_view trees.now) elements.kind elements.place elements.levels rest) (length trees.now)
-        walk.old.noting.tape walk.new.noting.tape found.left now.left) }
-    ensures opened { IfOk result (λ now. OnOk now.left (walk.new.noting.opened ≡ walk.old.noting.opened)) }
-    ensures counted { IfOk result (λ now. now.count ≡ found.count + length trees.now) }
+        IfFound result (AreElementsAddedOr L stored (AddsInline L stored) (items_meant L source.entry.unknown
+        (items_view trees.now) elements.kind elements.place elements.levels after.left) (length trees.now)
+        walk.old.noting.tape walk.new.noting.tape) }
+    ensures opened { OnOk result (walk.new.noting.opened ≡ walk.old.noting.opened) }
 {
-    let Some(count) = found.count.checked_add(trees.len()) else {
-        return Err(Unread::Piece);
-    };
-    let Ok(left) = found.left else {
-        return Ok(Found {
-            left: found.left,
-            count,
-        });
-    };
     let Elements {
         kind,
         place,
         levels,
     } = elements;
     let tape = &mut walk.noting.tape;
-    let added = push_elements(source, tape, trees, kind, place, levels, left);
+    let added = push_elements(source, tape, trees, kind, place, levels, after.left);
     if added.is_err() {
-        trace_elements(source, &mut walk.trail, trees, elements, found.count, left)?;
+        trace_elements(source, &mut walk.trail, trees, elements, after)?;
     }
-    Ok(Found {
-        left: unless_memory(added)?,
-        count,
-    })
+    Ok(added?)
 }

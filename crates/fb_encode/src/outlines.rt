@@ -1,5 +1,5 @@
-//! Texts in brackets where a schema wants something else: they are checked, and no tree is made of them.
-ghost use Rattle.std.specs.Prelude.{◌≡◌, ℕ, IfSome, Some};
+//! Texts in brackets or quotes where a schema wants something else: they are checked, and no tree is made of them.
+ghost use Rattle.std.specs.Prelude.{◌≡◌, ℕ, IfSome, Some, false};
 ghost use Rattle.serde_json.specs.Data.{Data};
 ghost use Rattle.serde_json.specs.View.{view as tree_view};
 ghost use Rattle.fb_pieces.specs.Reads.{read_at};
@@ -10,17 +10,18 @@ use fb_schema::{Kind, Shape};
 use serde_json::{Map, Value as Json};
 use std::alloc::Global;
 
-/// What a JSON text in brackets is.
+/// What a JSON text in brackets, braces or quotes is.
 #[derive(Clone, Copy)]
 pub(crate) enum Container {
     Array,
     Object,
+    String,
 }
 
 impl Container {
-    /// Whether its elements or members have a meaning where a value of this shape is wanted.
+    /// Whether what is in it has a meaning where a value of this shape is wanted.
     pub(crate) fn has_content(self, shape: Shape) -> bool
-        ensures { (t : Data) → IsOf self t → result ≡ has_content shape t }
+        ensures { (t : Data) → IsOf self t → result ≡ false → has_content shape t ≡ false }
     {
         match self {
             Container::Array => matches!(shape, Shape::Many(_)),
@@ -30,16 +31,21 @@ impl Container {
                     | Shape::One(Kind::Struct(_))
                     | Shape::One(Kind::Union(_))
             ),
+            Container::String => matches!(
+                shape,
+                Shape::One(Kind::Text) | Shape::One(Kind::Enum(_)) | Shape::One(Kind::Code(_))
+            ),
         }
     }
 
-    /// An array or object with nothing in it.
+    /// An array, object or string with nothing in it.
     pub(crate) fn outline(self, alloc: Global) -> Json
         ensures { (t : Data) → IsOf self t → tree_view result ≡ outline t }
     {
         match self {
             Container::Array => Json::Array(Vec::new(alloc)),
             Container::Object => Json::Object(Map::new(alloc)),
+            Container::String => Json::String(String::new(alloc)),
         }
     }
 }
@@ -53,6 +59,7 @@ pub(crate) fn container_of(text: &[u8]) -> Option<Container>
     match text.get(at) {
         Some(b'[') => Some(Container::Array),
         Some(b'{') => Some(Container::Object),
+        Some(b'"') => Some(Container::String),
         _ => None,
     }
 }

@@ -6,7 +6,8 @@ ghost use Rattle.fb_encode.specs.TextsEncoded.{IsJsonOf};
 
 use crate::faults::TextFault;
 use crate::reader::Unread;
-use crate::texts::{Unnoted, check_json, note_pieces, walk_over};
+use crate::texts::{check_json, note_pieces, walk_over};
+use crate::unnoted::Unnoted;
 use fb_json::{Source, Step, Trail, fault_path};
 use fb_value::Limits;
 use serde_json::Value as Json;
@@ -22,9 +23,8 @@ fn path_in_pieces(
     let mut walk = walk_over(source, json, piece, Trail::new(source.alloc))?;
     match note_pieces(source, &mut walk, json, limits) {
         Ok(()) => Ok(None),
-        Err(Unnoted::Fault(TextFault::Encode(_))) => Ok(walk.into_steps()),
-        Err(Unnoted::Fault(_)) => Err(Unread::Memory),
-        Err(Unnoted::Piece) => Err(Unread::Piece),
+        Err(Unnoted::Fault(_)) => Ok(walk.into_steps()),
+        Err(Unnoted::Unread(unread)) => Err(unread),
     }
 }
 

@@ -1,14 +1,15 @@
 //! What reads a JSON text piece by piece.
 ghost use Rattle.std.specs.Prelude.{◌≡◌, ◌-◌, ◌≤◌, ◌<◌, ℕ, IfOk, IfSome, OnOk, IsUtf8, Some, length, true};
-ghost use Rattle.serde_json.specs.Data.{array, string};
+ghost use Rattle.serde_json.specs.Data.{Items, array, no_items, string};
 ghost use Rattle.serde_json.specs.Read.{read};
 ghost use Rattle.serde_json.specs.View.{items_view, view as tree_view};
+ghost use Rattle.fb_json.specs.Meant.{count};
 ghost use Rattle.fb_pieces.specs.InBrackets.{in_arrays, in_brackets};
 ghost use Rattle.fb_encode.specs.Outlines.{IsOutlined};
-ghost use Rattle.fb_encode.specs.TextsRead.{IsRead, IsReadAs};
+ghost use Rattle.fb_encode.specs.TextsRead.{IsRead, IsReadAs, IsRunReadAs};
 
-use crate::outlines::container_of;
-use fb_pieces::{Cuts, is_json_at, leading_blanks, string_of};
+use crate::outlines::{Container, container_of};
+use fb_pieces::{Cuts, count_elements, is_json_at, leading_blanks, string_of};
 use fb_schema::{Kind, Shape};
 use json::Scratch;
 use serde_json::Value as Json;
@@ -32,7 +33,7 @@ impl From<AllocError> for Unread {
     }
 }
 
-/// A text within a JSON text, in which so many brackets may be open at once.
+/// A text within a JSON text, in which `brackets` arrays and objects may be open at once.
 #[derive(Clone, Copy)]
 pub(crate) struct Excerpt<'t> {
     pub(crate) text: &'t [u8],
@@ -85,11 +86,14 @@ impl Reader {
         excerpt.text.len() > self.most && excerpt.brackets > 0
     }
 
-    /// Puts a text into so many brackets.
+    /// Puts a text into this many brackets.
     fn put_in_brackets(&mut self, text: &[u8], brackets: u8) -> Result<(), AllocError>
         ensures { OnOk result (self.new.bracketed.items ≡ in_brackets brackets text.now) }
     {
         self.bracketed.clear();
+        let around = 2 * usize::from(brackets);
+        self.bracketed
+            .reserve_exact(text.len().saturating_add(around))?;
         for _ in 0..brackets {
             self.bracketed.push(b'[')?;
         }
@@ -100,7 +104,7 @@ impl Reader {
         Ok(())
     }
 
-    /// The tree of a text in so many brackets.
+    /// The tree of a text in this many brackets.
     pub(crate) fn read_in_brackets(&mut self, text: &[u8], brackets: u8) -> Result<Json, Unread>
         ensures utf8 { OnOk result (IsUtf8 text.now) }
         ensures tree { IfOk result (λ tree. read (in_brackets brackets text.now) ≡ Some (tree_view tree)) }
@@ -110,6 +114,17 @@ impl Reader {
             Ok(tree) => Ok(tree),
             Err(error) if error.is_memory() => Err(Unread::Memory),
             Err(_) => Err(Unread::Piece),
+        }
+    }
+
+    /// The number of elements of a run, which is read in a bracket of its own. No tree is made.
+    pub(crate) fn count_run(&mut self, text: &[u8], brackets: u8) -> Result<usize, Unread>
+        ensures { IfOk result (λ n. (ds : Items) × IsRunReadAs brackets text.entry.now ds × (n ≡ count ds)) }
+    {
+        self.put_in_brackets(text, 1)?;
+        match count_elements(self.bracketed.as_slice(), brackets, &mut *self.scratch)? {
+            Some(count) if count > 0 => Ok(count),
+            _ => Err(Unread::Piece),
         }
     }
 
@@ -125,6 +140,18 @@ impl Reader {
             return Ok(None);
         };
         string_of(text, &mut *self.scratch)
+    }
+
+    /// The tree of a text that is a string, without brackets. None of another text.
+    pub(crate) fn string_tree(&mut self, text: &[u8]) -> Result<Option<Json>, AllocError>
+        ensures { IfOk result (λ found. IfSome found (λ tree. (brackets : ℕ)
+            → IsReadAs brackets text.entry.now (tree_view tree))) }
+    {
+        let alloc = self.alloc;
+        match self.string(text)? {
+            Some(string) => Ok(Some(Json::String(String::from_str(alloc, string)?))),
+            None => Ok(None),
+        }
     }
 
     /// The tree of an excerpt, in the brackets in which it is read.
@@ -145,15 +172,16 @@ impl Reader {
     pub(crate) fn pass_by(&mut self, excerpt: Excerpt<'_>) -> Result<(), Unread>
         ensures { OnOk result (IsRead excerpt.entry.brackets excerpt.entry.text.now) }
     {
-        if is_json_at(excerpt.text, excerpt.brackets, &mut *self.scratch)? {
-            Ok(())
-        } else {
-            Err(Unread::Piece)
+        let is_json = is_json_at(excerpt.text, excerpt.brackets, &mut *self.scratch)?;
+        if excerpt.text.len() > self.most {
+            // It has grown to the text's length, and a tree may follow.
+            *self.scratch = Scratch::new(self.alloc);
         }
+        if is_json { Ok(()) } else { Err(Unread::Piece) }
     }
 
-    /// An empty array or object in the place of one whose content has no meaning where a value of this shape is wanted.
-    /// None for another text.
+    /// An empty array, object or string in the place of one whose content has no meaning where a value of this shape is
+    /// wanted. None for another text.
     pub(crate) fn outline(
         &mut self,
         excerpt: Excerpt<'_>,
@@ -167,12 +195,27 @@ impl Reader {
                 self.pass_by(excerpt)?;
                 Ok(Some(container.outline(self.alloc)))
             }
+            Some(Container::Array) => Ok(self.empty_array(excerpt)?),
+            _ => Ok(None),
+        }
+    }
+
+    /// An empty array in the place of a long one without elements, which isn't cut. None of another text.
+    fn empty_array(&mut self, excerpt: Excerpt<'_>) -> Result<Option<Json>, AllocError>
+        ensures { IfOk result (λ found. IfSome found (λ tree. (tree_view tree ≡ array no_items)
+            × IsReadAs excerpt.entry.brackets excerpt.entry.text.now (array no_items))) }
+    {
+        if excerpt.text.len() <= self.most {
+            return Ok(None);
+        }
+        match count_elements(excerpt.text, excerpt.brackets, &mut *self.scratch)? {
+            Some(0) => Ok(Some(Json::Array(Vec::new(self.alloc)))),
             _ => Ok(None),
         }
     }
 }
 
-/// The tree in so many arrays. None where one of them isn't an array of one element.
+/// The tree in this many arrays. None where one of them isn't an array of one element.
 pub(crate) fn innermost(tree: &Json, arrays: u8) -> Option<&Json>
     ensures { IfSome result (λ inner. tree_view tree.now ≡ in_arrays arrays (tree_view inner.now)) }
 {
@@ -187,8 +230,8 @@ pub(crate) fn innermost(tree: &Json, arrays: u8) -> Option<&Json>
     Some(inner)
 }
 
-/// The elements of the array in so many arrays. None where one of those isn't an array of one element, or where this
-/// isn't an array or has no elements.
+/// The elements of the array in this many arrays. None where one of those isn't an array of one element, or where the
+/// innermost tree isn't an array or has no elements.
 pub(crate) fn innermost_elements(tree: &Json, arrays: u8) -> Option<&[Json]>
     ensures are { IfSome result (λ elements.
         tree_view tree.now ≡ in_arrays arrays (array (items_view elements.now))) }

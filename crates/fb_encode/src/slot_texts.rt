@@ -48,7 +48,7 @@ pub(crate) fn members_of(
     Ok(Some(members))
 }
 
-/// No texts for so many slots.
+/// No text for each of some slots.
 fn no_texts<'t>(alloc: Global, slots: usize) -> Result<Vec<Option<Excerpt<'t>>>, AllocError>
     ensures { IfOk result (λ texts. texts.items ≡ replicate slots None) }
 {
@@ -93,8 +93,8 @@ pub(crate) fn texts_by_slot<'t>(
     Ok(SlotTexts { texts, known })
 }
 
-/// A piece of an excerpt, within one bracket more.
-fn piece_of<'t>(excerpt: Excerpt<'t>, piece: Piece) -> Excerpt<'t>
+/// A piece of an excerpt, in one more bracket.
+pub(crate) fn piece_of<'t>(excerpt: Excerpt<'t>, piece: Piece) -> Excerpt<'t>
     requires within { IsPieceOf excerpt.text.now piece }
     requires some { 0 < excerpt.brackets }
     ensures text { result.text.now ≡ piece_text excerpt.entry.text.now piece }

@@ -20,7 +20,7 @@ use serde_json::{Map, Value as Json};
 use std::alloc::AllocError;
 
 /// A tree in the place of a text, if the text is a long object for a struct, or if its content has no meaning where a
-/// value of this shape is wanted. None for another text, and for an object that can't be cut.
+/// value of this shape is wanted; or the tree of a string. None for another text, and for an object that can't be cut.
 #[cycle(stand_ins)]
 pub(crate) fn stand_in(
     source: Source,
@@ -39,7 +39,10 @@ pub(crate) fn stand_in(
             }
         }
     }
-    reader.outline(excerpt, shape)
+    if let Some(tree) = reader.outline(excerpt, shape)? {
+        return Ok(Some(tree));
+    }
+    Ok(reader.string_tree(excerpt.text)?)
 }
 
 /// An object with the fields of a struct alone, in the place of an object's text; or with an unknown member alone, if

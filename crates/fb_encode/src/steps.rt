@@ -1,33 +1,34 @@
 //! The way back from a fault: each level of a walk adds its step to a trail that is kept.
-ghost use Rattle.std.specs.Prelude.{◌≡◌, IfOk};
+ghost use Rattle.std.specs.Prelude.{◌≡◌, Some};
+ghost use Rattle.fb_encode.specs.Found.{IfFound, found_of};
 
 use crate::elements::Elements;
 use crate::entries::SlotRead;
-use crate::excerpts::{Wanted, unless_memory};
+use crate::excerpts::Wanted;
 use crate::reader::Unread;
+use crate::runs::AfterElements;
+use crate::unnoted::Unnoted;
 use fb_json::{JsonFault, Room, Source, Step, TableSlot, Trail, trace, trace_slot};
 use fb_schema::Shape;
 use serde_json::Value as Json;
 
-/// What was found after a step. Before a fault the trail has the step then.
+/// What was found after a step, which is added to the trail if that is a fault.
 pub(crate) fn after_step<T>(
     trail: &mut Trail,
     step: Step,
-    found: Result<T, JsonFault>,
-) -> Result<Result<T, JsonFault>, Unread>
-    ensures { IfOk result (λ same. same ≡ found) }
+    found: Result<T, Unnoted>,
+) -> Result<T, Unnoted>
+    ensures { IfFound result (λ same. found_of found ≡ Some same) }
 {
-    let fault = match found {
-        Ok(_) => return Ok(found),
-        Err(fault) => fault,
-    };
-    match trail.after(step, fault) {
-        JsonFault::Memory => Err(Unread::Memory),
-        _ => Ok(Err(fault)),
+    if let Err(Unnoted::Fault(fault)) = found {
+        if let JsonFault::Memory = trail.after(step, fault) {
+            return Err(Unnoted::Unread(Unread::Memory));
+        }
     }
+    found
 }
 
-/// That a trail has the steps of a walk, unless memory ran out.
+/// Whether a trail has the steps of a walk, or memory ran out.
 fn kept(walked: Result<u32, JsonFault>) -> Result<(), Unread> {
     match walked {
         Err(JsonFault::Memory) => Err(Unread::Memory),
@@ -35,27 +36,23 @@ fn kept(walked: Result<u32, JsonFault>) -> Result<(), Unread> {
     }
 }
 
-/// What was found of a tree, unless memory ran out. Before a fault the trail has the steps to it then.
-pub(crate) fn traced(
+/// Adds the steps from a tree to its fault.
+pub(crate) fn trace_tree(
     source: Source,
     trail: &mut Trail,
     tree: &Json,
     wanted: Wanted,
-    found: Result<u32, JsonFault>,
-) -> Result<Result<u32, JsonFault>, Unread>
-    ensures { IfOk result (λ same. same ≡ found) }
-{
-    if found.is_err() && trail.is_kept() {
-        let Wanted {
-            shape,
-            place,
-            levels,
-            left,
-        } = wanted;
-        let room = Room { levels, left };
-        kept(trace(source, trail, tree, shape, place, room))?;
+) -> Result<(), Unread> {
+    if !trail.is_kept() {
+        return Ok(());
     }
-    unless_memory(found)
+    let Wanted {
+        shape,
+        place,
+        levels,
+        left,
+    } = wanted;
+    kept(trace(source, trail, tree, shape, place, Room { levels, left }))
 }
 
 /// Adds the steps from a slot's member to its fault.
@@ -78,14 +75,13 @@ pub(crate) fn trace_member(
     kept(trace_slot(source, trail, slot, tree, room))
 }
 
-/// Adds the steps to the first fault of some elements of a vector, before which so many others are.
+/// Adds the steps to the first fault of some elements of a vector, which come after others.
 pub(crate) fn trace_elements(
     source: Source,
     trail: &mut Trail,
     trees: &[Json],
     elements: Elements,
-    before: usize,
-    left: u32,
+    after: AfterElements,
 ) -> Result<(), Unread> {
     if !trail.is_kept() {
         return Ok(());
@@ -95,13 +91,13 @@ pub(crate) fn trace_elements(
         place,
         levels,
     } = elements;
-    let mut left = left;
+    let mut left = after.left;
     for (i, tree) in trees.iter().enumerate() {
         let room = Room { levels, left };
         match trace(source, trail, tree, Shape::One(kind), place, room) {
             Ok(rest) => left = rest,
             Err(fault) => {
-                let step = Step::Element(before.saturating_add(i));
+                let step = Step::Element(after.count.saturating_add(i));
                 return kept(Err(trail.after(step, fault)));
             }
         }

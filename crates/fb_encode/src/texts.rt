@@ -5,7 +5,8 @@ ghost use Rattle.fb_value.specs.Datum.{Datum};
 ghost use Rattle.fb_tape.specs.Tapes.{Waits};
 ghost use Rattle.fb_build.specs.NotedRoots.{NotesRoot};
 ghost use Rattle.fb_layout.specs.Laid.{LaidSchema};
-ghost use Rattle.fb_encode.specs.TextsEncoded.{IsOfTheText, IsTextEncoded, IsTextNoted, IsTextPlanned, IsUnnoted};
+ghost use Rattle.fb_encode.specs.Found.{IfFault};
+ghost use Rattle.fb_encode.specs.TextsEncoded.{IsOfTheText, IsTextEncoded, IsTextNoted, IsTextPlanned};
 ghost use Rattle.fb_encode.specs.TextsEncoded.{IsUnread, TextRefused, first_fault};
 ghost use Rattle.fb_encode.specs.TextsRead.{IsRead};
 
@@ -13,6 +14,7 @@ use crate::excerpts::{TextWalk, Wanted, note_excerpt};
 use crate::faults::{EncodeFault, TextFault};
 use crate::reader::{Excerpt, MOST_BRACKETS, Reader, Unread};
 use crate::trees::{note_root, plan_noted};
+use crate::unnoted::Unnoted;
 use fb_build::{Noting, TapePlan};
 use fb_json::{JsonFault, Place, Source, Trail, first_fault_refuses, only_what_is_meant};
 use fb_pieces::is_json_at;
@@ -23,7 +25,7 @@ use json::Scratch;
 use serde_json::Value as Json;
 use std::alloc::Global;
 
-/// Longer texts are read in pieces of so many bytes. Of a longer piece the tree of `serde_json` doesn't fit into a
+/// Longer texts are read in pieces of this many bytes. Of a longer piece the tree of `serde_json` doesn't fit into a
 /// processor's nearer caches any more, and each piece costs a call.
 pub const PIECE: usize = 16_384;
 
@@ -34,26 +36,6 @@ fn first_fault(fault: JsonFault) -> TextFault
     match fault {
         JsonFault::Memory => TextFault::Memory,
         _ => TextFault::Encode(EncodeFault::Json(fault)),
-    }
-}
-
-/// Why the value of a text isn't noted from its pieces.
-pub(crate) enum Unnoted {
-    /// This is the text's fault.
-    Fault(TextFault),
-    /// A piece isn't JSON on its own.
-    Piece,
-}
-
-impl From<Unread> for Unnoted {
-    ghost from_gives = { λ _ unnoted. (L : LaidSchema) (most : Bounds) (unknown : Bool) (json : List ℕ)
-        → IsUnnoted L most unknown json unnoted };
-
-    fn from(unread: Unread) -> Unnoted {
-        match unread {
-            Unread::Memory => Unnoted::Fault(TextFault::Memory),
-            Unread::Piece => Unnoted::Piece,
-        }
     }
 }
 
@@ -70,8 +52,8 @@ pub(crate) fn note_pieces(
     requires room { walk.old.noting.tape.room ≡ 0 }
     ensures noted { OnOk result
         (IsTextNoted source.entry.layout.now limits source.entry.unknown json.now walk.new.noting.tape) }
-    ensures refused { IfErr result
-        (IsUnnoted source.entry.layout.now limits source.entry.unknown json.now) }
+    ensures refused { IfErr result (λ e. IfFault e (λ f.
+        IsUnread source.entry.layout.now limits source.entry.unknown json.now (first_fault f))) }
 {
     only_what_is_meant();
     first_fault_refuses();
@@ -91,10 +73,8 @@ pub(crate) fn note_pieces(
         levels: limits.most_depth(),
         left: limits.most_cells(),
     };
-    match note_excerpt(source, walk, excerpt, wanted)? {
-        Ok(_left) => Ok(()),
-        Err(fault) => Err(Unnoted::Fault(first_fault(fault))),
-    }
+    note_excerpt(source, walk, excerpt, wanted)?;
+    Ok(())
 }
 
 /// A walk over a text that is read in pieces, which has noted nothing yet.
@@ -124,7 +104,8 @@ fn note_in_pieces<'l>(
     piece: usize,
 ) -> Result<Tape<'l>, Unnoted>
     ensures noted { IfOk result (IsTextNoted source.entry.layout.now limits source.entry.unknown json.now) }
-    ensures refused { IfErr result (IsUnnoted source.entry.layout.now limits source.entry.unknown json.now) }
+    ensures refused { IfErr result (λ e. IfFault e (λ f.
+        IsUnread source.entry.layout.now limits source.entry.unknown json.now (first_fault f))) }
 {
     let mut walk = walk_over(source, json, piece, Trail::unkept())?;
     note_pieces(source, &mut walk, json, limits)?;
@@ -184,9 +165,10 @@ fn note_text<'l>(
     if json.len() > piece {
         match note_in_pieces(source, json, limits, piece) {
             Ok(tape) => return Ok(tape),
-            Err(Unnoted::Fault(fault)) => return Err(fault),
+            Err(Unnoted::Fault(fault)) => return Err(first_fault(fault)),
+            Err(Unnoted::Unread(Unread::Memory)) => return Err(TextFault::Memory),
             // If the whole is JSON nevertheless, it was cut at a wrong place.
-            Err(Unnoted::Piece) => check_json(source.alloc, json)?,
+            Err(Unnoted::Unread(Unread::Piece)) => check_json(source.alloc, json)?,
         }
     }
     note_at_once(source, json, limits)

@@ -1,3 +1,2 @@
-pub mod FoundInText
 pub use Rattle.fb_explain_pages.specs.Lines
 pub use Rattle.fb_explain_pages.specs.Positions

@@ -3,14 +3,13 @@ ghost use Rattle.std.specs.Prelude.{IfOk, chars};
 ghost use Rattle.std.specs.String.{string_bytes};
 ghost use Rattle.fb_explain_pages.specs.Lines.{IsPage};
 
-use crate::comparisons::{Asked, push_comparison};
-use crate::memory::{layout_of, memory_use};
-use crate::schema_faults::push_schema_fault;
+use crate::memory::memory_use;
 use fb_build::BuildFault;
-use fb_explain_inputs::{
-    FileFailure, Sources, push_bad_json, push_buffer_fault, push_json_fault, push_unnamed_member,
-};
-use fb_explain_pages::{Page, Source};
+use fb_explain_buffers::{push_buffer_fault, push_unnamed_member};
+use fb_explain_conform::{Asked, push_comparison};
+use fb_explain_json::{push_bad_json, push_json_fault};
+use fb_explain_pages::{FileFailure, Page, Source, Sources};
+use fb_explain_schemas::{layout_of, push_schema_fault};
 use fb_faults::ToolFault;
 use fb_text::{TextFault, WriteFault};
 use std::alloc::{AllocError, Global};

@@ -91,3 +91,12 @@ pub fn push_nearest(page: &mut Page, owner: &str, names: &[&str], wanted: &str) 
         None => push_few(page, owner, names),
     }
 }
+
+/// The names of an enum's values or of a union's members.
+pub fn names_in<T>(alloc: Global, named: &[(String, T)]) -> Result<Vec<&str>, AllocError> {
+    let mut names = Vec::new(alloc);
+    for (name, _) in named {
+        names.push(name.as_str())?;
+    }
+    Ok(names)
+}

@@ -16,7 +16,7 @@ ReadRuns levels [] (r ∷ rs) = ⊥
 ReadRuns levels (e ∷ es) [] = ⊥
 ReadRuns levels (e ∷ es) (r ∷ rs) = ReadsRun levels e r × ReadRuns levels es rs
 
--- the elements of two arrays, one behind the other
+-- the elements of two arrays, one after the other
 abbrev pub append : Items → Items → Items
 append no_items es = es
 append (item d ds) es = item d (append ds es)

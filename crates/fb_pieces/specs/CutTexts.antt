@@ -16,7 +16,7 @@ run_text text run = piece_text text run.elements
 abbrev pub member_texts : List ℕ → Member → List ℕ × List ℕ
 member_texts text member = (piece_text text member.name, piece_text text member.value)
 
--- whether none are behind
+-- whether the list is empty
 abbrev pub is_empty : {X : Type 0} → List X → Bool
 is_empty [] = true
 is_empty (x ∷ xs) = false

@@ -20,7 +20,7 @@ two = 0x74 ∷ 0x72 ∷ 0x75 ∷ 0x65 ∷ 0x2c ∷ 0x6e ∷ 0x75 ∷ 0x6c ∷ 0x
 abbrev pub one : List ℕ
 one = 0x22 ∷ 0x61 ∷ 0x2c ∷ 0x5d ∷ 0x22 ∷ []
 
--- The text is cut behind its second element.
+-- The text is cut after its second element.
 abbrev pub two_and_one : List Run
 two_and_one = record { elements = record { start = 1; end = 10 }; count = 2; is_last = false }
     ∷ record { elements = record { start = 11; end = 16 }; count = 1; is_last = true } ∷ []

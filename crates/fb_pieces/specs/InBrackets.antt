@@ -9,17 +9,17 @@ abbrev pub ElementIsReadWithoutBrackets : Type 0
 ElementIsReadWithoutBrackets = (levels : ℕ) (e : List ℕ) (d : Data)
     → read_at (suc levels) (array_text e []) ≡ Some (array (item d no_items)) → read_at levels e ≡ Some d
 
--- so many brackets around a text
+-- n brackets around a text
 abbrev pub in_brackets : ℕ → List ℕ → List ℕ
 in_brackets zero text = text
 in_brackets (suc n) text = array_text (in_brackets n text) []
 
--- so many arrays around a tree, each of one element
+-- n arrays around a tree, each of one element
 abbrev pub in_arrays : ℕ → Data → Data
 in_arrays zero d = d
 in_arrays (suc n) d = array (item (in_arrays n d) no_items)
 
--- What is read in so many brackets is read without them, with so many levels less.
+-- What is read in n brackets is read without them, with n levels less.
 abbrev pub TextIsReadWithoutBrackets : Type 0
 TextIsReadWithoutBrackets = (levels n : ℕ) (text : List ℕ) (d : Data)
     → read_at (n + levels) (in_brackets n text) ≡ Some (in_arrays n d) → read_at levels text ≡ Some d

@@ -1,4 +1,4 @@
--- What `serde_json` reads of a text, where it may nest so many levels.
+-- What `serde_json` reads of a text, where `levels` brackets may be open at once.
 use Rattle.std.specs.Prelude.{◌≡◌, ℕ, List, Option, option_and_then, refl}
 use Rattle.json.specs.Json as json
 use Rattle.json.specs.Lex.{tokens}

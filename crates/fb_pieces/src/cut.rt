@@ -27,7 +27,7 @@ pub struct Run {
     pub is_last: bool,
 }
 
-/// A member of an object's text. Its name is all before the colon, and its value all behind it, blanks too.
+/// A member of an object's text. Its name is all before the colon, and its value all after it, blanks too.
 #[derive(Clone, Copy, Debug, PartialEq, Eq)]
 pub struct Member {
     pub name: Piece,
@@ -121,7 +121,7 @@ fn opening(text: &[u8], bracket: u8) -> Option<usize>
     }
 }
 
-/// The run of so many elements that ends before a comma or the array's bracket.
+/// The run of `count` elements that ends before a comma or the array's bracket.
 fn run_before(text: &[u8], from: usize, end: usize, count: usize) -> Option<Run>
     ensures run { IfSome result (λ run. IsRunOf text.now from run) }
     ensures within { IfSome result (λ run. run.elements.end < length text.now) }
@@ -179,8 +179,8 @@ fn value_end(text: &[u8], from: usize, at: usize, cuts: &Cuts) -> Option<usize>
     let Some(closing) = cuts.closing_of(at.saturating_add(start)) else {
         return separator(text, from, b',');
     };
-    let behind = closing.saturating_sub(at).checked_add(1)?;
-    let end = behind.checked_add(leading_blanks(text.get(behind..)?))?;
+    let after = closing.saturating_sub(at).checked_add(1)?;
+    let end = after.checked_add(leading_blanks(text.get(after..)?))?;
     if end >= from && end < text.len() {
         Some(end)
     } else {

@@ -12,12 +12,12 @@ pub(crate) struct RunEnd {
     pub(crate) count: usize,
 }
 
-/// An array or object: its closing bracket, and which of the runs that were noted are its own.
+/// An array or object: its closing bracket, and the range of the noted runs that are its own.
 #[derive(Clone, Copy)]
 struct Noted {
     closing: usize,
     first: usize,
-    behind: usize,
+    end: usize,
 }
 
 /// Where a text may be cut: its long arrays, with runs of their elements, and its long objects. What has a quarter of
@@ -53,8 +53,8 @@ impl Cuts {
             }
             match cutter.pass(text, at, block, outside)? {
                 Next::Block => at = at.wrapping_add(BLOCK),
-                Next::Back(behind) => {
-                    at = behind;
+                Next::Back(start) => {
+                    at = start;
                     walk = Walk::START;
                 }
                 Next::Nothing => return Ok(None),
@@ -83,7 +83,7 @@ impl Cuts {
         let noted = Noted {
             closing,
             first,
-            behind: self.runs.len(),
+            end: self.runs.len(),
         };
         match self.parts.insert(start, noted) {
             Ok(_before) => Ok(()),
@@ -94,7 +94,7 @@ impl Cuts {
     /// The runs of the array that begins there, if it is noted: none at all where it is short.
     pub(crate) fn runs_of(&self, start: usize) -> Option<&[RunEnd]> {
         let noted = self.parts.get(&start)?;
-        self.runs.get(noted.first..noted.behind)
+        self.runs.get(noted.first..noted.end)
     }
 
     /// The closing bracket of the array or object that begins there, if that is noted.

@@ -11,15 +11,15 @@ const MOST_OPEN: usize = 127;
 const WITHOUT_BRACKETS: usize = 2;
 
 /// Elements without brackets that have this part of a run's bytes, or more, are runs of their own: long strings are
-/// read best where they stand.
+/// read best where they are.
 const LONG_STRING: usize = 16;
 
-/// How a walk goes on behind a block.
+/// How a walk goes on after a block.
 #[derive(Clone, Copy)]
 pub(crate) enum Next {
     /// With the next block.
     Block,
-    /// From here, behind the bracket of an array that has turned out to be long: its commas weren't looked at.
+    /// From here: the byte after the bracket of an array that turned out to be long. Its commas weren't looked at.
     Back(usize),
     /// Not at all, since `serde_json` would refuse the text.
     Nothing,
@@ -119,10 +119,9 @@ impl Cutter {
         let mut rest = brackets;
         let mut depth = self.depth;
         let mut own = self.open.len();
-        // What of the block is right within the innermost of what is known to be long: up to the last bracket, and
-        // behind it.
-        let mut right = 0;
-        let mut behind = if depth == own { outside } else { 0 };
+        // Bytes of this block directly inside the innermost long container: up to the last bracket, and after it.
+        let mut direct = 0;
+        let mut after = if depth == own { outside } else { 0 };
         let mut nests = 0;
         for _ in 0..BLOCK {
             let bracket = rest & rest.wrapping_neg();
@@ -133,17 +132,17 @@ impl Cutter {
                 };
                 *start = place;
                 depth = depth.wrapping_add(1);
-                right |= behind & bracket.wrapping_sub(1);
-                nests |= behind;
-                behind = 0;
+                direct |= after & bracket.wrapping_sub(1);
+                nests |= after;
+                after = 0;
             } else {
                 let Some(start) = self.starts.get(depth.wrapping_sub(1)).copied() else {
                     return Ok(Next::Nothing);
                 };
                 if place.wrapping_sub(start) >= self.noted {
-                    right |= behind & bracket.wrapping_sub(1);
-                    self.pass_right(at, block, right, nests != 0)?;
-                    right = 0;
+                    direct |= after & bracket.wrapping_sub(1);
+                    self.pass_direct(at, block, direct, nests != 0)?;
+                    direct = 0;
                     nests = 0;
                     self.depth = depth;
                     if let Some(back) = self.leave(text, start, place)? {
@@ -153,7 +152,7 @@ impl Cutter {
                 }
                 depth = depth.wrapping_sub(1);
                 if depth == own {
-                    behind = outside & bracket.wrapping_neg();
+                    after = outside & bracket.wrapping_neg();
                 }
             }
             rest ^= bracket;
@@ -162,23 +161,23 @@ impl Cutter {
             }
         }
         self.depth = depth;
-        right |= behind;
-        if right | nests != 0 {
-            self.pass_right(at, block, right, nests != 0)?;
+        direct |= after;
+        if direct | nests != 0 {
+            self.pass_direct(at, block, direct, nests != 0)?;
         }
         Ok(Next::Block)
     }
 
     /// Goes over the commas of a block that are among these bytes. `nests` says that an element has brackets.
     #[inline(never)]
-    fn pass_right(
+    fn pass_direct(
         &mut self,
         at: usize,
         block: u8x64,
-        right: u64,
+        direct: u64,
         nests: bool,
     ) -> Result<(), AllocError> {
-        let commas = commas(block) & right;
+        let commas = commas(block) & direct;
         if let Some(open) = self.open.last_mut() {
             if nests {
                 open.most = self.most;
@@ -190,8 +189,8 @@ impl Cutter {
         Ok(())
     }
 
-    /// Notes what a bracket at this place closes, which isn't short. It gives the place behind the bracket of an array
-    /// that has turned out to be long.
+    /// Notes the container that a bracket at this place closes, which isn't short. Returns the place after the opening
+    /// bracket of an array that turned out to be long.
     #[inline(never)]
     fn leave(
         &mut self,
@@ -218,8 +217,8 @@ impl Cutter {
             .is_some_and(|start| place.wrapping_sub(*start) >= self.most)
     }
 
-    /// Notes what is open and has turned out to be long at this place, from the outermost on, up to an array: it gives
-    /// the place behind that one's bracket.
+    /// Notes the open containers that turned out to be long at this place, from the outermost to an array. Returns the
+    /// place after that array's bracket.
     #[inline(never)]
     fn open_long(&mut self, text: &[u8], place: usize) -> Result<Option<usize>, AllocError> {
         for level in self.open.len()..self.depth {
@@ -281,19 +280,19 @@ impl Cutter {
                 break;
             }
             let from = open.from;
-            let (run, behind) = open.cut(at, rest);
+            let (run, after) = open.cut(at, rest);
             if open.most != self.most {
                 open.most = most_without_brackets(self.most, from, run);
             }
             self.waiting.push(run)?;
-            rest = behind;
+            rest = after;
         }
         Ok(())
     }
 }
 
 /// The most bytes of the next run of an array whose elements have no brackets. Where those of the last run are long, it
-/// is one element; behind one that isn't, few may follow.
+/// is one element; after one that isn't, few may follow.
 fn most_without_brackets(most: usize, from: usize, run: RunEnd) -> usize {
     if run.at.saturating_sub(from) >= run.count.saturating_mul(most / LONG_STRING) {
         return 0;
@@ -337,7 +336,7 @@ impl Open {
         commas & !near
     }
 
-    /// Ends the run at the last comma at which it may end, or at the first of these, and gives the commas behind it.
+    /// Ends the run at the last comma at which it may end, or at the first of these. Returns the commas after it.
     fn cut(&mut self, at: usize, commas: u64) -> (RunEnd, u64) {
         let (run, rest) = match self.comma {
             Some(comma) => (

@@ -69,12 +69,12 @@ pub fn blanks_change_nothing()
     ensures { BlanksChangeNothing }
 {}
 
-/// Runs that are cut one behind another are the array's text, with the commas and the bracket.
+/// Runs that follow one another are the array's text, with the commas and the bracket.
 pub fn cut_runs_are_the_text()
     ensures { CutRunsAreTheText }
 {}
 
-/// Members that are cut one behind another are the object's text, with the colons, the commas and the brace.
+/// Members that follow one another are the object's text, with the colons, the commas and the brace.
 pub fn cut_members_are_the_text()
     ensures { CutMembersAreTheText }
 {}
@@ -89,7 +89,7 @@ pub fn cut_object_is_read()
     ensures { CutObjectIsRead }
 {}
 
-/// What is read in so many brackets is read without them, with so many levels less.
+/// What is read in n brackets is read without them, with n levels less.
 pub fn text_is_read_without_brackets()
     ensures { TextIsReadWithoutBrackets }
 {}

@@ -37,7 +37,7 @@ impl Outside {
     }
 }
 
-/// The lowest bits, so many.
+/// The lowest `count` bits.
 pub(crate) fn lowest(count: usize) -> u64 {
     !u64::MAX.checked_shl(count.min(BLOCK) as u32).unwrap_or(0)
 }

@@ -3,3 +3,4 @@ pub mod PlacesTaken
 pub mod InOrder
 pub mod PathsKept
 pub mod ValuesOfTypes
+pub mod NativeNames

@@ -1,14 +1,24 @@
 -- What attributes say.
 -- From the FlatBuffers documentation, "Writing a schema": Attributes.
-use Rattle.std.specs.Prelude.{ℕ, ◌==◌, ◌&&◌, Bool, false, List, [], ◌∷◌, Option, None, Some, ℤ, pos, negsuc, nat_le}
-use Rattle.std.specs.List.{list_any, find}
+use Rattle.std.specs.Prelude.{ℕ, ◌==◌, ◌&&◌, ◌||◌, codes, Bool, false, List, [], ◌∷◌, Option, None, Some, ℤ, pos, negsuc, nat_le}
+use Rattle.std.specs.List.{list_any, find, starts_with}
+use Rattle.std.specs.Bool.{nat_eq}
+use Rattle.std.specs.Str.{bytes_eq}
 use Rattle.std.specs.Option.{option_and_then, is_some}
+use Rattle.fb_schema.specs.Schema.{Name}
 use Rattle.fb_syntax.specs.Attributes.{AttributeRead, built_in_attribute, is_same}
 use Rattle.fb_syntax.specs.declared.declarations.AttributeValue.{AttributeValue}
 use Rattle.fb_syntax.specs.declared.declarations.AttributeValue.TheVariants.{Integer}
 use Rattle.fb_resolve.specs.declared.attributes.FieldAttributes.{FieldAttributes}
 use Rattle.fb_syntax.specs.declared.attributes.BuiltInAttribute.{BuiltInAttribute}
 use Rattle.fb_syntax.specs.declared.attributes.BuiltInAttribute.TheVariants.{Id, Required, Deprecated}
+
+-- the attributes of FlatBuffers that aren't supported
+abbrev pub is_left_out : Name → Bool
+is_left_out name =
+    (bytes_eq name (codes "key") || bytes_eq name (codes "hash") || bytes_eq name (codes "shared")
+    || bytes_eq name (codes "nested_flatbuffer") || bytes_eq name (codes "flexbuffer"))
+    || starts_with nat_eq name (codes "native_")
 
 -- a power of two from the least alignment to 256
 abbrev pub is_alignment : ℕ → ℤ → Bool

@@ -1,11 +1,12 @@
 -- The names of basic types.
 -- From the FlatBuffers documentation, "Writing a schema": Types.
-use Rattle.std.specs.Prelude.{◌||◌, Bool, Option, None, Some, codes, if◌then◌else◌}
+use Rattle.std.specs.Prelude.{◌||◌, Bool, true, false, Option, None, Some, codes, if◌then◌else◌}
 use Rattle.std.specs.Option.{is_some}
 use Rattle.std.specs.Str.{bytes_eq}
 use Rattle.fb_schema.specs.Schema.{Name}
 use Rattle.fb_resolve.specs.declared.basic_types.BasicType.{BasicType}
 use Rattle.fb_resolve.specs.declared.basic_types.BasicType.TheVariants.{Scalar, Text, Float}
+use Rattle.fb_schema.specs.declared.kinds.Base.{Base}
 use Rattle.fb_schema.specs.declared.kinds.Base.TheVariants.{Bool as Boolean, I8, U8, I16, U16, I32, U32, I64, U64}
 
 abbrev pub either : Name → Name → Name → Bool
@@ -25,6 +26,22 @@ basic_type name =
     if either (codes "ulong") (codes "uint64") name then Some (Scalar U64) else
     if either (codes "float") (codes "float32") name || either (codes "double")
     (codes "float64") name then Some Float else None
+
+abbrev pub base_of : Option BasicType → Option Base
+base_of (Some (Scalar base)) = Some base
+base_of _ = None
+
+-- the integer type or `bool` that has this name
+abbrev pub base_named : Name → Option Base
+base_named name = base_of (basic_type name)
+
+abbrev pub means_float : Option BasicType → Bool
+means_float (Some Float) = true
+means_float _ = false
+
+-- the name is that of a floating-point type
+abbrev pub is_float : Name → Bool
+is_float name = means_float (basic_type name)
 
 -- no declared type may have such a name
 abbrev pub is_reserved : Name → Bool

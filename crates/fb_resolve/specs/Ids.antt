@@ -1,8 +1,8 @@
 -- The ids of a table's fields name each slot once, or are wrong.
 -- From the FlatBuffers documentation, "Writing a schema": Tables, Unions, Attributes (`id`).
-use Rattle.std.specs.Prelude.{ℕ, suc, ◌==◌, ◌≡◌, ◌&&◌, not, Bool, true, false, List, length, map}
+use Rattle.std.specs.Prelude.{ℕ, suc, ◌==◌, ◌≡◌, ◌≤◌, ◌<◌, ◌&&◌, not, Bool, true, false, List, length, map, count_by}
 use Rattle.std.specs.Prelude.{Option, None, Some, slice_get, if◌then◌else◌}
-use Rattle.std.specs.List.{list_any, list_all, flat_map, range_with_len}
+use Rattle.std.specs.List.{list_any, list_all, flat_map, position, range_with_len}
 use Rattle.std.specs.List.Sorted.{IsPermutation}
 use Rattle.std.specs.Option.{is_some, unwrap_or}
 use Rattle.fb_schema.specs.Schema.{DeclaredField}
@@ -10,6 +10,8 @@ use Rattle.fb_resolve.specs.ResolvedFields.{ResolvedField}
 use Rattle.fb_schema.specs.declared.kinds.TypeId.{TypeId}
 use Rattle.fb_resolve.specs.declared.ids.Slots.{Slots}
 use Rattle.fb_resolve.specs.declared.ids.Slots.TheVariants.{InOrder, ById, Wrong}
+use Rattle.fb_resolve.specs.declared.ids.WrongIds.{WrongIds}
+use Rattle.fb_resolve.specs.declared.ids.WrongIds.TheVariants.{NoSlot, Twice, Missing}
 use Rattle.fb_resolve.specs.SlotsRead.{union_in, slots_of_field, slots_in_order}
 
 -- A field's id is that of its value, so a union's first slot is the one before it.
@@ -52,8 +54,24 @@ numbers_by_id rs = map (λ s. s.slot) (slots_by_id rs)
 unfoldable pub are_ids_wrong : List ResolvedField → Bool
 are_ids_wrong rs = have_ids rs && not (have_all_ids rs && are_places (numbers_by_id rs))
 
+abbrev pub has_no_slot : ResolvedField → Bool
+has_no_slot r = not (is_some (slot_by_id r))
+
+-- why the numbers aren't places: a number is there more than once, or one that is below their count isn't there
+abbrev pub IsWrongNumber : List ℕ → WrongIds → Type 0
+IsWrongNumber ns (NoSlot k) = ⊥
+IsWrongNumber ns (Twice s) = (are_places ns ≡ false) × (2 ≤ count_by (λ n. s == n) ns)
+IsWrongNumber ns (Missing s) =
+    (are_places ns ≡ false) × (s < length ns) × (list_any (λ n. s == n) ns ≡ false)
+
+-- Why the ids of fields are wrong: the first field without a slot, or else one of their numbers.
+abbrev pub AreWrongBy : List ResolvedField → WrongIds → Type 0
+AreWrongBy rs (NoSlot k) = position has_no_slot rs ≡ Some k
+AreWrongBy rs (Twice s) = (position has_no_slot rs ≡ None) × IsWrongNumber (numbers_by_id rs) (Twice s)
+AreWrongBy rs (Missing s) = (position has_no_slot rs ≡ None) × IsWrongNumber (numbers_by_id rs) (Missing s)
+
 -- what the slots of a table's fields are: numbered in the order of declaration, or by their ids
 abbrev pub AreSlots : List ResolvedField → Slots → Type 0
 AreSlots rs InOrder = have_ids rs ≡ false
 AreSlots rs ById = (have_ids rs ≡ true) × (are_ids_wrong rs ≡ false)
-AreSlots rs Wrong = are_ids_wrong rs ≡ true
+AreSlots rs (Wrong w) = (are_ids_wrong rs ≡ true) × AreWrongBy rs w

@@ -1,9 +1,11 @@
 //! What attributes say.
-ghost use Rattle.std.specs.Prelude.{◌≡◌, ◌≤◌, IfSome};
+ghost use Rattle.std.specs.Prelude.{◌≡◌, ◌≤◌, codes, IfSome};
+ghost use Rattle.std.specs.List.{starts_with};
+ghost use Rattle.std.specs.Bool.{nat_eq};
 ghost use Rattle.std.specs.Int.RustNames.{unsigned_abs};
 ghost use Rattle.std.specs.Option.{option_copied, option_and_then};
 ghost use Rattle.fb_syntax.specs.Integers.{greatest_magnitude};
-ghost use Rattle.fb_resolve.specs.Attributes.{is_alignment, attribute_called, integer_value_in};
+ghost use Rattle.fb_resolve.specs.Attributes.{is_alignment, is_left_out, attribute_called, integer_value_in};
 ghost use Rattle.fb_resolve.specs.Attributes.{natural_in, has_attribute, number_called, field_attributes};
 
 use fb_syntax::{Attribute, AttributeValue, BuiltInAttribute};
@@ -13,6 +15,23 @@ pub fn is_alignment(least: u16, number: i128) -> bool
     ensures { result ≡ is_alignment least number }
 {
     [1, 2, 4, 8, 16, 32, 64, 128, 256].contains(&number) && i128::from(least) <= number
+}
+
+#[tactic(auto, using(crate::proofs::NativeNames::starts_text))]
+fn is_native(name: &str) -> bool
+    ensures { result ≡ starts_with nat_eq name.now (codes "native_") }
+{
+    name.starts_with("native_")
+}
+
+/// Whether FlatBuffers has an attribute of this name that isn't supported.
+pub fn is_left_out(name: &str) -> bool
+    ensures { result ≡ is_left_out name.now }
+{
+    match name {
+        "key" | "hash" | "shared" | "nested_flatbuffer" | "flexbuffer" => true,
+        _ => is_native(name),
+    }
 }
 
 /// What the attributes of a field say of its slots.

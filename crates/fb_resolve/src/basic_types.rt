@@ -1,6 +1,6 @@
 //! The names of basic types.
 ghost use Rattle.std.specs.Prelude.{◌≡◌, Some};
-ghost use Rattle.fb_resolve.specs.BasicTypes.{basic_type, is_reserved};
+ghost use Rattle.fb_resolve.specs.BasicTypes.{base_named, basic_type, is_float, is_reserved};
 ghost use Rattle.fb_resolve.specs.Meaning.{basic_or};
 ghost use Rattle.fb_resolve.specs.declared.meanings.Meaning.{Meaning as Meant};
 
@@ -47,6 +47,29 @@ pub(crate) fn basic_type(name: &str) -> Option<BasicType>
         "float" | "float32" | "double" | "float64" => Some(BasicType::Float),
         _ => None,
     }
+}
+
+/// The names of the basic types that are supported.
+pub const BASIC_TYPES: &[&str] = &[
+    "bool", "byte", "ubyte", "short", "ushort", "int", "uint", "long", "ulong", "int8", "uint8",
+    "int16", "uint16", "int32", "uint32", "int64", "uint64", "string",
+];
+
+/// The basic type of a name, if its values are numbers or `bool`s.
+pub fn base_named(name: &str) -> Option<Base>
+    ensures { result ≡ base_named name.now }
+{
+    match basic_type(name)? {
+        BasicType::Scalar(base) => Some(base),
+        BasicType::Text | BasicType::Float => None,
+    }
+}
+
+/// Whether a name is that of a floating-point type.
+pub fn is_float(name: &str) -> bool
+    ensures { result ≡ is_float name.now }
+{
+    matches!(basic_type(name), Some(BasicType::Float))
 }
 
 /// Whether no declared type may have the name.

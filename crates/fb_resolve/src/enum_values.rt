@@ -165,7 +165,8 @@ pub fn integer_type(meaning: Meaning) -> Option<Base>
     }
 }
 
-fn bits_of(base: Base) -> u8
+/// How many bits the numbers of a type have.
+pub fn bits_of(base: Base) -> u8
     ensures bits { result ≡ 8 * base_size base }
     ensures few { result ≤ 64 }
 {

@@ -1,8 +1,11 @@
 //! The ids of a table's fields name each slot once, or are wrong.
 ghost use Rattle.std.specs.Prelude.{◌≡◌, ◌<◌, ◌-◌, ◌^◌, IfOk, IfSome, IsSome, map, true, false};
+ghost use Rattle.std.specs.Prelude.{◌⊎◌, None, Some, not};
+ghost use Rattle.fb_resolve.specs.declared.ids.WrongIds.TheVariants.{Twice};
+ghost use Rattle.std.specs.List.{position};
 ghost use Rattle.std.specs.Option.{is_some};
 ghost use Rattle.fb_resolve.specs.SlotsRead.{union_in};
-ghost use Rattle.fb_resolve.specs.Ids.{slot_by_id, have_all_ids, numbers_by_id, are_places};
+ghost use Rattle.fb_resolve.specs.Ids.{slot_by_id, has_no_slot, numbers_by_id, are_places, IsWrongNumber, AreWrongBy};
 ghost use Rattle.fb_resolve.specs.Ids.{have_ids, AreSlots, are_ids_wrong, slots_by_id, slots_read, AreInPlace};
 ghost use Rattle.fb_schema.specs.Seen.{field_seen};
 
@@ -11,6 +14,18 @@ use crate::slots::{push_slots, slot_count, slots_in_order, union_in};
 use fb_schema::FieldInfo;
 use std::alloc::{AllocError, Global};
 
+/// Why the ids of a table's fields don't name each of its slots once.
+#[derive(Clone, Copy, Debug, PartialEq, Eq, Drop)]
+pub enum WrongIds {
+    /// The field at this place in the table is the first whose id gives it no slot: it has no id, or one that is no
+    /// number from 0 on, or it is a union and its id is 0.
+    NoSlot(usize),
+    /// More than one field takes this slot.
+    Twice(u64),
+    /// No field takes this slot, and the fields take more slots than its number.
+    Missing(u64),
+}
+
 /// The slots that the fields of a table take.
 #[derive(Clone, Copy, Drop)]
 pub(crate) enum Slots {
@@ -18,8 +33,8 @@ pub(crate) enum Slots {
     InOrder,
     /// The ids name each once.
     ById,
-    /// The ids do not name each once.
-    Wrong,
+    /// The ids don't name each once.
+    Wrong(WrongIds),
 }
 
 /// The first slot of a field by its id, which is that of its value.
@@ -34,40 +49,64 @@ fn slot_by_id(resolved: &ResolvedField<'_, '_>) -> Option<u64>
     }
 }
 
-/// The numbers of the slots that fields take by their ids, if each has one.
+/// The place of the first field whose id gives it no slot.
+fn first_without_slot(fields: &[ResolvedField<'_, '_>]) -> Option<usize>
+    ensures { result ≡ position has_no_slot fields.now }
+{
+    fields.iter().position(|field| slot_by_id(field).is_none())
+}
+
+/// The numbers of the slots that fields take by their ids.
 #[tactic(auto, unfolding(crate::specs::SlotsRead::slots_of_field))]
-fn numbers_by_id(
-    alloc: Global,
-    fields: &[ResolvedField<'_, '_>],
-) -> Result<Option<Vec<u64>>, AllocError>
-    ensures named { IfOk result (λ o. is_some o ≡ have_all_ids fields.now) }
-    ensures numbers { IfOk result (λ o. IfSome o (λ v. v.items ≡ numbers_by_id fields.now)) }
+fn numbers_by_id(alloc: Global, fields: &[ResolvedField<'_, '_>]) -> Result<Vec<u64>, AllocError>
+    ensures { IfOk result (λ v. v.items ≡ numbers_by_id fields.now) }
 {
     let mut numbers = Vec::with_capacity(alloc, fields.len())?;
     for field in fields {
-        let Some(first) = slot_by_id(field) else {
-            return Ok(None);
-        };
+        let first = slot_by_id(field).unwrap_or(0);
         numbers.push(first)?;
         if union_in(field).is_some() {
             numbers.push(first + 1)?;
         }
     }
-    Ok(Some(numbers))
+    Ok(numbers)
 }
 
-/// Whether the numbers are 0, 1, .. without gap or repeat, in any order.
-fn are_places(alloc: Global, numbers: &[u64]) -> Result<bool, AllocError>
-    ensures { IfOk result (λ b. b ≡ are_places numbers.now) }
+/// The first place that isn't taken.
+fn first_free(taken: &[bool]) -> Option<usize>
+    ensures { result ≡ position not taken.now }
+{
+    taken.iter().position(|taken| !*taken)
+}
+
+/// The number that was met twice first, after one more, which was met before or not.
+fn first_twice(twice: Option<WrongIds>, again: bool, number: u64) -> Option<WrongIds>
+    ensures { (result ≡ twice) ⊎ ((again ≡ true) × (result ≡ Some (Twice number))) }
+{
+    match twice {
+        None if again => Some(WrongIds::Twice(number)),
+        _ => twice,
+    }
+}
+
+/// What keeps numbers from being 0, 1, .. without gap or repeat, in any order.
+fn wrong_number(alloc: Global, numbers: &[u64]) -> Result<Option<WrongIds>, AllocError>
+    ensures right { IfOk result (λ found. found ≡ None → are_places numbers.now ≡ true) }
+    ensures wrong { IfOk result (λ found. IfSome found (IsWrongNumber numbers.now)) }
 {
     let mut taken = vec![in alloc; false; numbers.len()]?;
+    let mut twice = None;
     for number in numbers {
-        let number = *number as usize;
-        if number < taken.len() {
-            taken[number] = true;
+        let place = *number as usize;
+        if place < taken.len() {
+            twice = first_twice(twice, taken[place], *number);
+            taken[place] = true;
         }
     }
-    Ok(taken.iter().all(|taken| *taken))
+    let Some(free) = first_free(taken.as_slice()) else {
+        return Ok(None);
+    };
+    Ok(Some(twice.unwrap_or(WrongIds::Missing(free as u64))))
 }
 
 fn have_ids(fields: &[ResolvedField<'_, '_>]) -> bool
@@ -85,19 +124,27 @@ impl Slots {
         if !have_ids(fields) {
             return Ok(Slots::InOrder);
         }
-        match numbers_by_id(alloc, fields)? {
-            Some(numbers) if are_places(alloc, numbers.as_slice())? => Ok(Slots::ById),
-            _ => Ok(Slots::Wrong),
+        if let Some(place) = first_without_slot(fields) {
+            return Ok(Slots::Wrong(WrongIds::NoSlot(place)));
         }
+        let numbers = numbers_by_id(alloc, fields)?;
+        Ok(match wrong_number(alloc, numbers.as_slice())? {
+            Some(wrong) => Slots::Wrong(wrong),
+            None => Slots::ById,
+        })
     }
 }
 
-/// Whether a table's fields have ids that do not name each slot of theirs once.
+/// Why a table's fields have ids that don't name each of its slots once, if they have.
 #[tactic(auto, unfolding(crate::specs::Ids::are_ids_wrong))]
-pub fn are_ids_wrong(table: &ResolvedTable<'_, '_>) -> bool
-    ensures { result ≡ are_ids_wrong table.now.fields }
+pub fn wrong_ids(table: &ResolvedTable<'_, '_>) -> Option<WrongIds>
+    ensures why { IfSome result (AreWrongBy table.now.fields) }
+    ensures wrong { is_some result ≡ are_ids_wrong table.now.fields }
 {
-    matches!(table.slots, Slots::Wrong)
+    match table.slots {
+        Slots::Wrong(wrong) => Some(wrong),
+        _ => None,
+    }
 }
 
 /// The slots of a table, each at the place of its number. The only error is a refused allocation.
@@ -120,6 +167,6 @@ pub fn table_slots(
             slots.sort_by_key(|slot| slot.slot)?;
             Ok(slots)
         }
-        Slots::Wrong => unreachable!(),
+        Slots::Wrong(_) => unreachable!(),
     }
 }

@@ -17,11 +17,11 @@ mod type_uses;
 mod value_names;
 mod walk;
 
-pub use attributes::{FieldAttributes, is_alignment};
-pub use basic_types::is_reserved;
+pub use attributes::{FieldAttributes, is_alignment, is_left_out};
+pub use basic_types::{BASIC_TYPES, base_named, is_float, is_reserved};
 pub use defaults::Given;
-pub use enum_values::{EnumValues, integer_type, may_be_written, values_over};
-pub use ids::{are_ids_wrong, table_slots};
+pub use enum_values::{EnumValues, bits_of, integer_type, may_be_written, values_over};
+pub use ids::{WrongIds, table_slots, wrong_ids};
 pub use meanings::{Meaning, type_name};
 pub use members::{is_table, member_read, table_of};
 pub use outline::{Outline, RootRead, TypeRead, name_of_type, word_of};

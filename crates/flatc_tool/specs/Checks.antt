@@ -1,21 +1,30 @@
 -- What a check of a schema text, and of a buffer under it, answers.
-use Rattle.std.specs.Prelude.{ℕ, List, Bool, Option, None, Some}
+use Rattle.std.specs.Prelude.{ℕ, List, Bool, false, Option, None, Some}
 use Rattle.fb_layout.specs.Laid.{LaidSchema}
 use Rattle.fb_value.specs.Bounds.{Bounds}
 use Rattle.fb_value.specs.Datum.{Datum}
 use Rattle.fb_value.specs.Num.{Bytes}
-use Rattle.fb_value.specs.Holds.{Holds, Refuses}
+use Rattle.fb_value.specs.Holds.{HoldsFramed, RefusesFramed}
 use Rattle.fb_declare.specs.SchemaTexts.{IsAccepted, IsRefused}
 use Rattle.fb_faults.specs.declared.faults.ToolFault.{ToolFault}
 use Rattle.fb_faults.specs.declared.faults.ToolFault.TheVariants.{Schema, Read}
 
--- The schema is accepted and, where there are bytes, a value lies in them.
+-- The schema is accepted and, where there are bytes, a value lies in them, with a count in front or without.
+abbrev pub IsSoundFramed : Bool → List ℕ → Option Bytes → Bounds → Bool → Type 0
+IsSoundFramed prefixed schema None most raw = (L : LaidSchema) × IsAccepted schema L
+IsSoundFramed prefixed schema (Some b) most raw =
+    (L : LaidSchema) × IsAccepted schema L × (v : Datum) × HoldsFramed prefixed L most raw b v
+
+-- the bytes are a buffer alone
 abbrev pub IsSound : List ℕ → Option Bytes → Bounds → Bool → Type 0
-IsSound schema None most raw = (L : LaidSchema) × IsAccepted schema L
-IsSound schema (Some b) most raw = (L : LaidSchema) × IsAccepted schema L × (v : Datum) × Holds L most raw b v
+IsSound schema bytes most raw = IsSoundFramed false schema bytes most raw
 
 -- The refusal of the schema, else the least fault of the bytes, for which no memory is taken.
+abbrev pub CheckRefusedFramed : Bool → List ℕ → Option Bytes → Bounds → Bool → ToolFault → Type 0
+CheckRefusedFramed prefixed schema bytes most raw (Schema f) = IsRefused schema f
+CheckRefusedFramed prefixed schema (Some b) most raw (Read f) =
+    (L : LaidSchema) × IsAccepted schema L × RefusesFramed prefixed L most raw b f
+CheckRefusedFramed prefixed schema bytes most raw _ = ⊥
+
 abbrev pub CheckRefused : List ℕ → Option Bytes → Bounds → Bool → ToolFault → Type 0
-CheckRefused schema bytes most raw (Schema f) = IsRefused schema f
-CheckRefused schema (Some b) most raw (Read f) = (L : LaidSchema) × IsAccepted schema L × Refuses L most raw b f
-CheckRefused schema bytes most raw _ = ⊥
+CheckRefused schema bytes most raw f = CheckRefusedFramed false schema bytes most raw f

@@ -28,6 +28,11 @@ use Rattle.fb_faults.specs.declared.faults.ToolFault.{ToolFault}
 use Rattle.fb_faults.specs.declared.faults.ToolFault.TheVariants.{Schema, Json, Build, Read, Text, Older, Newer}
 use Rattle.fb_faults.specs.declared.faults.ToolFault.TheVariants.{BadJson, Memory}
 
+-- The refusal of the schema, which is checked first, or one under its layout.
+abbrev pub RefusedUnder : List ℕ → (LaidSchema → ToolFault → Type 0) → ToolFault → Type 0
+RefusedUnder schema R (Schema f) = IsRefused schema f
+RefusedUnder schema R f = OfLayout schema (λ L. R L f)
+
 -- ---- JSON to a buffer
 
 -- the JSON text means the value under the layout
@@ -54,13 +59,13 @@ pub record IsBinaryFramed (prefixed : Bool) (L : LaidSchema) (json : List ℕ) (
   pub aligned : EndsAlignedFramed prefixed L b
   pub short : length b ≤ framed_room prefixed L value
 
--- a buffer alone
-abbrev pub IsBinaryOf : LaidSchema → List ℕ → Bounds → Bool → Bytes → Type 0
-IsBinaryOf L json most unknown b = IsBinaryFramed false L json most unknown b
-
 -- the bytes of a JSON text under a schema text
+abbrev pub IsBinaryUnder : Bool → List ℕ → List ℕ → Bounds → Bool → Bytes → Type 0
+IsBinaryUnder prefixed schema json most unknown b = OfLayout schema (λ L. IsBinaryFramed prefixed L json most unknown b)
+
+-- a buffer alone
 abbrev pub IsBinary : List ℕ → List ℕ → Bounds → Bool → Bytes → Type 0
-IsBinary schema json most unknown b = OfLayout schema (λ L. IsBinaryOf L json most unknown b)
+IsBinary schema json most unknown b = IsBinaryUnder false schema json most unknown b
 
 -- the JSON means a value that isn't too big
 pub record MayBeBinaryFramed (prefixed : Bool) (L : LaidSchema) (json : List ℕ) (most : Bounds) (unknown : Bool)
@@ -69,12 +74,9 @@ pub record MayBeBinaryFramed (prefixed : Bool) (L : LaidSchema) (json : List ℕ
   pub means : JsonMeans L most unknown json value
   pub small : framed_room prefixed L value ≤ most_room
 
-abbrev pub MayBeBinaryOf : LaidSchema → List ℕ → Bounds → Bool → Type 0
-MayBeBinaryOf L json most unknown = MayBeBinaryFramed false L json most unknown
-
 -- an accepted schema under which it does
 abbrev pub MayBeBinary : List ℕ → List ℕ → Bounds → Bool → Type 0
-MayBeBinary schema json most unknown = OfLayout schema (λ L. MayBeBinaryOf L json most unknown)
+MayBeBinary schema json most unknown = OfLayout schema (λ L. MayBeBinaryFramed false L json most unknown)
 
 -- The refusal of the first layer that refuses, in the order JSON text, value, size; of a tree that breaks rules its
 -- first fault. Where a layer runs out of memory, the layers before it have passed; `Memory` alone is of the reading of
@@ -90,13 +92,12 @@ BinaryRefusedFramed prefixed L json most unknown (Build the_build.Memory) =
 BinaryRefusedFramed prefixed L json most unknown Memory = Unit {0}
 BinaryRefusedFramed prefixed L json most unknown _ = ⊥
 
-abbrev pub BinaryRefusedOf : LaidSchema → List ℕ → Bounds → Bool → ToolFault → Type 0
-BinaryRefusedOf L json most unknown f = BinaryRefusedFramed false L json most unknown f
+abbrev pub BinaryRefusedUnder : Bool → List ℕ → List ℕ → Bounds → Bool → ToolFault → Type 0
+BinaryRefusedUnder prefixed schema json most unknown f =
+    RefusedUnder schema (λ L. BinaryRefusedFramed prefixed L json most unknown) f
 
--- The refusal of the schema, which is checked first, or one under its layout.
 abbrev pub BinaryRefused : List ℕ → List ℕ → Bounds → Bool → ToolFault → Type 0
-BinaryRefused schema json most unknown (Schema f) = IsRefused schema f
-BinaryRefused schema json most unknown f = OfLayout schema (λ L. BinaryRefusedOf L json most unknown f)
+BinaryRefused schema json most unknown f = BinaryRefusedUnder false schema json most unknown f
 
 -- ---- a buffer to JSON
 
@@ -113,13 +114,14 @@ pub record IsTextFramed (compact prefixed : Bool) (L : LaidSchema) (b : Bytes) (
   pub whole : is_whole value ≡ true
   pub spelled : text ≡ spaced_text (spacing_of compact) L defaults value
 
--- the indented text of a buffer alone
-abbrev pub IsTextOf : LaidSchema → Bytes → Bounds → Bool → Bool → List ℕ → Type 0
-IsTextOf L b most raw defaults text = IsTextFramed false false L b most raw defaults text
-
 -- the text of the value that the bytes hold under a schema text
+abbrev pub IsTextUnder : Bool → Bool → List ℕ → Bytes → Bounds → Bool → Bool → List ℕ → Type 0
+IsTextUnder compact prefixed schema b most raw defaults text =
+    OfLayout schema (λ L. IsTextFramed compact prefixed L b most raw defaults text)
+
+-- the indented text of a buffer alone
 abbrev pub IsText : List ℕ → Bytes → Bounds → Bool → Bool → List ℕ → Type 0
-IsText schema b most raw defaults text = OfLayout schema (λ L. IsTextOf L b most raw defaults text)
+IsText schema b most raw defaults text = IsTextUnder false false schema b most raw defaults text
 
 -- the bytes hold a value whose codes the schema knows
 pub record MayBeTextFramed (prefixed : Bool) (L : LaidSchema) (b : Bytes) (most : Bounds) (raw : Bool) : Type 0 where
@@ -127,12 +129,12 @@ pub record MayBeTextFramed (prefixed : Bool) (L : LaidSchema) (b : Bytes) (most 
   pub holds : HoldsFramed prefixed L most raw b value
   pub whole : is_whole value ≡ true
 
-abbrev pub MayBeTextOf : LaidSchema → Bytes → Bounds → Bool → Type 0
-MayBeTextOf L b most raw = MayBeTextFramed false L b most raw
-
 -- an accepted schema under which they do
+abbrev pub MayBeTextUnder : Bool → List ℕ → Bytes → Bounds → Bool → Type 0
+MayBeTextUnder prefixed schema b most raw = OfLayout schema (λ L. MayBeTextFramed prefixed L b most raw)
+
 abbrev pub MayBeText : List ℕ → Bytes → Bounds → Bool → Type 0
-MayBeText schema b most raw = OfLayout schema (λ L. MayBeTextOf L b most raw)
+MayBeText schema b most raw = MayBeTextUnder false schema b most raw
 
 -- The least fault of the bytes, or the first code in the value that has no name.
 -- Memory is asked for only for the text of a whole value.
@@ -142,13 +144,11 @@ TextRefusedFramed prefixed L b most raw (Text f) =
     (v : Datum) × HoldsFramed prefixed L most raw b v × IsUnnamed (type_place L.schema.root) v f
 TextRefusedFramed prefixed L b most raw _ = ⊥
 
-abbrev pub TextRefusedOf : LaidSchema → Bytes → Bounds → Bool → ToolFault → Type 0
-TextRefusedOf L b most raw f = TextRefusedFramed false L b most raw f
+abbrev pub TextRefusedUnder : Bool → List ℕ → Bytes → Bounds → Bool → ToolFault → Type 0
+TextRefusedUnder prefixed schema b most raw f = RefusedUnder schema (λ L. TextRefusedFramed prefixed L b most raw) f
 
--- The refusal of the schema, which is checked first, or one under its layout.
 abbrev pub TextRefused : List ℕ → Bytes → Bounds → Bool → ToolFault → Type 0
-TextRefused schema b most raw (Schema f) = IsRefused schema f
-TextRefused schema b most raw f = OfLayout schema (λ L. TextRefusedOf L b most raw f)
+TextRefused schema b most raw f = TextRefusedUnder false schema b most raw f
 
 -- ---- memory
 

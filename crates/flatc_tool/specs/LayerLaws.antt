@@ -1,5 +1,5 @@
 -- The laws of the layers that the tool's promises are composed from. Each is a public law of the layer's crate.
-use Rattle.fb_declare.specs.SchemaLaws.{SchemaLaws}
+use Rattle.fb_declare.specs.SchemaLaws.{RefusedTextHasNoLayout, TextHasOneLayout}
 use Rattle.fb_value.specs.Laws.{OneValue, ValueOrFault, OneLeastFault, FitsWhereHeld}
 use Rattle.fb_value.specs.Messages.{OneMessageInFront, MessageIsWhole, HeldIsMessage}
 use Rattle.fb_json.specs.Laws.{AllThatIsMeant, MeantIsWhole, OnlyWhatIsMeant}
@@ -7,7 +7,8 @@ use Rattle.fb_conform.specs.Laws.{CarriedHolds, CarriedFits, BackHolds, Conforms
 use Rattle.fb_conform.specs.Laws.{NamesCarry, MeansCarried}
 
 pub record LayerLaws : Type 0 where
-  pub schema : SchemaLaws
+  pub one_layout : TextHasOneLayout
+  pub no_layout : RefusedTextHasNoLayout
   pub one_value : OneValue
   pub value_or_fault : ValueOrFault
   pub one_least_fault : OneLeastFault

@@ -12,10 +12,10 @@ use Rattle.fb_json.specs.Meant.{type_place}
 use Rattle.fb_text.specs.Unnamed.{IsRefused as IsUnnamed}
 use Rattle.fb_text.specs.Writes.{counted}
 use Rattle.fb_text.specs.declared.faults.WriteFault.TheVariants.{NoMemberName, WriteFailed}
-use Rattle.fb_declare.specs.SchemaTexts.{IsRefused, OfLayout}
-use Rattle.flatc_tool.specs.Jobs.{IsTextFramed, IsNotMemory}
+use Rattle.fb_declare.specs.SchemaTexts.{OfLayout}
+use Rattle.flatc_tool.specs.Jobs.{IsTextFramed, IsNotMemory, RefusedUnder}
 use Rattle.fb_faults.specs.declared.faults.ToolFault.{ToolFault}
-use Rattle.fb_faults.specs.declared.faults.ToolFault.TheVariants.{Schema, Read, Text, Write}
+use Rattle.fb_faults.specs.declared.faults.ToolFault.TheVariants.{Read, Text, Write}
 
 -- All of the text of the bytes under a layout, which is UTF-8, was written behind the bytes of the start.
 abbrev pub IsSentFramed : Bool → Bool → LaidSchema → Bytes → Bounds → Bool → Bool → Option (List ℕ) → Option (List ℕ)
@@ -23,13 +23,15 @@ abbrev pub IsSentFramed : Bool → Bool → LaidSchema → Bytes → Bounds → 
 IsSentFramed compact prefixed L b most raw defaults start known =
     (text : List ℕ) × IsTextFramed compact prefixed L b most raw defaults text × IsUtf8 text × Appends start known text
 
--- the indented text of a buffer alone
-abbrev pub IsSentOf : LaidSchema → Bytes → Bounds → Bool → Bool → Option (List ℕ) → Option (List ℕ) → Type 0
-IsSentOf L b most raw defaults start known = IsSentFramed false false L b most raw defaults start known
-
 -- the same under a schema text
+abbrev pub IsSentUnder : Bool → Bool → List ℕ → Bytes → Bounds → Bool → Bool → Option (List ℕ) → Option (List ℕ)
+    → Type 0
+IsSentUnder compact prefixed schema b most raw defaults start known =
+    OfLayout schema (λ L. IsSentFramed compact prefixed L b most raw defaults start known)
+
+-- the indented text of a buffer alone
 abbrev pub IsSent : List ℕ → Bytes → Bounds → Bool → Bool → Option (List ℕ) → Option (List ℕ) → Type 0
-IsSent schema b most raw defaults start known = OfLayout schema (λ L. IsSentOf L b most raw defaults start known)
+IsSent schema b most raw defaults start known = IsSentUnder false false schema b most raw defaults start known
 
 -- The least fault of the bytes, or the first union's code without a name; else a write failed behind the first bytes
 -- of the text, as many as it counts.
@@ -44,15 +46,14 @@ PrintRefusedFramed compact prefixed L b most raw defaults start known (Write (Wr
     × Appends start known (take m text) × (n ≡ counted m)
 PrintRefusedFramed compact prefixed L b most raw defaults start known _ = ⊥
 
-abbrev pub PrintRefusedOf : LaidSchema → Bytes → Bounds → Bool → Bool → Option (List ℕ) → Option (List ℕ) → ToolFault
-    → Type 0
-PrintRefusedOf L b most raw defaults start known f = PrintRefusedFramed false false L b most raw defaults start known f
+abbrev pub PrintRefusedUnder : Bool → Bool → List ℕ → Bytes → Bounds → Bool → Bool → Option (List ℕ) → Option (List ℕ)
+    → ToolFault → Type 0
+PrintRefusedUnder compact prefixed schema b most raw defaults start known f =
+    RefusedUnder schema (λ L. PrintRefusedFramed compact prefixed L b most raw defaults start known) f
 
--- The refusal of the schema, which is checked first, or one under its layout.
 abbrev pub PrintRefused : List ℕ → Bytes → Bounds → Bool → Bool → Option (List ℕ) → Option (List ℕ) → ToolFault → Type 0
-PrintRefused schema b most raw defaults start known (Schema f) = IsRefused schema f
 PrintRefused schema b most raw defaults start known f =
-    OfLayout schema (λ L. PrintRefusedOf L b most raw defaults start known f)
+    PrintRefusedUnder false false schema b most raw defaults start known f
 
 -- a failed write is told exactly where the last write failed
 abbrev pub TellsFailure : {A : Type 0} → Bool → Result A ToolFault → Type 0

@@ -1,4 +1,4 @@
-//! What holds of the tool's answers together.
+//! What holds of the tool's answers together, of buffers alone and of size-prefixed ones.
 ghost use Rattle.flatc_tool.specs.Headline.{JsonIsCarried, OtherJsonIsRefused, OthersAreRefused};
 ghost use Rattle.flatc_tool.specs.Chains.{OldProgramsRead, ChainsConform, ChainsCarry};
 ghost use Rattle.flatc_tool.specs.Names.{OldTextsAreRead, OldTextsAreCarried};
@@ -6,10 +6,10 @@ ghost use Rattle.flatc_tool.specs.Streams.{StreamsAreSplit};
 
 use crate::laws::layer_laws;
 
-/// Whatever bytes `to_binary` returns for a schema and a JSON text hold the value that the JSON
-/// means and no other, with only slots in use; `to_json`, `check`, `verify` and `read` return for
-/// them what is that value's, or run out of memory, and so does `to_json` under a new schema that
-/// conforms.
+/// Whatever bytes `to_binary` or `encode` returns for a schema and a JSON text hold the value that the
+/// JSON means and no other, with only slots in use. `to_json`, `decode`, `check`, `verify_framed` and
+/// `read_framed` return for them what is that value's, or run out of memory, and so do `to_json` and
+/// `decode` under a new schema that conforms.
 pub fn json_is_carried()
     ensures { JsonIsCarried }
 {
@@ -17,7 +17,7 @@ pub fn json_is_carried()
 }
 
 /// JSON that means no value is refused with its first fault, at its place, and a text that isn't JSON as such: by
-/// `to_binary`.
+/// `to_binary` and `encode`.
 pub fn other_json_is_refused()
     ensures { OtherJsonIsRefused }
 {
@@ -25,14 +25,14 @@ pub fn other_json_is_refused()
 }
 
 /// Bytes that encode no value are refused with the least fault, whose rule fails at a place that
-/// is reached: by `to_json`, `check` and `print_to`.
+/// is reached: by `to_json`, `decode`, `check`, `print_to` and `decode_to`.
 pub fn others_are_refused()
     ensures { OthersAreRefused }
 {
     layer_laws();
 }
 
-/// Whatever bytes `to_binary` returns under a new schema hold, under an old one that it conforms to,
+/// Whatever bytes `to_binary` or `encode` returns under a new schema hold, under an old one that it conforms to,
 /// the value without what the old one doesn't know.
 pub fn old_programs_read()
     ensures { OldProgramsRead }
@@ -47,8 +47,8 @@ pub fn chains_conform()
     layer_laws();
 }
 
-/// Whatever bytes `to_binary` returns under the first of schema texts that conform one by one hold,
-/// under the last, the value carried from each to the next.
+/// Whatever bytes `to_binary` or `encode` returns under the first of schema texts that conform one by
+/// one hold, under the last, the value carried from each to the next.
 pub fn chains_carry()
     ensures { ChainsCarry }
 {
@@ -63,8 +63,8 @@ pub fn old_texts_are_read()
     layer_laws();
 }
 
-/// Whatever bytes `to_binary` returns, under a new schema text that keeps names, for a JSON text that
-/// means a value under the old one hold that value, carried.
+/// Whatever bytes `to_binary` or `encode` returns, under a new schema text that keeps names, for a JSON
+/// text that means a value under the old one hold that value, carried.
 pub fn old_texts_are_carried()
     ensures { OldTextsAreCarried }
 {
@@ -72,7 +72,7 @@ pub fn old_texts_are_carried()
 }
 
 /// Size-prefixed buffers that `encode` returns, written one behind the other, are split by
-/// `split_prefixed` into exactly these.
+/// `split_prefixed` into exactly these. Of each the laws above hold, where `prefixed` is true.
 pub fn streams_are_split()
     ensures { StreamsAreSplit }
 {

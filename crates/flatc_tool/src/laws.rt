@@ -5,7 +5,7 @@ use fb_conform::{
     back_holds, carried_fits, carried_holds, carries_on, conforms_on, kept_unless_moved,
     means_carried, names_carry,
 };
-use fb_declare::schema_laws;
+use fb_declare::{refused_text_has_no_layout, text_has_one_layout};
 use fb_json::{all_that_is_meant, meant_is_whole, only_what_is_meant};
 use fb_value::{
     fits_where_held, held_is_message, message_is_whole, one_least_fault, one_message_in_front,
@@ -17,7 +17,8 @@ use fb_value::{
 pub(crate) fn layer_laws()
     ensures laws { LayerLaws }
 {
-    schema_laws();
+    text_has_one_layout();
+    refused_text_has_no_layout();
     one_value();
     value_or_fault();
     one_least_fault();

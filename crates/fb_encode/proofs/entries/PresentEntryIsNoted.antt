@@ -89,10 +89,6 @@ module _ (L : LaidSchema) (f : DeclaredField) (c : ℕ) (m : Meaner) (at : Place
         → used_meant L f c (Some m) at levels left f.shape ≡ Err (UnionMismatch at)
     mismatch_refused none = mismatch_by c f.shape union none
 
-  pub code_given : (u : TypeId) → f.shape ≡ One (Code u)
-      → used_meant L f c (Some m) at levels left f.shape ≡ Ok (None, left)
-  code_given u code = rw code refl
-
 -- ---- a reference
 
 part_refers : (L : LaidSchema) (shape : StoredShape) → IsPart L shape → is_reference shape ≡ true

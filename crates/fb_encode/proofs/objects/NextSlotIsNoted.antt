@@ -1,6 +1,6 @@
 -- The next slot is noted: it has no text, or one that isn't null.
-use Rattle.std.proofs.Common.{◌≡◌, ◌≢◌, ◌∙◌, ◌++◌, ◌∷◌, [], ℕ, Bool, true, false, List, Option, None, Some, Result, Ok}
-use Rattle.std.proofs.Common.{◌-◌, Err, OnOk, ap, pos, refl, sym}
+use Rattle.std.proofs.Common.{◌≡◌, ◌≢◌, ◌∙◌, ◌++◌, ◌∷◌, [], ℕ, Bool, true, false, List, Option, None, Some, Ok}
+use Rattle.std.proofs.Common.{◌-◌, ap, pos, refl, sym}
 use Rattle.serde_json.specs.Data.{Data, null, boolean, number, string, array, object}
 use Rattle.fb_schema.specs.declared.kinds.Kind.TheVariants.{Scalar, Enum, Struct, Table, Union, Code, Text}
 use Rattle.fb_schema.specs.declared.kinds.Base.TheVariants.{U8}
@@ -27,10 +27,6 @@ use Rattle.fb_encode.proofs.entries.PresentEntryIsNoted.{mismatch_refused, part_
 use Rattle.fb_encode.proofs.entries.PresentEntryIsNoted.{reference_noted}
 use Rattle.fb_encode.proofs.entries.SlotStoresNothing.{given_nothing, nothing_noted, unused_nothing}
 use Rattle.fb_encode.proofs.tables.SlotsAreNoted.{entry_by}
-
-pub on_ok : {A E : Type 0} (r : Result A E) (P : Type 0) → P → OnOk r P
-on_ok (Ok x) P holds = holds
-on_ok (Err e) P holds = tt
 
 -- where a slot has a text, it is in use
 pub used_by : (b : Bool) {A : Type 0} (o : Option A) (x : A) → (b ≡ true → o ≡ None) → o ≡ Some x → b ≡ false
@@ -92,10 +88,10 @@ module _ (L : LaidSchema) (f : DeclaredField) (seen : Look) (k code levels left 
       → code_after L.schema seen at code f.deprecated f.name f.shape ≡ Ok code → (x : Option Datum)
       → entry_meant L seen f at code levels left ≡ Ok (x, left) → (a : Taped) (opens : List OpenField)
       → a.unfinished ≡ [] → NextIs a a opens opens left
-  absent_next marks unknown none told x given a opens whole =
+  absent_next marks unknown none coded x given a opens whole =
       let nothing = given_nothing L f marks unknown code at levels left x left
       (sym (entry_by L unknown seen f None at code levels left none) ∙ given) in
-      (told, nothing_noted L k (slot_of L.schema f) _ x left a opens whole given nothing)
+      (coded, nothing_noted L k (slot_of L.schema f) _ x left a opens whole given nothing)
 
   -- a slot whose member isn't null
   module _ (used : f.deprecated ≡ false) (unknown : Bool) (t : Data) (apart : t ≢ null)
@@ -111,14 +107,14 @@ module _ (L : LaidSchema) (f : DeclaredField) (seen : Look) (k code levels left 
 
     -- of a reference's shape
     module _ (part : IsPart L (stored_shape L.schema f.shape)) where
-      told_plain : code_after L.schema seen at code f.deprecated f.name f.shape ≡ Ok code
-      told_plain = code_plain L.schema seen at code f.deprecated f.name f.shape (part_plain L f.shape part)
+      code_is_plain : code_after L.schema seen at code f.deprecated f.name f.shape ≡ Ok code
+      code_is_plain = code_plain L.schema seen at code f.deprecated f.name f.shape (part_plain L f.shape part)
 
       pub reference_next : (a b : Taped) (before now : List OpenField) (rest : ℕ)
           → IsNoted L (stored_shape L.schema f.shape) (meant L unknown t f.shape at levels left) a b rest
           → now ≡ before ++ (reference_field k ∷ []) → NextIs a b before now rest
       reference_next a b before now rest noted pushed = (
-        told_plain,
+        code_is_plain,
         reference_noted L k f used _ a b before now rest (meant L unknown t f.shape at levels left) part
             (λ d h. entry_is ∙ plain_given L f code (meant L unknown t) at levels left (part_plain L f.shape part) d
             rest h) noted pushed,
@@ -126,13 +122,13 @@ module _ (L : LaidSchema) (f : DeclaredField) (seen : Look) (k code levels left 
 
       pub reference_fails : (e : JsonFault) → Fails e (meant L unknown t f.shape at levels left) → NextFails e
       reference_fails e fails =
-          fails_by e _ _ (λ h. rw told_plain (entry_is ∙ h))
+          fails_by e _ _ (λ h. rw code_is_plain (entry_is ∙ h))
           (plain_refused L f code (meant L unknown t) at levels left (part_plain L f.shape part) e fails)
 
     -- of a union
     module _ (u : TypeId) (union : f.shape ≡ One (Union u)) where
-      told_before : code_after L.schema seen at code f.deprecated f.name f.shape ≡ Ok code
-      told_before =
+      code_is_before : code_after L.schema seen at code f.deprecated f.name f.shape ≡ Ok code
+      code_is_before =
           ap (code_after L.schema seen at code f.deprecated f.name) union
           ∙ code_union L.schema seen at code f.deprecated f.name u
 
@@ -142,7 +138,7 @@ module _ (L : LaidSchema) (f : DeclaredField) (seen : Look) (k code levels left 
           → AddsInlineField L (k - 1) (scalar_kind U8) (a_number (pos code)) before coded
           → now ≡ coded ++ (reference_field k ∷ []) → NextIs a b before now rest
       member_next m known a b before coded now rest noted code_pushed pushed = (
-        told_before,
+        code_is_before,
         member_noted L k f used _ a b before now rest
             (meant L unknown t (One (Table (record { 0 = m }))) at levels left) u m code union known
             (λ d h. entry_is ∙ member_given L f code (meant L unknown t) at levels left u union m known d rest h)
@@ -152,9 +148,9 @@ module _ (L : LaidSchema) (f : DeclaredField) (seen : Look) (k code levels left 
       pub member_fails : (m : ℕ) → member_by_code L u.0 code ≡ Some m → (e : JsonFault)
           → Fails e (meant L unknown t (One (Table (record { 0 = m }))) at levels left) → NextFails e
       member_fails m known e fails =
-          fails_by e _ _ (λ h. rw told_before (entry_is ∙ h))
+          fails_by e _ _ (λ h. rw code_is_before (entry_is ∙ h))
           (member_refused L f code (meant L unknown t) at levels left u union m known e fails)
 
       pub mismatch_fails : member_by_code L u.0 code ≡ None → NextFails (UnionMismatch at)
       mismatch_fails none =
-          rw told_before (entry_is ∙ mismatch_refused L f code (meant L unknown t) at levels left u union none)
+          rw code_is_before (entry_is ∙ mismatch_refused L f code (meant L unknown t) at levels left u union none)

@@ -1,5 +1,6 @@
 -- The text at a slot is that of the member which a look-up of its name finds.
-use Rattle.std.proofs.Common.{◌≡◌, ◌∙◌, ◌+◌, ◌≤◌, ◌<◌, ℕ, Bool, true, false, List, Option, None, Some, IfSome, length}
+use Rattle.std.proofs.Common.{◌≡◌, ◌∙◌, ◌+◌, ◌≤◌, ◌<◌, ◌∷◌, [], ℕ, zero, suc, Bool, true, false, List}
+use Rattle.std.proofs.Common.{Option, None, Some, IfSome, drop, length}
 use Rattle.std.proofs.Common.{get_or, option_map, slice_get, Ordering, Less, Equal, Greater, nat_cmp, refl, sym, ap}
 use Rattle.std.proofs.Common.{◌==◌, arith}
 use Rattle.std.specs.Ordering.{match_ordering}
@@ -13,7 +14,7 @@ use Rattle.fb_layout.specs.Laid.{LaidSchema}
 use Rattle.fb_json.specs.Meant.{Meaner, look, meant}
 use Rattle.fb_encode.specs.declared.reader.Excerpt.{Excerpt}
 use Rattle.fb_encode.specs.MembersRead.{object_read}
-use Rattle.fb_encode.specs.SlotTexts.{AreTextsOf, excerpt_tree, text_found}
+use Rattle.fb_encode.specs.SlotTexts.{AreTextsOf, AreTextsRead, excerpt_tree, text_found}
 use Rattle.fb_encode.specs.TextsRead.{IsRead}
 use Rattle.fb_encode.proofs.objects.SlotsAreFound.{brackets_in}
 
@@ -47,6 +48,16 @@ pub record IsOwnText (L : LaidSchema) (unknown : Bool) (brackets : ℕ) (ms : Me
   pub few : brackets ≤ 127 → IfSome o (λ e. e.brackets ≤ 127)
   pub old : f.deprecated ≡ true → o ≡ None
   pub found : f.deprecated ≡ false → look L unknown ms f.name ≡ text_found L unknown o
+
+-- the texts before a place are read, and the others too
+pub all_read : (texts : List (Option Excerpt)) (k : ℕ)
+    → ((j : ℕ) (e : Excerpt) → j < k → slice_get texts j ≡ Some (Some e) → IsRead e.brackets e.text.now)
+    → AreTextsRead (drop k texts) → AreTextsRead texts
+all_read texts zero before rest j e at = rest j e at
+all_read [] (suc k) before rest j e at = cc
+all_read (o ∷ texts) (suc k) before rest zero e at = before 0 e (omega arith) at
+all_read (o ∷ texts) (suc k) before rest (suc j) e at =
+    all_read texts k (λ i f low is. before (suc i) f (omega (arith, low)) is) rest j e at
 
 module _ (texts : List (Option Excerpt)) (k : ℕ) (o : Option Excerpt) (within : k < length texts)
     (is : o ≡ get_or texts k o) where

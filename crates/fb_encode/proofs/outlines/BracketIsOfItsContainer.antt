@@ -1,7 +1,7 @@
--- A text that begins with a bracket, after blanks, is read as an array or an object.
+-- A text that begins with a bracket, brace or quote, after blanks, is read as an array, an object or a string.
 use Rattle.std.proofs.Common.{◌≡◌, ◌≢◌, ◌∙◌, ◌<◌, ◌+◌, ℕ, zero, suc, List, [], ◌∷◌, ◌++◌, Option, None, Some, length}
 use Rattle.std.proofs.Common.{take, drop}
-use Rattle.std.proofs.Common.{get_or, option_and_then, option_map, Bool, true, ◌==◌, ◌⊎◌, inl, inr, refl, ap, sym}
+use Rattle.std.proofs.Common.{get_or, option_and_then, option_map, Bool, true, false, ◌==◌, ◌⊎◌, inl, inr, refl, ap, sym}
 use Rattle.std.proofs.Common.{IfSome, arith, is_some, take-append-drop}
 use Rattle.std.proofs.Math.Seq.{drop-cons}
 use Rattle.std.specs.List.{list_all}
@@ -9,14 +9,16 @@ use Rattle.std.proofs.lemmas.Bool.{and_parts, eqb-true, or_cases}
 use Rattle.json.specs.Token.{Token}
 use Rattle.json.specs.Word.{is_space}
 use Rattle.json.specs.Json as json
-use Rattle.json.specs.Lex.{between, class, fresh, lex, lex_byte, punctuate, space, tokens}
+use Rattle.json.specs.Lex.{Lexeme, Place, after_value, begins_colon, between, class, fresh, in_string, lex}
+use Rattle.json.specs.Lex.{lex_byte, place_token, punctuate, space, string_token, token, tokens}
+use Rattle.json.specs.Text.{content, plain}
 use Rattle.serde_json.specs.Data.{Data, Items, Members, array, boolean, no_members, null, number, object, string}
 use Rattle.serde_json.specs.Read.{of_items, of_json, of_members}
 use Rattle.fb_pieces.specs.Blanks.{AreBlanks}
 use Rattle.fb_pieces.specs.Reads.{read_at}
 use Rattle.fb_encode.specs.Outlines.{IsOf}
 use Rattle.fb_encode.specs.declared.outlines.Container.{Container}
-use Rattle.fb_encode.specs.declared.outlines.Container.TheVariants.{Array, Object}
+use Rattle.fb_encode.specs.declared.outlines.Container.TheVariants.{Array, Object, String}
 
 blank_or : (x c : ℕ) (b : Bool) → class c ≡ space → (b ≡ true → class x ≡ space)
     → (b ≡ true) ⊎ ((x == c) ≡ true) → class x ≡ space
@@ -86,6 +88,31 @@ unfolding json.value
 brace_read zero ts t is = object_read None t is
 brace_read (suc levels) ts t is = object_read (json.members (json.value levels) (length ts) ts) t is
 
+string_read : (s : List ℕ) (ts : List Token) (t : Data) → read_of (Some (json.string s, ts)) ≡ Some t → IsOf String t
+string_read s [] null is = cc
+string_read s [] (boolean b) is = cc
+string_read s [] (number n) is = cc
+string_read s [] (string r) is = tt
+string_read s [] (array ds) is = cc
+string_read s [] (object ms) is = cc
+string_read s (u ∷ us) t is = cc
+
+-- A string before a colon is a key.
+named_read : (levels : ℕ) (s : List ℕ) (before_colon : Bool) (k : Place → List Token) (t : Data)
+    → read_of (json.value levels (place_token fresh (Token.string s) before_colon k)) ≡ Some t → IsOf String t
+unfolding json.value
+named_read zero s true k t is = cc
+named_read (suc levels) s true k t is = cc
+named_read zero s false k t is = string_read s (k after_value) t is
+named_read (suc levels) s false k t is = string_read s (k after_value) t is
+
+quote_read : (levels : ℕ) (found : Option (List ℕ)) (ls : List Lexeme) (t : Data)
+    → read_of (json.value levels (punctuate fresh (token (string_token found) ∷ ls))) ≡ Some t → IsOf String t
+unfolding json.value punctuate
+quote_read zero None ls t is = cc
+quote_read (suc levels) None ls t is = cc
+quote_read levels (Some s) ls t is = named_read levels s (begins_colon ls) (λ next. punctuate next ls) t is
+
 -- ---- the text
 
 bracket_first : (rest : List ℕ) → tokens (91 ∷ rest) ≡ Token.begin_array ∷ punctuate fresh (lex between rest)
@@ -95,6 +122,11 @@ bracket_first rest = refl
 brace_first : (rest : List ℕ) → tokens (123 ∷ rest) ≡ Token.begin_object ∷ punctuate fresh (lex between rest)
 unfolding lex punctuate
 brace_first rest = refl
+
+quote_first : (rest : List ℕ)
+    → tokens (34 ∷ rest) ≡ punctuate fresh (token (string_token (content plain rest)) ∷ lex in_string rest)
+unfolding lex
+quote_first rest = refl
 
 module _ (text : List ℕ) (at x : ℕ) (blanks : AreBlanks (take at text)) (within : at < length text)
     (is : get_or text at 0 ≡ x) where
@@ -123,11 +155,18 @@ module _ (text : List ℕ) (at x : ℕ) (blanks : AreBlanks (take at text)) (wit
       ∙ brace_first (drop (at + 1) text) in
       brace_read levels _ t (sym (ap (read_tokens levels) first) ∙ is)
 
+  pub quoted : x ≡ 34 → (levels : ℕ) (t : Data) → read_at levels text ≡ Some t → IsOf String t
+  quoted opens levels t is =
+      let rest = drop (at + 1) text in
+      let first = tokens_behind ∙ ap (λ (y : ℕ). tokens (y ∷ rest)) opens ∙ quote_first rest in
+      quote_read levels (content plain rest) (lex in_string rest) t (sym (ap (read_tokens levels) first) ∙ is)
+
 -- ---- a container isn't null
 
 null_is_none : (container : Container) → IsOf container null → ⊥
 null_is_none Array is = is
 null_is_none Object is = is
+null_is_none String is = is
 
 pub not_null : (text : List ℕ) (found : Option Container)
     → IfSome found (λ container. (levels : ℕ) (t : Data) → read_at levels text ≡ Some t → IsOf container t)

@@ -18,7 +18,7 @@ one_more n x =
     let same : n + 1 ≡ suc n = omega arith in
     sym (replicate_more n x ∙ ap (λ (m : ℕ). replicate m x) same)
 
--- so many opening brackets, the text, and as many closing ones
+-- n opening brackets, the text, and as many closing ones
 pub bracketed : (n : ℕ) (text : List ℕ) → replicate n 91 ++ (text ++ replicate n 93) ≡ in_brackets n text
 bracketed zero text = append-nil text
 bracketed (suc n) text =
@@ -29,7 +29,7 @@ bracketed (suc n) text =
     ap (λ (xs : List ℕ). 91 ∷ (replicate n 91 ++ (text ++ xs))) (one_more n 93)
     ∙ ap (λ (xs : List ℕ). 91 ∷ xs) inner
 
--- what stands between brackets is UTF-8 if the whole is
+-- a text between brackets is UTF-8 if the whole is
 pub utf8_within : (n : ℕ) (text : List ℕ) → IsUtf8 (in_brackets n text) → IsUtf8 text
 utf8_within zero text utf8 = utf8
 utf8_within (suc n) text utf8 =

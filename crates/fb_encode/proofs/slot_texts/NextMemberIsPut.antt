@@ -17,7 +17,7 @@ use Rattle.fb_encode.specs.declared.reader.Excerpt.{Excerpt}
 use Rattle.fb_encode.specs.MembersRead.{name_read}
 use Rattle.fb_encode.specs.SlotTexts.{text_over, texts_with}
 use Rattle.fb_encode.specs.TextsRead.{IsRead, IsReadAs}
-use Rattle.fb_encode.proofs.slot_texts.TextsAreAtTheirSlots.{ArePutSoFar, one_more, over_in_brackets}
+use Rattle.fb_encode.proofs.slot_texts.TextsAreAtTheirSlots.{ArePutSoFar, one_more}
 
 abbrev texts_before : List ℕ → List Member → ℕ → List (List ℕ × List ℕ)
 texts_before text members i = map (member_texts text) (take i members)
@@ -47,11 +47,6 @@ module _ (S : DeclaredSchema) (t : ℕ) (declared : IsDeclared S) (fs : List Dec
   found_here =
       found ∙ (ap (λ (b : ℕ). field_named (body_at S t) (name_read b name.text.now)) name_in
       ∙ ap (λ (n : List ℕ). field_named (body_at S t) (name_read brackets n)) name_is)
-
-  pub next_in_brackets : IfSome (text_over texts o value) (λ x. x.brackets ≡ brackets)
-  next_in_brackets =
-      over_in_brackets S t declared fs of unknown brackets texts known (texts_before text members i) so_far
-      (member_texts text (get_or members i d)) value value_is value_in named_here o found_here
 
   pub next_put : IfSome (text_over texts o value) (λ x. IsRead x.brackets x.text.now)
       → ArePutSoFar S t fs unknown brackets (texts_with texts o value)

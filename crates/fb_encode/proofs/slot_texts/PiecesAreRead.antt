@@ -1,17 +1,13 @@
 -- What a text is read as is what it is named to be.
-use Rattle.std.proofs.Common.{◌≡◌, ◌∙◌, ◌-◌, ◌≤◌, ℕ, List, String, Global, Some, IsUtf8, ap, unwrap_or}
-use Rattle.std.proofs.Common.{string_bytes, rules}
+use Rattle.std.proofs.Common.{◌≡◌, ◌∙◌, ◌-◌, ◌≤◌, ℕ, List, Some, IsUtf8, ap, unwrap_or}
 use Rattle.serde_json.specs.Data.{Data, null, string}
 use Rattle.serde_json.specs.Read.{read}
 use Rattle.serde_json.specs.View.{view as tree_view}
-use Rattle.serde_json.specs.declared.value.Value.{Value as Json, String as a_string, the_lemmas}
+use Rattle.serde_json.specs.declared.value.Value.{Value as Json}
 use Rattle.fb_pieces.specs.InBrackets.{TextIsReadWithoutBrackets, in_arrays, in_brackets}
 use Rattle.fb_encode.specs.MembersRead.{bytes_in, name_read, tree_read}
 use Rattle.fb_encode.specs.TextsRead.{IsRead, IsReadAs}
 use Rattle.fb_encode.proofs.reader.TextInBrackets.{read_without}
-
-string_seen : (s : String Global) → tree_view (a_string s) ≡ string (string_bytes s)
-string_seen s = search (rules, the_lemmas)
 
 -- in brackets of its own
 module _ (law : TextIsReadWithoutBrackets) (brackets : ℕ) (text : List ℕ) (low : brackets ≤ 127) (utf8 : IsUtf8 text)
@@ -22,10 +18,6 @@ module _ (law : TextIsReadWithoutBrackets) (brackets : ℕ) (text : List ℕ) (l
     utf8 = utf8;
     read = read_without law brackets text (tree_view inner) low (is ∙ ap Some within);
   }
-
-  pub string_is_read : (s : String Global) → inner ≡ a_string s → IsReadAs brackets text (string (string_bytes s))
-  string_is_read s same =
-      rw (← (ap tree_view same ∙ string_seen s)) inner_is_read
 
 pub name_is : (brackets : ℕ) (text s : List ℕ) → IsReadAs brackets text (string s) → name_read brackets text ≡ s
 unfolding name_read

@@ -101,26 +101,6 @@ module _ (texts : List (Option Excerpt)) (e : Excerpt) where
     abbrev AllTexts : List (Option Excerpt) → Type 0
     AllTexts xs = (k : ℕ) (x : Excerpt) → slice_get xs k ≡ Some (Some x) → P x
 
-    at_slot : (slot : ℕ) → P e → AllTexts texts → IfSome (get_or texts slot (Some e)) P
-    at_slot slot here all = elim (slice_get_cases texts slot).1 [
-      | inl there ↦ one there.0 (get_or_from_slice_get texts slot there.0 (Some e) there.2) there.2
-      | inr past ↦ rw (nowhere_else texts slot (Some e) past.0) here
-    ]
-      where
-        one : (x : Option Excerpt) → get_or texts slot (Some e) ≡ x → slice_get texts slot ≡ Some x
-            → IfSome (get_or texts slot (Some e)) P
-        one None is there = rw is tt
-        one (Some x) is there = rw is (all slot x there)
-
-    -- what holds of all texts holds of the one that no slot has
-    pub of_text_over : (o : Option DeclaredField) → P e → AllTexts texts → IfSome (text_over texts o e) P
-    of_text_over None here all = here
-    of_text_over (Some g) here all = by g.deprecated
-      where
-        by : (b : Bool) → IfSome (if b then Some e else get_or texts g.slot (Some e)) P
-        by true = here
-        by false = at_slot g.slot here all
-
     of_texts_with : (o : Option DeclaredField) → P e → AllTexts texts → AllTexts (texts_with texts o e)
     of_texts_with None here all = all
     of_texts_with (Some g) here all = by g.deprecated
@@ -148,7 +128,7 @@ module _ (texts : List (Option Excerpt)) (e : Excerpt) where
         by true = all
         by false = λ k x there. now k x (k == g.slot) refl there
 
-    -- What holds of the texts behind this one, and of the one that no slot has, holds of those before.
+    -- What holds of the texts after this one, and of the one that no slot has, holds of those before.
     of_texts_before : (o : Option DeclaredField) → IfSome (text_over texts o e) P → AllTexts (texts_with texts o e)
         → AllTexts texts
     of_texts_before None over all = all
@@ -267,9 +247,6 @@ module _ (S : DeclaredSchema) (t : ℕ) (declared : IsDeclared S) (fs : List Dec
       by : (b : Bool) → length (if b then texts else set texts g.slot (Some e)) ≡ length texts
       by true = refl
       by false = length-set texts g.slot (Some e)
-
-  pub over_in_brackets : IfSome (text_over texts o e) (λ x. x.brackets ≡ brackets)
-  over_in_brackets = of_text_over texts e (λ x. x.brackets ≡ brackets) o brackets_is so_far.texts_are.brackets_are
 
   pub one_more : IfSome (text_over texts o e) (λ x. IsRead x.brackets x.text.now)
       → ArePutSoFar S t fs unknown brackets (texts_with texts o e)

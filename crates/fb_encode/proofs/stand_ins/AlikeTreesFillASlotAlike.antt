@@ -18,12 +18,12 @@ use Rattle.fb_encode.specs.StandIns.{AreAlike}
 
 pub code_same : (S : DeclaredSchema) (look bare : Look) (at : Place) (code : ℕ) (b : Bool) (name : Name) (shape : Shape)
     (t d : Data) (m n : Meaner) → look name ≡ Some (t, m) → bare name ≡ Some (d, n)
-    → ((u : ℕ) (at : Place) → code_told S u t at ≡ code_told S u d at)
+    → ((u : TypeId) (at : Place) → shape ≡ One (Code u) → code_told S u.0 t at ≡ code_told S u.0 d at)
     → code_after S look at code b name shape ≡ code_after S bare at code b name shape
 unfolding code_after
 code_same S look bare at code true name shape t d m n is was told = refl
 code_same S look bare at code false name (One (Code u)) t d m n is was told =
-    ap (code_in S u.0 at) is ∙ told u.0 at ∙ sym (ap (code_in S u.0 at) was)
+    ap (code_in S u.0 at) is ∙ told u at refl ∙ sym (ap (code_in S u.0 at) was)
 code_same S look bare at code false name (One (Union u)) t d m n is was told = refl
 code_same S look bare at code false name (One (Scalar base)) t d m n is was told = refl
 code_same S look bare at code false name (One (Enum id)) t d m n is was told = refl

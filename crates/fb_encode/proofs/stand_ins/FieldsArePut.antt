@@ -1,9 +1,11 @@
 -- Field by field, an object gets what means the same as the members of another.
-use Rattle.std.proofs.Common.{◌≡◌, ◌≢◌, ◌∙◌, ◌&&◌, ◌+◌, ◌<◌, ◌≤◌, ◌==◌, ℕ, Bool, true, false, Option, None, Some}
+use Rattle.std.proofs.Common.{◌≡◌, ◌≢◌, ◌∙◌, ◌&&◌, ◌+◌, ◌<◌, ◌≤◌, ◌==◌, ℕ, Bool, true, false, Option, None, Some, List}
 use Rattle.std.proofs.Common.{IfSome, option_map, slice_get, not, refl, sym, ap, arith, subst}
 use Rattle.std.proofs.lemmas.Bool.{eqb-false, eqb-true}
 use Rattle.serde_json.specs.Data.{Data, Members, no_members}
 use Rattle.serde_json.specs.Find.{get_member}
+use Rattle.serde_json.specs.View.{view as tree_view}
+use Rattle.serde_json.specs.declared.value.Value.{Value as Json}
 use Rattle.serde_json.proofs.Views.{get_member-put, get_member-put_other}
 use Rattle.fb_schema.specs.declared.kinds.Shape.{Shape}
 use Rattle.fb_schema.specs.Schema.{Name, DeclaredField, DeclaredBody, table_body, struct_body, enum_body, union_body}
@@ -14,8 +16,8 @@ use Rattle.fb_layout.specs.Laid.{LaidSchema}
 use Rattle.fb_json.specs.Meant.{is_used, names_known}
 use Rattle.fb_encode.specs.declared.reader.Excerpt.{Excerpt}
 use Rattle.fb_encode.specs.SlotTexts.{excerpt_tree}
-use Rattle.fb_encode.specs.StandIns.{AreAlike, IsFieldPut}
-use Rattle.fb_encode.specs.TextsRead.{IsRead}
+use Rattle.fb_encode.specs.StandIns.{AreAlike, IsFieldPut, IsStandIn}
+use Rattle.fb_encode.specs.TextsRead.{IsRead, IsReadAs}
 use Rattle.fb_encode.proofs.slot_texts.NamedSlotIsFound.{found_as}
 use Rattle.fb_encode.proofs.slot_texts.OneMemberMore.{known_put}
 use Rattle.fb_encode.proofs.slot_texts.PiecesAreRead.{tree_is}
@@ -87,9 +89,20 @@ pub same_alike : (L : LaidSchema) (unknown : Bool) (shape : Shape) (t d : Data) 
 same_alike L unknown shape t d same = subst (AreAlike L unknown shape t) (sym same) (record {
   absent = refl;
   value = λ at levels left. refl;
-  code = λ u at. refl;
+  code = λ u at is. refl;
   member = λ u table at levels left is. refl;
 })
+
+-- so a text's own tree stands in for it
+pub tree_stands_in : (L : LaidSchema) (unknown : Bool) (brackets : ℕ) (text : List ℕ) (shape : Shape)
+    (found : Option Json) → IfSome found (λ tree. (levels : ℕ) → IsReadAs levels text (tree_view tree))
+    → IfSome found (λ tree. IsStandIn L unknown brackets text shape (tree_view tree))
+tree_stands_in L unknown brackets text shape None own = tt
+tree_stands_in L unknown brackets text shape (Some tree) own = record {
+  tree = tree_view tree;
+  read = own brackets;
+  alike = same_alike L unknown shape (tree_view tree) (tree_view tree) refl;
+}
 
 -- the text of a field that is put is read
 pub field_read : (L : LaidSchema) (unknown : Bool) (f : DeclaredField) (o : Option Excerpt) (before now : Members)

@@ -67,7 +67,7 @@ module _ (L : LaidSchema) (unknown : Bool) (s : TypeId) (ms ns : Members) where
   objects_alike same = record {
     absent = refl;
     value = λ at levels left. same levels left;
-    code = λ u at. refl;
+    code = λ u at is. refl;
     member = λ u table at levels left is. absurd cc;
   }
 

@@ -9,7 +9,7 @@ use Rattle.fb_json.specs.declared.faults.JsonFault.{JsonFault}
 use Rattle.fb_json.specs.Meant.{Look, code_after, entry_meant, meant, slot_place}
 use Rattle.fb_json.specs.Outcome.{◌>>=◌, Fails}
 use Rattle.fb_encode.specs.declared.entries.SlotRead.{SlotRead}
-use Rattle.fb_encode.specs.declared.objects.Behind.{Behind}
+use Rattle.fb_encode.specs.declared.objects.AfterSlot.{AfterSlot}
 use Rattle.fb_encode.specs.SlotTexts.{IsSlotNotedOr, slot_meant}
 use Rattle.fb_encode.specs.StandIns.{AreAlike}
 use Rattle.fb_encode.specs.TreesNoted.{IsEntryNoted}
@@ -46,12 +46,12 @@ module _ (L : LaidSchema) (unknown : Bool) (seen bare : Look) (slot : SlotRead) 
   slot_is : (code left : ℕ) → slot_meant L seen slot code levels left ≡ slot_meant L bare slot code levels left
   slot_is code left = bind_same _ _ _ _ (code_is code) (λ c. entry_is c left)
 
-  pub noted_by_stand_in : (before : Behind) (a b : Noting) (r : Result Behind JsonFault)
+  pub noted_by_stand_in : (before : AfterSlot) (a b : Noting) (r : Result AfterSlot JsonFault)
       → IsSlotNotedOr L bare slot levels before a b r → IsSlotNotedOr L seen slot levels before a b r
-  noted_by_stand_in before a b (Ok behind) noted = (
+  noted_by_stand_in before a b (Ok after) noted = (
     code_is before.code ∙ noted.0,
     subst (λ given. IsEntryNoted L slot.number (slot_seen L slot.field.now) given a.tape b.tape a.opened b.opened
-        behind.left) (sym (entry_is behind.code before.left)) noted.1,
+        after.left) (sym (entry_is after.code before.left)) noted.1,
   )
   noted_by_stand_in before a b (Err f) fails =
       subst (λ given. Fails f given) (sym (slot_is before.code before.left)) fails

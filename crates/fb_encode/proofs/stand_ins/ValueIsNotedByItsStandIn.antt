@@ -1,5 +1,5 @@
 -- A value, or an element, is noted, or refused, as one in its place that means the same.
-use Rattle.std.proofs.Common.{◌≡◌, ◌∷◌, ℕ, Bool, List, Result, Ok, Err, ap, subst, sym}
+use Rattle.std.proofs.Common.{◌≡◌, ◌∷◌, ℕ, Bool, List, Result, Ok, ap, subst, sym}
 use Rattle.serde_json.specs.Data.{Data, item, no_items}
 use Rattle.fb_schema.specs.declared.kinds.Kind.{Kind}
 use Rattle.fb_schema.specs.declared.kinds.Shape.{Shape}
@@ -12,7 +12,7 @@ use Rattle.fb_json.specs.declared.faults.Place.{Place}
 use Rattle.fb_json.specs.Meant.{items_meant, meant}
 use Rattle.fb_json.specs.Outcome.{◌>>=◌, Counted}
 use Rattle.fb_encode.specs.StandIns.{AreAlike}
-use Rattle.fb_encode.specs.TextsRead.{AreElementsAddedOr, IsNotedOr, IsRunAdded}
+use Rattle.fb_encode.specs.TextsRead.{AreElementsAddedOr, IsNotedOr}
 
 module _ (L : LaidSchema) (unknown : Bool) (t d : Data) where
   pub noted_by_stand_in : (stored : StoredShape) (shape : Shape) (at : Place) (levels left : ℕ) (a b : Taped)
@@ -32,18 +32,8 @@ module _ (L : LaidSchema) (unknown : Bool) (t d : Data) where
         items_meant L unknown no_items kind at levels x.1 >>= λ xs. Ok (x.0 ∷ xs.0, xs.1))
         (sym (alike.value at levels rest))
 
-    added_by : (stored : StoredKind) (AddsAll : Taped → Taped → List Datum → Type 0) (a b : Taped)
-        (found now : Result ℕ JsonFault) → IsRunAdded L stored AddsAll (lone d) 1 a b found now
-        → IsRunAdded L stored AddsAll (lone t) 1 a b found now
-    added_by stored AddsAll a b (Ok left) now added =
-        subst (λ (given : Counted (List Datum)). AreElementsAddedOr L stored AddsAll given 1 a b now) (lone_is left)
-        added
-    added_by stored AddsAll a b (Err f) now added = added
-
-pub run_by_stand_in : (L : LaidSchema) (stored : StoredKind) (AddsAll : Taped → Taped → List Datum → Type 0)
-    (unknown : Bool) (kind : Kind) (at : Place) (levels : ℕ) (t d : Data) → AreAlike L unknown (One kind) t d
-    → (a b : Taped) (found now : Result ℕ JsonFault)
-    → IsRunAdded L stored AddsAll (λ rest. items_meant L unknown (item d no_items) kind at levels rest) 1 a b found now
-    → IsRunAdded L stored AddsAll (λ rest. items_meant L unknown (item t no_items) kind at levels rest) 1 a b found now
-run_by_stand_in L stored AddsAll unknown kind at levels t d alike a b found now added =
-    added_by L unknown t d kind at levels alike stored AddsAll a b found now added
+    pub element_by_stand_in : (stored : StoredKind) (AddsAll : Taped → Taped → List Datum → Type 0) (a b : Taped)
+        (left : ℕ) (r : Result ℕ JsonFault) → AreElementsAddedOr L stored AddsAll (lone d left) 1 a b r
+        → AreElementsAddedOr L stored AddsAll (lone t left) 1 a b r
+    element_by_stand_in stored AddsAll a b left r =
+        subst (λ (given : Counted (List Datum)). AreElementsAddedOr L stored AddsAll given 1 a b r) (lone_is left)

@@ -3,14 +3,14 @@ use Rattle.std.proofs.Common.{◌≡◌, ◌∙◌, ◌+◌, ◌++◌, ◌∷◌
 use Rattle.std.proofs.Common.{refl, sym, ap, arith}
 use Rattle.std.proofs.lemmas.List.{length-append}
 use Rattle.std.proofs.lemmas.List.Elements.{filter_map-append}
-use Rattle.serde_json.specs.Data.{Items, no_items, item}
+use Rattle.serde_json.specs.Data.{Data, Items, no_items, item}
 use Rattle.fb_schema.specs.declared.kinds.Kind.{Kind}
 use Rattle.fb_schema.specs.declared.kinds.Shape.TheVariants.{One}
-use Rattle.fb_layout.specs.Laid.{LaidSchema, StoredKind, one_of}
+use Rattle.fb_layout.specs.Laid.{LaidSchema, StoredKind, one_of, stored_kind}
 use Rattle.fb_value.specs.Datum.{Datum}
-use Rattle.fb_value.specs.Room.{parts_room}
+use Rattle.fb_value.specs.Room.{parts_room, room}
 use Rattle.fb_value.specs.View.{parts_in}
-use Rattle.fb_tape.specs.NamedParts.{apart_of, elements_apart}
+use Rattle.fb_tape.specs.NamedParts.{apart_of, as_list, elements_apart}
 use Rattle.fb_tape.specs.Tapes.{Taped}
 use Rattle.fb_json.specs.declared.faults.Place.{Place}
 use Rattle.fb_json.specs.declared.faults.JsonFault.{JsonFault}
@@ -18,9 +18,12 @@ use Rattle.fb_json.specs.Meant.{count, items_meant, meant}
 use Rattle.fb_json.specs.Outcome.{◌>>=◌, Counted}
 use Rattle.fb_json.proofs.slots.OneSlotOrFieldMore.{after, fails_by}
 use Rattle.fb_build.specs.OneByOne.{EachElementFits}
+use Rattle.fb_build.proofs.noted.OneMoreFits.{parts_room_more}
 use Rattle.fb_build.proofs.noted.PartsAreAdded.{adds_same, adds_then}
+use Rattle.fb_build.proofs.noted.PartsFollow.{named_more}
 use Rattle.fb_pieces.specs.ArrayOfRuns.{append, joined}
-use Rattle.fb_encode.specs.TextsRead.{AreElementsAddedOr}
+use Rattle.fb_encode.proofs.elements.ElementsAreNoted.{one_more_fits}
+use Rattle.fb_encode.specs.TextsRead.{AreElementsAddedOr, IsNotedOr}
 use Rattle.fb_encode.specs.TreesNoted.{AddsTargets, AreElementsAdded}
 
 pub count-append : (ds es : Items) → count (append ds es) ≡ count ds + count es
@@ -52,7 +55,7 @@ put_first x xs (Ok y) = refl
 put_first x xs (Err e) = refl
 
 module _ (L : LaidSchema) (unknown : Bool) (kind : Kind) (at : Place) (levels : ℕ) where
-  -- those of the second behind those of the first
+  -- those of the first, and then those of the second
   then_meant : Items → Counted (List Datum) → Counted (List Datum)
   then_meant es r = r >>= λ x. after x.0 (items_meant L unknown es kind at levels x.1)
 
@@ -80,7 +83,7 @@ module _ (L : LaidSchema) (unknown : Bool) (kind : Kind) (at : Place) (levels : 
   items_then (item d ds) es left =
       one_before ds es (λ n. items_then ds es n) (meant L unknown d (One kind) at levels left)
 
-  -- what elements give, where so many cells are left for them, or none
+  -- what elements give with the cells that are left for them, or none
   abbrev pub given_of : Items → Result ℕ JsonFault → Counted (List Datum)
   given_of ds found = found >>= λ left. items_meant L unknown ds kind at levels left
 
@@ -98,6 +101,28 @@ module _ (L : LaidSchema) (unknown : Bool) (kind : Kind) (at : Place) (levels : 
   fault_then ds es (Ok n) f is = items_then ds es n ∙ ap (then_meant es) is
 
 -- ---- what is added of them
+
+-- what one element names
+pub one_element : (L : LaidSchema) (unknown : Bool) (kind : Kind) (at : Place) (levels left : ℕ) (t : Data)
+    (a b : Taped) (r : Result ℕ JsonFault) → IsNotedOr L (one_of (stored_kind L.schema kind))
+    (meant L unknown t (One kind) at levels left) a b r → AreElementsAddedOr L (stored_kind L.schema kind)
+    (AddsTargets L (stored_kind L.schema kind)) (items_meant L unknown (item t no_items) kind at levels left) 1 a b r
+one_element L unknown kind at levels left t a b (Err f) fails =
+    fails_by f (meant L unknown t (One kind) at levels left) _ (λ h. ap (λ (r : Counted Datum). r >>= λ x.
+    items_meant L unknown no_items kind at levels x.1 >>= λ xs. Ok (x.0 ∷ xs.0, xs.1)) h) fails
+one_element L unknown kind at levels left t a b (Ok rest) h =
+    let k = stored_kind L.schema kind in
+    let d = h.value in
+    record {
+      elements = d ∷ [];
+      given_is = ap (λ (r : Counted Datum). r >>= λ x.
+          items_meant L unknown no_items kind at levels x.1 >>= λ xs. Ok (x.0 ∷ xs.0, xs.1)) h.given_is;
+      count_is = refl;
+      fits = one_more_fits L k [] d h.fits h.whole (λ j e is. cc);
+      adds = adds_same a b (as_list (apart_of (one_of k) d)) (elements_apart k (d ∷ [])) (room L (one_of k) d)
+          (parts_room L k (parts_in (d ∷ []))) (sym (named_more k [] d)) (omega (arith, parts_room_more L k [] d))
+          h.adds;
+    }
 
 -- the elements of one tape's step, and then those of the next
 abbrev pub AreAddedInTurn : (Taped → Taped → List Datum → Type 0) → Type 0

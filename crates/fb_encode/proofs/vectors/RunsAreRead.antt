@@ -1,6 +1,7 @@
 -- What is read of a run of a vector's elements, and of all runs.
 use Rattle.std.proofs.Common.{◌≡◌, ◌∙◌, ◌+◌, ◌-◌, ◌≤◌, ◌<◌, ◌++◌, ◌∷◌, [], ℕ, zero, suc, List, Some, length}
-use Rattle.std.proofs.Common.{sym, ap, get_or, arith, IsUtf8}
+use Rattle.std.proofs.Common.{sym, ap, arith, IsUtf8}
+use Rattle.std.specs.List.{All}
 use Rattle.std.proofs.lemmas.Option.{slice_get_within}
 use Rattle.simdutf8.proofs.StepsLemmas.{IsUtf8-after_ascii, IsUtf8-append_ascii, IsAscii-replicate}
 use Rattle.serde_json.specs.Data.{Data, array, Items, no_items, item}
@@ -15,10 +16,12 @@ use Rattle.fb_pieces.specs.InBrackets.{TextIsReadWithoutBrackets, in_arrays, in_
 use Rattle.fb_pieces.specs.ReadByPieces.{IsCutIntoRuns}
 use Rattle.fb_pieces.specs.Texts.{array_text}
 use Rattle.fb_encode.proofs.reader.TextInBrackets.{brackets_more, read_without}
+use Rattle.fb_encode.specs.declared.reader.Excerpt.{Excerpt}
+use Rattle.fb_encode.specs.SlotTexts.{IsPieceOf}
 use Rattle.fb_encode.specs.TextsRead.{IsReadAs, IsRunReadAs}
 
 -- the text between two brackets
-pub utf8_between : (e : List ℕ) → IsUtf8 e → IsUtf8 (array_text e [])
+utf8_between : (e : List ℕ) → IsUtf8 e → IsUtf8 (array_text e [])
 utf8_between e utf8 =
     let before = (IsUtf8-append_ascii e (93 ∷ []) (IsAscii-replicate 1 93 (omega arith))).1 utf8 in
     (IsUtf8-after_ascii (91 ∷ []) (e ++ (93 ∷ [])) (IsAscii-replicate 1 91 (omega arith))).1 before
@@ -26,17 +29,19 @@ utf8_between e utf8 =
 pub utf8_of_run : (brackets : ℕ) (e : List ℕ) (ds : Items) → IsRunReadAs brackets e ds → IsUtf8 e
 utf8_of_run brackets e no_items h = absurd h
 utf8_of_run brackets e (item d ds) h =
-    let behind = (IsUtf8-after_ascii (91 ∷ []) (e ++ (93 ∷ [])) (IsAscii-replicate 1 91 (omega arith))).0 h.utf8 in
-    (IsUtf8-append_ascii e (93 ∷ []) (IsAscii-replicate 1 93 (omega arith))).0 behind
+    let after = (IsUtf8-after_ascii (91 ∷ []) (e ++ (93 ∷ [])) (IsAscii-replicate 1 91 (omega arith))).0 h.utf8 in
+    (IsUtf8-append_ascii e (93 ∷ []) (IsAscii-replicate 1 93 (omega arith))).0 after
 
 -- an element that is read alone is a run
-pub run_of_element : ElementsMakeTheArray → (brackets : ℕ) (e : List ℕ) (t : Data) → 0 < brackets
-    → IsReadAs (brackets - 1) e t → IsRunReadAs brackets e (item t no_items)
-run_of_element law brackets e t some h =
+pub run_of_element : ElementsMakeTheArray → (brackets : ℕ) (e : List ℕ) (x : Excerpt) → x.text.now ≡ e
+    → x.brackets ≡ brackets - 1 → (t : Data) → 0 < brackets → IsReadAs x.brackets x.text.now t
+    → IsRunReadAs brackets e (item t no_items)
+run_of_element law brackets e x text_is brackets_is t some h =
     let same : suc (brackets - 1) ≡ brackets = omega arith in
+    let read = rw (text_is, brackets_is) at h in
     record {
-      utf8 = utf8_between e h.utf8;
-      read = rw (← same) (law (brackets - 1) e [] (item t no_items) (h.read, tt));
+      utf8 = utf8_between e read.utf8;
+      read = rw (← same) (law (brackets - 1) e [] (item t no_items) (read.read, tt));
     }
 
 -- a run whose elements are read at once
@@ -71,17 +76,16 @@ runs_more levels [] (s ∷ rs) e r before more = absurd before
 runs_more levels (f ∷ es) [] e r before more = absurd before
 runs_more levels (f ∷ es) (s ∷ rs) e r before more = (before.0, runs_more levels es rs e r before.1 more)
 
--- each run lies within the text
-runs_within : (text : List ℕ) (from end : ℕ) (runs : List Run) → AreRunsOf text from end runs → (i : ℕ) (d : Run)
-    → i < length runs → let run = get_or runs i d in
-    (run.elements.start ≤ run.elements.end) × (run.elements.end ≤ length text)
+-- each run is a part of the text
+runs_within : (text : List ℕ) (from end : ℕ) (runs : List Run) → AreRunsOf text from end runs
+    → All (λ run. IsPieceOf text run.elements) runs
 runs_within text from end [] are i d low = absurd (omega (arith, low))
 runs_within text from end (run ∷ runs) are zero d low =
     let within = slice_get_within text run.elements.end _ are.0.before in
-    (omega (arith, are.0.starts, are.0.ends), omega (arith, within))
+    record { forward = omega (arith, are.0.starts, are.0.ends); within = omega (arith, within) }
 runs_within text from end (run ∷ runs) are (suc i) d low =
     runs_within text (run.elements.end + 1) end runs are.2 i d (omega (arith, low))
 
-pub run_within : (text : List ℕ) (runs : List Run) → IsCutIntoRuns text runs → (i : ℕ) (d : Run) → i < length runs
-    → let run = get_or runs i d in (run.elements.start ≤ run.elements.end) × (run.elements.end ≤ length text)
-run_within text runs cut i d low = runs_within text (cut.at + 1) cut.end runs cut.cut i d low
+pub all_within : (text : List ℕ) (runs : List Run) → IsCutIntoRuns text runs
+    → All (λ run. IsPieceOf text run.elements) runs
+all_within text runs cut = runs_within text (cut.at + 1) cut.end runs cut.cut

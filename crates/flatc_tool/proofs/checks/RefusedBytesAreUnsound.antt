@@ -5,30 +5,21 @@ use Rattle.fb_value.specs.declared.faults.ReadFault.{ReadFault}
 use Rattle.fb_value.specs.Bounds.{Bounds}
 use Rattle.fb_value.specs.Num.{Bytes}
 use Rattle.fb_value.specs.Holds.{Refuses}
-use Rattle.fb_declare.specs.declared.schema_layouts.SchemaTextFault.{SchemaTextFault}
 use Rattle.flatc_tool.specs.LayerLaws.{LayerLaws}
-use Rattle.fb_declare.specs.SchemaTexts.{IsAccepted, IsRefused, IsWant}
+use Rattle.fb_declare.specs.SchemaTexts.{IsAccepted}
 use Rattle.flatc_tool.specs.Checks.{IsSound}
-use Rattle.fb_declare.proofs.SchemaTextHasOneLayout.{refused_excludes, same_accepted}
 
 -- what is sound has an accepted schema
-accepted_of : (schema : List ℕ) (bytes : Option Bytes) (most : Bounds) (raw : Bool) → IsSound schema bytes most raw
+pub accepted_of : (schema : List ℕ) (bytes : Option Bytes) (most : Bounds) (raw : Bool) → IsSound schema bytes most raw
     → (L : LaidSchema) × IsAccepted schema L
 accepted_of schema None most raw sound = sound
 accepted_of schema (Some b) most raw sound = (sound.0, sound.1)
-
--- nothing is sound under a schema that is refused
-pub schema_unsound : (laws : LayerLaws) (schema : List ℕ) (bytes : Option Bytes) (most : Bounds) (raw : Bool)
-    (f : SchemaTextFault) → IsRefused schema f → ¬ (IsWant f) → ¬ IsSound schema bytes most raw
-schema_unsound laws schema bytes most raw f refused rule sound =
-    let accepted = accepted_of schema bytes most raw sound in
-    refused_excludes laws.schema schema f refused rule accepted.0 accepted.1
 
 -- bytes with a fault hold no value
 pub bytes_unsound : (laws : LayerLaws) (schema : List ℕ) (b : Bytes) (most : Bounds) (raw : Bool) (L : LaidSchema)
     (f : ReadFault) → IsAccepted schema L → Refuses L most raw b f → ¬ IsSound schema (Some b) most raw
 bytes_unsound laws schema b most raw L f accepted refused sound =
-    let same = same_accepted laws.schema schema sound.0 L sound.1 accepted in
+    let same = laws.one_layout schema sound.0 L sound.1 accepted in
     refused.1 sound.2 (rw (← same) sound.3)
 
 -- and nothing is sound where these are the bytes

@@ -7,14 +7,13 @@ use Rattle.fb_conform.specs.Order.{IsFirst}
 use Rattle.flatc_tool.specs.LayerLaws.{LayerLaws}
 use Rattle.fb_declare.specs.SchemaTexts.{IsAccepted}
 use Rattle.flatc_tool.specs.Evolution.{TextsConform}
-use Rattle.fb_declare.proofs.SchemaTextHasOneLayout.{same_accepted}
 
 -- the layouts of texts that conform do so
 pub conforms_at : (laws : LayerLaws) (old new : List ℕ) (A B : LaidSchema) → IsAccepted old A → IsAccepted new B
     → TextsConform old new → Conforms A B
 conforms_at laws old new A B was is texts =
-    let one = rw (same_accepted laws.schema old texts.0 A texts.2 was) at texts.4 in
-    rw (← (same_accepted laws.schema new texts.1 B texts.3 is)) one
+    let one = rw (laws.one_layout old texts.0 A texts.2 was) at texts.4 in
+    rw (← (laws.one_layout new texts.1 B texts.3 is)) one
 
 pub breach_excludes : (laws : LayerLaws) (old new : List ℕ) (A B : LaidSchema) (b : Breach) → IsAccepted old A
     → IsAccepted new B → IsFirst A B b → TextsConform old new → ⊥

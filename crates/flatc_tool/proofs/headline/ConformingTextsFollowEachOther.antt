@@ -1,5 +1,5 @@
 -- What schema texts that conform one by one give.
-use Rattle.std.proofs.Common.{false, ◌≡◌, ℕ, List, [], ◌∷◌, sym, ap, ◌∙◌}
+use Rattle.std.proofs.Common.{◌≡◌, ℕ, List, [], ◌∷◌, sym, ap, ◌∙◌}
 use Rattle.fb_layout.specs.Laid.{LaidSchema}
 use Rattle.fb_value.specs.Datum.{Datum}
 use Rattle.fb_value.specs.Fits.{FitsRoot}
@@ -13,11 +13,11 @@ use Rattle.flatc_tool.proofs.evolution.BreachExcludesConforming.{conforms_at}
 use Rattle.flatc_tool.proofs.headline.BytesHoldAValueOrAreRefused.{held, fitting, in_use, carried_on}
 
 pub old_programs_read_shown : LayerLaws → OldProgramsRead
-old_programs_read_shown laws old new json most unknown b made texts A B was is v means raw =
+old_programs_read_shown laws prefixed old new json most unknown b made texts A B was is v means raw =
     let conforms = conforms_at laws old new A B was is texts in
-    laws.back_holds false A B most raw b v was.made is.made conforms (in_use laws new json most unknown b made B is v
+    laws.back_holds prefixed A B most raw b v was.made is.made conforms (in_use laws prefixed new json most unknown b made B is v
     means)
-    (held laws new json most unknown b made B is v means raw)
+    (held laws prefixed new json most unknown b made B is v means raw)
 
 -- two steps are one
 conforms_on : (laws : LayerLaws) (a b c : List ℕ) → TextsConform a b → TextsConform b c → TextsConform a c
@@ -54,12 +54,12 @@ module _ (laws : LayerLaws) (A : LaidSchema) (first : List ℕ) (accepted : IsAc
       at_once next C carried.1 both later turn.1 (rw (← one) carried.2)
 
 pub chains_carry_shown : LayerLaws → ChainsCarry
-chains_carry_shown laws first json [] most unknown b made turn A is v means K w carried raw =
-    let here = held laws first json most unknown b made A is v means raw in
+chains_carry_shown laws prefixed first json [] most unknown b made turn A is v means K w carried raw =
+    let here = held laws prefixed first json most unknown b made A is v means raw in
     rw (← carried.1) (rw (← carried.0) here)
-chains_carry_shown laws first json (next ∷ later) most unknown b made turn A is v means K w carried raw =
+chains_carry_shown laws prefixed first json (next ∷ later) most unknown b made turn A is v means K w carried raw =
     let B : LaidSchema = carried.0 in
     let conforms = conforms_at laws first next A B is carried.1 turn.0 in
-    let once = at_once laws A first is v (fitting laws first json most unknown b made A is v means) K w next B carried.1
+    let once = at_once laws A first is v (fitting laws prefixed first json most unknown b made A is v means) K w next B carried.1
     conforms later turn.1 carried.2 in
-    rw once.3 (carried_on laws first json most unknown b made A is v means raw K once.0 once.1 once.2)
+    rw once.3 (carried_on laws prefixed first json most unknown b made A is v means raw K once.0 once.1 once.2)

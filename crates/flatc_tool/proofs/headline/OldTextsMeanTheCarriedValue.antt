@@ -8,15 +8,14 @@ use Rattle.fb_declare.specs.SchemaTexts.{IsAccepted}
 use Rattle.flatc_tool.specs.Evolution.{TextsKeepNames}
 use Rattle.flatc_tool.specs.Names.{OldTextsAreRead, OldTextsAreCarried}
 use Rattle.flatc_tool.proofs.buffers.RefusalExcludesABuffer.{same_tree}
-use Rattle.fb_declare.proofs.SchemaTextHasOneLayout.{same_accepted}
 
 -- the layouts of texts that keep names
 pub kept_at : (laws : LayerLaws) (old new : List ℕ) (A B : LaidSchema) → IsAccepted old A → IsAccepted new B
     → TextsKeepNames old new → Conforms A B × KeepsNames A B
 kept_at laws old new A B was is texts =
     let one = subst (λ (L : LaidSchema). Conforms L texts.1 × KeepsNames L texts.1)
-    (same_accepted laws.schema old texts.0 A texts.2 was) (texts.4, texts.5) in
-    rw (← (same_accepted laws.schema new texts.1 B texts.3 is)) one
+    (laws.one_layout old texts.0 A texts.2 was) (texts.4, texts.5) in
+    rw (← (laws.one_layout new texts.1 B texts.3 is)) one
 
 pub old_texts_are_read_shown : LayerLaws → OldTextsAreRead
 old_texts_are_read_shown laws old new json most texts A B was is t tree v means stay =
@@ -24,9 +23,9 @@ old_texts_are_read_shown laws old new json most texts A B was is t tree v means 
     (t, tree, laws.names_carry A B most t v was.made is.made both.0 both.1 stay means)
 
 pub old_texts_are_carried_shown : LayerLaws → OldTextsAreCarried
-old_texts_are_carried_shown laws old new json most b made texts A B was is v means raw =
+old_texts_are_carried_shown laws prefixed old new json most b made texts A B was is v means raw =
     let both = kept_at laws old new A B was is texts in
-    let here = rw (same_accepted laws.schema new made.layout B made.accepted is) at made.has in
+    let here = rw (laws.one_layout new made.layout B made.accepted is) at made.has in
     let tree = same_tree json here.means.0 means.0 here.means.1 means.1 in
     let under = rw tree at here.means.2 in
     let one = laws.means_carried A B most means.0 v here.value was.made is.made both.0 both.1 means.2 under in

@@ -6,7 +6,7 @@ use Rattle.fb_syntax.specs.declared.faults.SyntaxFault.{SyntaxFault}
 use Rattle.fb_syntax.specs.declared.faults.SyntaxFault.TheVariants.{NotUtf8}
 use Rattle.fb_declare.specs.declared.schema_layouts.SchemaTextFault.{SchemaTextFault}
 use Rattle.fb_declare.specs.declared.schema_layouts.SchemaTextFault.TheVariants.{Syntax, Layout}
-use Rattle.fb_declare.proofs.SchemaTextHasOneLayout.{none_least, syntax_refused, refused_excludes}
+use Rattle.fb_declare.proofs.SchemaTextHasOneLayout.{none_least, syntax_refused}
 use Rattle.fb_declare.proofs.schema_layouts.schema_of.Goals as goal
 
 -- the error that `map_err` was given
@@ -60,7 +60,7 @@ returns-in_err-decls-clause-not_utf8 c at =
 
 pub returns-in_err-decls-clause-exact : goal.returns-in_err-decls-clause-exact
 returns-in_err-decls-clause-exact c =
-    by_err c.from_residual.result _ (λ f is no_want L accepted. refused_excludes c.schema_laws.ensures.laws
+    by_err c.from_residual.result _ (λ f is no_want L accepted. c.refused_text_has_no_layout.ensures
     c.args.text.now f (IfErr-at_err _ is (returns-in_err-decls-clause-refused c)) no_want L accepted)
 
 pub returns-in_err-schema-clause-exact : goal.returns-in_err-schema-clause-exact
@@ -120,5 +120,5 @@ returns-clause-not_utf8 c at =
 
 pub returns-clause-exact : goal.returns-clause-exact
 returns-clause-exact c =
-    by_err c.map_err-3.result _ (λ f is no_want L accepted. refused_excludes c.schema_laws.ensures.laws
+    by_err c.map_err-3.result _ (λ f is no_want L accepted. c.refused_text_has_no_layout.ensures
     c.args.text.now f (IfErr-at_err _ is (returns-clause-refused c)) no_want L accepted)

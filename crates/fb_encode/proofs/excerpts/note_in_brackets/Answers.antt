@@ -1,7 +1,7 @@
 use Rattle.std.proofs.Common.{◌∙◌, Some, ap}
 use Rattle.serde_json.specs.View.{view as tree_view}
 use Rattle.fb_layout.specs.Laid.{stored_shape}
-use Rattle.fb_encode.proofs.excerpts.NotedOrRefused.{if_ok_then}
+use Rattle.fb_encode.proofs.excerpts.NotedOrRefused.{if_found_then}
 use Rattle.fb_encode.proofs.outlines.OutlineMeansTheSame.{stands_in}
 use Rattle.fb_encode.proofs.stand_ins.ValueIsNotedByItsStandIn.{noted_by_stand_in}
 use Rattle.fb_encode.proofs.reader.TextInBrackets.{read_without}
@@ -18,7 +18,7 @@ returns-clause-noted c =
       read = read_without law excerpt.brackets excerpt.text.now t c.requires.brackets
           (c.in_ok-read.ensures.tree ∙ ap Some c.in-Some-innermost.ensures);
     } in
-    if_ok_then c.note_wanted-2.result _ _ (λ r found. (t, as_tree, found)) c.note_wanted-2.ensures.noted
+    if_found_then c.note_wanted-2.result _ _ (λ r found. (t, as_tree, found)) c.note_wanted-2.ensures.noted
 
 pub returns-in-Some-clause-noted : goal.returns-in-Some-clause-noted
 returns-in-Some-clause-noted c =
@@ -29,7 +29,7 @@ returns-in-Some-clause-noted c =
     let d = tree_view c.in-Some.outline in
     let o = stands_in L unknown excerpt.brackets excerpt.text.now wanted.shape d
     (rw c.in-Some.is at c.in_ok-outline.ensures) in
-    if_ok_then c.note_wanted.result _ _ (λ r bare. (
+    if_found_then c.note_wanted.result _ _ (λ r bare. (
       o.tree,
       o.read,
       noted_by_stand_in L unknown o.tree d (stored_shape L.schema wanted.shape) wanted.shape wanted.place wanted.levels

@@ -1,10 +1,8 @@
-use Rattle.std.proofs.Common.{◌≡◌, ◌≤◌, ◌+◌, ◌-◌, ℕ, sym, arith, length, map, false, Option}
-use Rattle.std.proofs.Common.{IfSome, None, Some}
+use Rattle.std.proofs.Common.{◌+◌, ◌-◌, sym, arith, length, map, false}
 use Rattle.std.proofs.Common.{option_copied, option_map}
 use Rattle.std.proofs.lemmas.List.{length-map, take_all}
 use Rattle.fb_schema.specs.Seen.{field_seen}
 use Rattle.fb_pieces.specs.declared.cut.Member.{Member}
-use Rattle.fb_encode.specs.declared.reader.Excerpt.{Excerpt}
 use Rattle.fb_encode.proofs.slot_texts.TextsAreAtTheirSlots.{none_put}
 use Rattle.fb_encode.proofs.slot_texts.MembersAreInTheText.{member_within}
 use Rattle.fb_encode.proofs.slot_texts.NextMemberIsPut.{next_put}
@@ -27,10 +25,6 @@ pub piece_of-value-requires-clause-within : goal.piece_of-value-requires-clause-
 piece_of-value-requires-clause-within c =
     (member_within c.args.excerpt.text.now (c.requires.cut.at + 1) c.requires.cut.end c.args.members.now
     c.requires.cut.cut c.loop-member.member-index none c.loop-member-test.true).1
-
-few : (o : Option Excerpt) (b : ℕ) → b ≤ 127 → IfSome o (λ e. e.brackets ≡ b - 1) → IfSome o (λ e. e.brackets ≤ 127)
-few None b low is = tt
-few (Some e) b low is = omega (arith, low, is)
 
 pub loop-member-preserved : goal.loop-member-preserved
 loop-member-preserved c =

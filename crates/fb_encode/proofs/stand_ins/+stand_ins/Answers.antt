@@ -12,18 +12,24 @@ use Rattle.fb_pieces.specs.CutTexts.{member_texts}
 use Rattle.fb_encode.specs.MembersRead.{object_read}
 use Rattle.fb_encode.proofs.objects.CutObjectIsRead.{members_are_read}
 use Rattle.fb_encode.proofs.objects.TextIsOfItsSlot.{member_of, own_text, read_more}
-use Rattle.fb_encode.proofs.outlines.OutlineMeansTheSame.{outline_stands_in}
+use Rattle.fb_encode.proofs.outlines.OutlineMeansTheSame.{stands_in}
 use Rattle.fb_encode.proofs.slot_texts.PiecesAreRead.{inner_is_read}
 use Rattle.fb_encode.proofs.stand_ins.FieldsArePut.{field_put, field_read, field_used, no_field_put, same_alike}
+use Rattle.fb_encode.proofs.stand_ins.FieldsArePut.{tree_stands_in}
 use Rattle.fb_encode.proofs.stand_ins.OwnFieldsMeanTheSame.{own_fields_alike, unknown_alike}
 use Rattle.fb_encode.proofs.stand_ins.+stand_ins.Goals as goal
 
 -- ---- what is in the place of a text
 
+pub stand_in-returns-in-Some-2 : goal.stand_in-returns-in-Some-2
+stand_in-returns-in-Some-2 t c =
+    stands_in c.args.source.layout.now c.args.source.unknown c.args.excerpt.brackets c.args.excerpt.text.now
+    c.args.shape (tree_view c.in-Some-2.tree) (rw c.in-Some-2.is at c.in_ok-tree-2.ensures)
+
 pub stand_in-returns : goal.stand_in-returns
 stand_in-returns t c =
-    outline_stands_in c.args.source.layout.now c.args.source.unknown c.args.excerpt.brackets c.args.excerpt.text.now
-    c.args.shape c.outline.result c.outline.ensures
+    tree_stands_in c.args.source.layout.now c.args.source.unknown c.args.excerpt.brackets c.args.excerpt.text.now
+    c.args.shape c.in_ok-string_tree.field-0 c.in_ok-string_tree.ensures
 
 pub field_tree-returns : goal.field_tree-returns
 field_tree-returns t c =

@@ -1,11 +1,12 @@
 use Rattle.std.proofs.Common.{ap, rules}
 use Rattle.std.specs.Option.{option_map}
-use Rattle.flatc_tool.proofs.checks.RefusedBytesAreUnsound.{schema_unsound, some_unsound}
+use Rattle.flatc_tool.proofs.checks.RefusedBytesAreUnsound.{accepted_of, some_unsound}
 use Rattle.flatc_tool.proofs.checks.check.Goals as goal
 
 pub returns-in-Err-clause-exact : goal.returns-in-Err-clause-exact
-returns-in-Err-clause-exact c rule = schema_unsound c.layer_laws.ensures.laws c.args.schema.now _ c.args.limits
-    c.args.raw c.in-Err.fault c.in-Err.ensures.refused rule
+returns-in-Err-clause-exact c rule sound =
+    let accepted = accepted_of c.args.schema.now _ c.args.limits c.args.raw sound in
+    c.in-Err.ensures.exact rule accepted.0 accepted.1
 
 pub returns-in-Ok-verify-clause-sound : goal.returns-in-Ok-verify-clause-sound
 returns-in-Ok-verify-clause-sound c = search rules

@@ -1,24 +1,19 @@
 use Rattle.std.proofs.Common.{refl}
 use Rattle.flatc_tool.proofs.evolution.BreachExcludesConforming.{breach_excludes}
-use Rattle.fb_declare.proofs.SchemaTextHasOneLayout.{refused_excludes}
 use Rattle.flatc_tool.proofs.evolution.conforming.Goals as goal
 
 pub returns-in-Err-clause-refused : goal.returns-in-Err-clause-refused
 returns-in-Err-clause-refused c = c.in-Err.ensures.refused
 
 pub returns-in-Err-clause-exact : goal.returns-in-Err-clause-exact
-returns-in-Err-clause-exact c rule texts = refused_excludes c.layer_laws.ensures.laws.schema c.args.old.now
-    c.in-Err.fault
-    c.in-Err.ensures.refused rule texts.0 texts.2
+returns-in-Err-clause-exact c rule texts = c.in-Err.ensures.exact rule texts.0 texts.2
 
 pub returns-in-Err-schema_of-clause-refused : goal.returns-in-Err-schema_of-clause-refused
 returns-in-Err-schema_of-clause-refused c =
     (c.in-Ok.layout, c.in-Ok.ensures.accepted, c.in-Err-schema_of.ensures.refused)
 
 pub returns-in-Err-schema_of-clause-exact : goal.returns-in-Err-schema_of-clause-exact
-returns-in-Err-schema_of-clause-exact c rule texts =
-    refused_excludes c.layer_laws.ensures.laws.schema c.args.new.now c.in-Err-schema_of.fault
-    c.in-Err-schema_of.ensures.refused rule texts.1 texts.3
+returns-in-Err-schema_of-clause-exact c rule texts = c.in-Err-schema_of.ensures.exact rule texts.1 texts.3
 
 pub returns-in-Ok-conform-clause-refused : goal.returns-in-Ok-conform-clause-refused
 returns-in-Ok-conform-clause-refused c = tt

@@ -1,19 +1,18 @@
+use Rattle.std.proofs.Common.{false}
 use Rattle.std.proofs.lemmas.Result.{IfErr-weaker, IfOk-weaker}
-use Rattle.flatc_tool.specs.Jobs.{BinaryRefused, IsBinary, MayBeBinary, MayBeBinaryOf, IsNotMemory}
-use Rattle.fb_declare.proofs.SchemaTextHasOneLayout.{refused_has_none, none_of_layout}
-use Rattle.flatc_tool.proofs.jobs.RefusedUnderTheSchema.{binary_refused}
+use Rattle.flatc_tool.specs.Jobs.{BinaryRefused, BinaryRefusedFramed, IsBinary, MayBeBinary, MayBeBinaryFramed, IsNotMemory}
+use Rattle.flatc_tool.proofs.jobs.RefusedUnderTheSchema.{none_of_layout, refused_under}
 use Rattle.flatc_tool.proofs.jobs.to_binary.Goals as goal
 
 pub returns-in-Err-clause-exact : goal.returns-in-Err-clause-exact
-returns-in-Err-clause-exact c rule =
-    refused_has_none c.layer_laws.ensures.laws.schema c.args.schema.now c.in-Err.fault _ c.in-Err.ensures.refused rule
+returns-in-Err-clause-exact c rule other = c.in-Err.ensures.exact rule other.layout other.accepted
 
 pub returns-clause-exact : goal.returns-clause-exact
 returns-clause-exact c =
     IfErr-weaker c.encode.result _
     (λ f. IsNotMemory f → ¬ (MayBeBinary c.args.schema.now c.args.json.now c.args.limits c.args.unknown))
-    (λ f exact rule. none_of_layout c.layer_laws.ensures.laws.schema c.args.schema.now c.in-Ok.layout
-    (λ L. MayBeBinaryOf L c.args.json.now c.args.limits c.args.unknown) c.in-Ok.ensures.accepted (exact rule))
+    (λ f exact rule. none_of_layout c.layer_laws.ensures.laws.one_layout c.args.schema.now c.in-Ok.layout
+    (λ L. MayBeBinaryFramed false L c.args.json.now c.args.limits c.args.unknown) c.in-Ok.ensures.accepted (exact rule))
     c.encode.ensures.exact
 
 pub returns-clause-binary : goal.returns-clause-binary
@@ -25,6 +24,6 @@ returns-clause-binary c =
 pub returns-clause-refused : goal.returns-clause-refused
 returns-clause-refused c =
     IfErr-weaker c.encode.result _ (BinaryRefused c.args.schema.now c.args.json.now c.args.limits c.args.unknown)
-    (binary_refused c.args.schema.now c.args.json.now c.args.limits c.args.unknown c.in-Ok.layout
-    c.in-Ok.ensures.accepted)
+    (refused_under c.args.schema.now (λ L. BinaryRefusedFramed false L c.args.json.now c.args.limits c.args.unknown)
+    c.in-Ok.layout c.in-Ok.ensures.accepted (λ f none. none))
     c.encode.ensures.refused

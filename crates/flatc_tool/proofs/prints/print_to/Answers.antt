@@ -1,21 +1,20 @@
+use Rattle.std.proofs.Common.{false}
 use Rattle.std.proofs.lemmas.Result.{IfErr-weaker, on_ok_weaker}
 use Rattle.fb_text.specs.Noted.{writer_of}
-use Rattle.flatc_tool.specs.Jobs.{MayBeText, MayBeTextOf}
-use Rattle.flatc_tool.specs.Prints.{IsOfInput, PrintRefused}
-use Rattle.fb_declare.proofs.SchemaTextHasOneLayout.{refused_has_none, none_of_layout}
-use Rattle.flatc_tool.proofs.jobs.RefusedUnderTheSchema.{print_refused}
+use Rattle.flatc_tool.specs.Jobs.{MayBeText, MayBeTextFramed}
+use Rattle.flatc_tool.specs.Prints.{IsOfInput, PrintRefused, PrintRefusedFramed}
+use Rattle.flatc_tool.proofs.jobs.RefusedUnderTheSchema.{none_of_layout, refused_under}
 use Rattle.flatc_tool.proofs.prints.print_to.Goals as goal
 
 pub returns-in-Err-clause-exact : goal.returns-in-Err-clause-exact
-returns-in-Err-clause-exact g c rule =
-    refused_has_none c.layer_laws.ensures.laws.schema c.args.schema.now c.in-Err.fault _ c.in-Err.ensures.refused rule
+returns-in-Err-clause-exact g c rule other = c.in-Err.ensures.exact rule other.layout other.accepted
 
 pub returns-clause-exact : goal.returns-clause-exact
 returns-clause-exact g c =
     IfErr-weaker c.decode_to.result _
     (λ f. IsOfInput f → ¬ (MayBeText c.args.schema.now c.args.bytes.now c.args.limits c.args.raw))
-    (λ f exact rule. none_of_layout c.layer_laws.ensures.laws.schema c.args.schema.now c.in-Ok.layout
-    (λ L. MayBeTextOf L c.args.bytes.now c.args.limits c.args.raw) c.in-Ok.ensures.accepted (exact rule))
+    (λ f exact rule. none_of_layout c.layer_laws.ensures.laws.one_layout c.args.schema.now c.in-Ok.layout
+    (λ L. MayBeTextFramed false L c.args.bytes.now c.args.limits c.args.raw) c.in-Ok.ensures.accepted (exact rule))
     c.decode_to.ensures.exact
 
 pub returns-in-Err-clause-refused : goal.returns-in-Err-clause-refused
@@ -36,8 +35,8 @@ returns-clause-refused g c =
     let known = g.W.Write.contents (writer_of c.decode_to.new.out) in
     IfErr-weaker c.decode_to.result _
     (PrintRefused c.args.schema.now c.args.bytes.now c.args.limits c.args.raw c.args.defaults start known)
-    (print_refused c.args.schema.now c.args.bytes.now c.args.limits c.args.raw c.in-Ok.layout c.in-Ok.ensures.accepted
-    c.args.defaults start known)
+    (refused_under c.args.schema.now (λ L. PrintRefusedFramed false false L c.args.bytes.now c.args.limits c.args.raw
+    c.args.defaults start known) c.in-Ok.layout c.in-Ok.ensures.accepted (λ f none. none))
     c.decode_to.ensures.refused
 
 pub returns-clause-failed : goal.returns-clause-failed

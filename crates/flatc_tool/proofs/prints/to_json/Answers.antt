@@ -1,20 +1,18 @@
-use Rattle.std.proofs.Common.{string_bytes}
+use Rattle.std.proofs.Common.{string_bytes, false}
 use Rattle.std.proofs.lemmas.Result.{IfErr-weaker, IfOk-weaker}
-use Rattle.flatc_tool.specs.Jobs.{IsText, TextRefused, MayBeText, MayBeTextOf, IsNotMemory}
-use Rattle.fb_declare.proofs.SchemaTextHasOneLayout.{refused_has_none, none_of_layout}
-use Rattle.flatc_tool.proofs.jobs.RefusedUnderTheSchema.{text_refused}
+use Rattle.flatc_tool.specs.Jobs.{IsText, TextRefused, TextRefusedFramed, MayBeText, MayBeTextFramed, IsNotMemory}
+use Rattle.flatc_tool.proofs.jobs.RefusedUnderTheSchema.{none_of_layout, refused_under}
 use Rattle.flatc_tool.proofs.prints.to_json.Goals as goal
 
 pub returns-in-Err-clause-exact : goal.returns-in-Err-clause-exact
-returns-in-Err-clause-exact c rule =
-    refused_has_none c.layer_laws.ensures.laws.schema c.args.schema.now c.in-Err.fault _ c.in-Err.ensures.refused rule
+returns-in-Err-clause-exact c rule other = c.in-Err.ensures.exact rule other.layout other.accepted
 
 pub returns-clause-exact : goal.returns-clause-exact
 returns-clause-exact c =
     IfErr-weaker c.decode.result _
     (λ f. IsNotMemory f → ¬ (MayBeText c.args.schema.now c.args.bytes.now c.args.limits c.args.raw))
-    (λ f exact rule. none_of_layout c.layer_laws.ensures.laws.schema c.args.schema.now c.in-Ok.layout
-    (λ L. MayBeTextOf L c.args.bytes.now c.args.limits c.args.raw) c.in-Ok.ensures.accepted (exact rule))
+    (λ f exact rule. none_of_layout c.layer_laws.ensures.laws.one_layout c.args.schema.now c.in-Ok.layout
+    (λ L. MayBeTextFramed false L c.args.bytes.now c.args.limits c.args.raw) c.in-Ok.ensures.accepted (exact rule))
     c.decode.ensures.exact
 
 pub returns-in-Err-clause-refused : goal.returns-in-Err-clause-refused
@@ -30,5 +28,6 @@ returns-clause-text c =
 pub returns-clause-refused : goal.returns-clause-refused
 returns-clause-refused c =
     IfErr-weaker c.decode.result _ (TextRefused c.args.schema.now c.args.bytes.now c.args.limits c.args.raw)
-    (text_refused c.args.schema.now c.args.bytes.now c.args.limits c.args.raw c.in-Ok.layout c.in-Ok.ensures.accepted)
+    (refused_under c.args.schema.now (λ L. TextRefusedFramed false L c.args.bytes.now c.args.limits c.args.raw)
+    c.in-Ok.layout c.in-Ok.ensures.accepted (λ f none. none))
     c.decode.ensures.refused

@@ -38,7 +38,7 @@ loop-2-preserved c =
     ∙ ap (λ (xs : List ℕ). opening ++ (text ++ xs)) (replicate_more c.loop-2.counter 93)
 
 pub returns-in_err-push : goal.returns-in_err-push
-returns-in_err-push c = IfOk-from_err _ _ c.from_residual.ensures.0
+returns-in_err-push c = IfOk-from_err _ _ c.from_residual-in_err-push.ensures.0
 
 pub returns-in_err-extend_from_slice : goal.returns-in_err-extend_from_slice
 returns-in_err-extend_from_slice c = IfOk-from_err _ _ c.from_residual-in_err-extend_from_slice.ensures.0

@@ -1,0 +1,79 @@
+//! The count in front of a buffer: what is wrong with it, and whether there is one.
+use fb_explain_pages::{Page, Sources};
+use fb_layout::Layout;
+use fb_read::{Entries, split_prefixed, verify_framed};
+use fb_value::ReadFault;
+
+/// Adds what is wrong with a count; returns whether that is the fault.
+pub(crate) fn push_count(page: &mut Page, bytes: &[u8], fault: ReadFault) -> bool {
+    let [a, b, c, d, rest @ ..] = bytes else {
+        return false;
+    };
+    let count = u64::from(u32::from_le_bytes([*a, *b, *c, *d]));
+    let left = rest.len() as u64;
+    match fault {
+        ReadFault::OutOfBounds(0) => {}
+        ReadFault::OutOfBounds(at) if at == count + 4 && count < left => {}
+        _ => return false,
+    }
+    page.push_str("bytes 0 to 3 say that ");
+    page.push_number(count);
+    page.push_str(" bytes follow, and ");
+    page.push_number(left);
+    page.push_line(" do");
+    true
+}
+
+// A header, a vtable without slots, and a table, behind a count.
+const SHORTEST_MESSAGE: usize = 16;
+
+/// How many size-prefixed buffers the bytes are, one behind the other; none where one is cut, or shorter than a
+/// buffer can be.
+fn count_messages(bytes: &[u8]) -> Option<u64> {
+    let mut left = bytes;
+    let mut count = 0u64;
+    for _turn in 0..bytes.len() {
+        match split_prefixed(left) {
+            Ok(Some((message, rest))) if message.len() >= SHORTEST_MESSAGE => {
+                count = count.saturating_add(1);
+                left = rest;
+            }
+            Ok(None) => return Some(count),
+            Ok(Some(_)) | Err(_) => return None,
+        }
+    }
+    left.is_empty().then_some(count)
+}
+
+/// Adds that the bytes may be framed in another way than they were read.
+pub(crate) fn push_other_framing(page: &mut Page, layout: &Layout, sources: &Sources<'_>) {
+    let bytes = sources.input.bytes;
+    let is_bare = sources.size_prefixed
+        && verify_framed(
+            layout,
+            bytes,
+            sources.limits,
+            sources.raw_binary,
+            false,
+            &mut Entries::new(),
+        )
+        .is_ok();
+    if is_bare {
+        page.push_line("without a size prefix it is sound: leave out --size-prefixed");
+        return;
+    }
+    match count_messages(bytes) {
+        Some(1) if !sources.size_prefixed => page.push_line(
+            "the first four bytes are the length of what follows: a size-prefixed buffer? add \
+             --size-prefixed",
+        ),
+        Some(count) if count > 1 => {
+            page.push_str("these may be ");
+            page.push_number(count);
+            page.push_line(
+                " size-prefixed buffers, one after the other: --lines reads a stream of them",
+            );
+        }
+        _ => {}
+    }
+}

@@ -1,0 +1,193 @@
+//! The rule that a JSON value breaks, with what is there and what would be right.
+use crate::names::{field_of, push_half, push_unknown_member, push_unknown_name};
+use crate::numbers::push_not_whole;
+use crate::tokens::number_of;
+use fb_explain_pages::{Page, push_shape, range_of_base};
+use fb_json::{JsonFault, Place};
+use fb_layout::{Layout, kind_in};
+use fb_schema::{Base, FieldInfo, Kind, Shape, kind_name, type_name};
+use fb_value::Limits;
+
+/// An offset in a JSON text, and whether the value at a path's end is there, or the object that lacks it.
+#[derive(Clone, Copy)]
+pub(crate) struct Found {
+    pub(crate) offset: usize,
+    pub(crate) is_there: bool,
+}
+
+/// What a JSON text has where a rule is broken.
+#[derive(Clone, Copy)]
+pub(crate) struct BrokenValue<'t> {
+    /// The text from the value on, or from the object that lacks it.
+    pub(crate) text: &'t str,
+    /// Whether the value is there.
+    pub(crate) is_there: bool,
+    pub(crate) is_element: bool,
+}
+
+/// The number, word or text at the front.
+fn token_of(text: &str) -> &str {
+    match text.strip_prefix('"') {
+        Some(rest) => match rest.find('"') {
+            Some(end) => text.get(..end.saturating_add(2)).unwrap_or(text),
+            None => text,
+        },
+        None => number_of(text),
+    }
+}
+
+/// What kind of value is at the front.
+fn kind_of(text: &str) -> &'static str {
+    match text.as_bytes() {
+        [b'"', ..] => "a text",
+        [b'{', ..] => "an object",
+        [b'[', ..] => "an array",
+        [b't' | b'f', ..] => "true or false",
+        [b'n', ..] => "null",
+        _ => "a number",
+    }
+}
+
+/// What kind of value one of a kind is written as.
+fn written_as(kind: Kind) -> &'static str {
+    match kind {
+        Kind::Scalar(Base::Bool) => "true, false, 0 or 1",
+        Kind::Scalar(_) => "a number",
+        Kind::Enum(_) => "a value's name or number",
+        Kind::Struct(_) | Kind::Table(_) | Kind::Union(_) => "an object",
+        Kind::Code(_) => "a member's name or number",
+        Kind::Text => "a text",
+    }
+}
+
+fn push_wrong_shape(
+    page: &mut Page,
+    layout: &Layout,
+    text: &str,
+    field: Option<&FieldInfo>,
+    is_element: bool,
+) {
+    page.push_str(kind_of(text));
+    let Some(field) = field else {
+        page.push_line(" where the root's object must be");
+        return;
+    };
+    page.push_str(" where ");
+    match field.shape {
+        Shape::Many(_) if !is_element => page.push_str("an array"),
+        Shape::Many(kind) | Shape::One(kind) => page.push_str(written_as(kind)),
+    }
+    page.push_str(" must be: the field's type is ");
+    let name = kind_name(layout.schema(), kind_in(field.shape));
+    push_shape(page, field.shape, name);
+    page.end_line();
+}
+
+/// The basic type of a field's numbers.
+fn base_of(layout: &Layout, field: &FieldInfo) -> Option<Base> {
+    match kind_in(field.shape) {
+        Kind::Scalar(base) => Some(base),
+        Kind::Enum(number) => {
+            let declared = layout.schema().types().get(number.0 as usize)?;
+            let (base, _, _) = declared.body.as_enum()?;
+            Some(base)
+        }
+        Kind::Code(_) => Some(Base::U8),
+        _ => None,
+    }
+}
+
+fn push_out_of_range(page: &mut Page, layout: &Layout, text: &str, field: Option<&FieldInfo>) {
+    page.push_cut(token_of(text).as_bytes());
+    let Some(field) = field else {
+        page.push_line(" is out of range");
+        return;
+    };
+    match base_of(layout, field) {
+        Some(Base::Bool) => page.push_line(" isn't true, false, 0 or 1"),
+        Some(base) => {
+            page.push_str(" isn't in ");
+            page.push_str(range_of_base(base));
+            page.push_str(", the range of ");
+            page.push_str(kind_name(layout.schema(), kind_in(field.shape)));
+            page.end_line()
+        }
+        None => page.push_line(" is out of range"),
+    }
+}
+
+fn push_missing(
+    page: &mut Page,
+    layout: &Layout,
+    place: Place,
+    field: Option<&FieldInfo>,
+    rest: &str,
+) {
+    page.push_cut(type_name(layout.schema(), place.owner).as_bytes());
+    page.push_str(" needs the field ");
+    page.push_name(field.map_or("?", |field| field.name.as_str()).as_bytes());
+    page.push_line(rest);
+}
+
+fn push_limit(page: &mut Page, front: &str, most: u64, rest: &str) {
+    page.push_str(front);
+    page.push_number(most);
+    page.push_line(rest);
+}
+
+/// Adds the rule that a value breaks, and ends the line. `name` is that of an unknown member.
+pub(crate) fn push_rule(
+    page: &mut Page,
+    layout: &Layout,
+    limits: Limits,
+    fault: JsonFault,
+    value: BrokenValue<'_>,
+    name: Option<&str>,
+) {
+    let Some(place) = fault.place() else {
+        return;
+    };
+    let field = field_of(layout.schema(), place);
+    let text = value.text;
+    match fault {
+        JsonFault::WrongShape(_) => push_wrong_shape(page, layout, text, field, value.is_element),
+        JsonFault::NotWhole(_) => push_not_whole(page, token_of(text)),
+        JsonFault::OutOfRange(_) => push_out_of_range(page, layout, text, field),
+        JsonFault::UnknownName(_) => push_unknown_name(
+            page,
+            layout.schema(),
+            token_of(text),
+            field,
+        ),
+        JsonFault::UnknownMember(_) => push_unknown_member(
+            page,
+            layout.schema(),
+            place.owner,
+            name,
+        ),
+        JsonFault::MissingMember(_) => {
+            push_missing(page, layout, place, field, ": a struct has all its fields")
+        }
+        JsonFault::MissingRequired(_) => push_missing(
+            page,
+            layout,
+            place,
+            field,
+            ": it is required",
+        ),
+        JsonFault::UnionMismatch(_) => push_half(page, layout.schema(), place, value.is_there),
+        JsonFault::TooDeep(_) => push_limit(
+            page,
+            "tables are nested deeper than ",
+            u64::from(limits.most_depth()),
+            " levels",
+        ),
+        JsonFault::TooManyCells(_) => push_limit(
+            page,
+            "more than ",
+            u64::from(limits.most_cells()),
+            " tables, strings, vectors, elements and bytes of strings",
+        ),
+        JsonFault::Memory => {}
+    }
+}

@@ -1,0 +1,24 @@
+//! Why a schema text is refused, in sentences for people.
+#![tactic(auto)]
+
+mod bad_defaults;
+mod bad_ids;
+mod bad_values;
+mod broken_rules;
+mod declared;
+mod expected;
+mod file_kinds;
+mod first_names;
+mod layouts;
+mod schema_faults;
+mod schema_tokens;
+mod struct_fields;
+mod syntax_faults;
+mod type_names;
+mod unknown_types;
+mod unsupported;
+
+pub use declared::{declarations_of, fields_of, name_of, type_in};
+pub use file_kinds::{FileKind, kind_of_file};
+pub use layouts::{layout_of, memory_use_of_schema};
+pub use schema_faults::push_schema_fault;

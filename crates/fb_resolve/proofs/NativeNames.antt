@@ -1,0 +1,2 @@
+-- Names that begin with `native_`.
+pub use Rattle.std.proofs.lemmas.Str.Pattern.{starts_text}

@@ -1,0 +1,2 @@
+-- What the proofs of src/ids.rt use.
+pub mod TwiceAmongNumbers
