@@ -3,13 +3,14 @@
 
 usage: tests/estimate.py FOLDER
 
-FOLDER has the log, crates.txt and tools/seconds.txt. The table's figures are of an older run. Each crate of today has
+FOLDER has the log, the lines of crates.txt and the table of tools/seconds.txt. The table's figures are of an older run. Each crate of today has
 to have its figure in today's table. The last line is 'N passed, M failed'.
 """
+import os
 import re
 import sys
 
-from harness import ROOT, Tests, content, program_of
+from harness import ROOT, Tests, content, program_of, write
 
 sys.path.append(f"{ROOT}/tools")
 
@@ -32,7 +33,10 @@ def table(tests):
 def estimates(tests):
     """After each crate the time of the whole run is estimated well."""
     log = content(f"{tests.program}/log").decode()
-    build.ROOT = tests.program
+    os.mkdir("tools")
+    write("crates.txt", content(f"{tests.program}/crates"))
+    write("tools/seconds.txt", content(f"{tests.program}/seconds"))
+    build.ROOT = os.getcwd()
     build.noted_seconds.cache_clear()
     build.seconds_of.cache_clear()
     count, jobs = (int(it) for it in HEAD.search(log).groups())
