@@ -3,8 +3,8 @@
 
 usage: tests/estimate.py FOLDER
 
-FOLDER has the log, the lines of crates.txt and the table of tools/seconds.txt. The table's figures are of an older run. Each crate of today has
-to have its figure in today's table. The last line is 'N passed, M failed'.
+FOLDER has the log, the lines of crates.txt and the table of tools/seconds.txt. The table's figures are of an older run.
+Each crate of today has to have its figure in today's table. The last line is 'N passed, M failed'.
 """
 import os
 import re
