@@ -157,7 +157,7 @@ free_is_missing ns bs f long marks is =
     let place : get_or (range_with_len 0 (length ns)) f 0 ≡ f =
     get_or-range_with_len 0 (length ns) f 0 low ∙ omega arith in (
       list_all_at (λ k. list_any (λ n. k == n) ns) (range_with_len 0 (length ns)) f 0
-      (rw (length-range_with_len 0 (length ns)) low) (rw place missing),
+          (rw (length-range_with_len 0 (length ns)) low) (rw place missing),
       low,
       missing,
     )

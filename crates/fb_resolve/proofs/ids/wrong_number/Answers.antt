@@ -28,21 +28,21 @@ loop-number-preserved c =
     let long = c.loop-number.invariant.count in
     elim c.if-place-len.branch [
       | then-place-len w ↦ let inside : get_or ns i 0 < length ns = search (rules, arith, tests) in
-        let mark = c.loop-number.invariant.marks (get_or ns i 0) inside in
-        record {
-          count = search (rules, arith);
-          marks = λ k low. marks_more ns before i k (search (rules, arith)) c.if-place-len.taken.items
-              (search (rules, arith, tests)) (search (rules, w.taken-is)) (c.loop-number.invariant.marks k low);
-          twice = twice_more ns i c.loop-number.twice c.if-place-len.twice w.index.result.now (search (rules, arith))
-              (w.index.ensures ∙ get_or_default before (get_or ns i 0) w.index.result.now false (omega (arith, long, inside))
-              ∙ mark) c.loop-number.invariant.twice (search (rules, w.twice-is));
-        }
+          let mark = c.loop-number.invariant.marks (get_or ns i 0) inside in
+          record {
+            count = search (rules, arith);
+            marks = λ k low. marks_more ns before i k (search (rules, arith)) c.if-place-len.taken.items
+                (search (rules, arith, tests)) (search (rules, w.taken-is)) (c.loop-number.invariant.marks k low);
+            twice = twice_more ns i c.loop-number.twice c.if-place-len.twice w.index.result.now (search (rules, arith))
+                (w.index.ensures ∙ get_or_default before (get_or ns i 0) w.index.result.now false (omega (arith, long, inside))
+                ∙ mark) c.loop-number.invariant.twice (search (rules, w.twice-is));
+          }
       | else-place-len w ↦ record {
-          count = search (rules, arith);
-          marks = λ k low. rw w.taken-is (marks_same ns before i k (search (rules, arith))
-              (search (rules, arith, tests)) (omega (arith, long, low)) (c.loop-number.invariant.marks k low));
-          twice = rw w.twice-is (still ns i c.loop-number.twice (search (rules, arith)) c.loop-number.invariant.twice);
-        }
+        count = search (rules, arith);
+        marks = λ k low. rw w.taken-is (marks_same ns before i k (search (rules, arith))
+            (search (rules, arith, tests)) (omega (arith, long, low)) (c.loop-number.invariant.marks k low));
+        twice = rw w.twice-is (still ns i c.loop-number.twice (search (rules, arith)) c.loop-number.invariant.twice);
+      }
     ]
 
 pub returns-clause-wrong : goal.returns-clause-wrong
