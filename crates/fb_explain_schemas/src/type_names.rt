@@ -9,5 +9,5 @@ pub(crate) fn is_base(token: &[u8]) -> bool {
 
 /// Whether a token names a floating-point type.
 pub(crate) fn is_float_type(token: &[u8]) -> bool {
-    str::from_utf8(token).is_ok_and(is_float)
+    str::from_utf8(token).is_ok_and(|name| is_float(name))
 }

@@ -39,7 +39,7 @@ pub(crate) struct Before<'t> {
 
 /// Whether a token names an attribute that isn't supported.
 pub(crate) fn is_unsupported_attribute(token: &[u8]) -> bool {
-    str::from_utf8(token).is_ok_and(is_left_out)
+    str::from_utf8(token).is_ok_and(|name| is_left_out(name))
 }
 
 fn is_a_number(word: &[u8]) -> bool {
