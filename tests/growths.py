@@ -33,7 +33,6 @@ CALLS = {
     "carry": {0},
     "encode": {114, 80, 41},
     "encode_plan": {114, 80, 41},
-    "encode_owned": {114, 80, 41},
     "encode_pieces": {114, 41},
     "decode": {84},
     "to_binary": SCHEMA | {114, 80, 41},

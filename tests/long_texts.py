@@ -39,9 +39,8 @@ MOST = 3
 TABLES, NUMBERS, NOTHING = 1.5, 2, 0
 # A buffer has as many bytes of a string as its text.
 STRING = 1
-# How many times the processor time of a right text one takes that is refused. After a fault the pieces that are left
-# are still read as trees, and nothing is kept between two of them, so that their memory goes back to the system.
-TIMES = 2.5
+# How many times the processor time of a right text one takes that is refused.
+TIMES = 1.3
 RUNS = 5
 PLACE = re.compile(r"long\.json:[0-9]+:[0-9]+: ")
 IGNORING = ("--unknown-json",)

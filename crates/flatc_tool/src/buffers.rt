@@ -92,26 +92,3 @@ pub fn encode_plan<'l>(
         Err(fault) => Err(refused(fault)),
     }
 }
-
-/// The bytes that `encode` returns, of a JSON text that is given away, and freed before memory for the buffer is taken.
-/// This takes the least memory.
-pub fn encode_owned(
-    alloc: Global,
-    layout: &Layout,
-    json: Vec<u8>,
-    options: &EncodeOptions,
-) -> Result<Vec<u8>, ToolFault>
-    ensures binary { IfOk result
-        (λ b. IsBinaryFramed options.now.size_prefixed layout.now json.items options.now.limits
-        options.now.unknown_json b.items) }
-    ensures refused { IfErr result
-        (BinaryRefusedFramed options.now.size_prefixed layout.now json.items options.now.limits
-        options.now.unknown_json) }
-    ensures exact { IfErr result (λ f. IsNotMemory f
-        → ¬ MayBeBinaryFramed options.now.size_prefixed layout.now json.items options.now.limits
-        options.now.unknown_json) }
-{
-    let mut json = json;
-    let plan = encode_plan(alloc, layout, &mut json, options)?;
-    Ok(plan.finish())
-}

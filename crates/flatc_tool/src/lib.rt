@@ -12,7 +12,7 @@ mod laws;
 mod options;
 mod prints;
 
-pub use buffers::{encode, encode_owned, encode_plan};
+pub use buffers::{encode, encode_plan};
 pub use checks::check;
 pub use evolution::{conform_names, conform_texts};
 pub use fb_build::{BuildFault, TapePlan};

@@ -9,9 +9,7 @@ use fb_json::{Source, value_of};
 use fb_layout::Layout;
 use fb_owned::read;
 use fb_read::Entries;
-use flatc_tool::{
-    DecodeOptions, EncodeOptions, ToolFault, decode, encode, encode_owned, encode_plan, schema_of,
-};
+use flatc_tool::{DecodeOptions, EncodeOptions, ToolFault, decode, encode, encode_plan, schema_of};
 use serde_json::Value as Json;
 
 fn try_encode(rt: &HostRuntime, example: &Example, layout: &Layout, arms: bool) -> Outcome {
@@ -36,17 +34,6 @@ fn try_plan(rt: &HostRuntime, example: &Example, layout: &Layout, arms: bool) ->
         Err(fault) if json.as_slice() == example.json => Outcome::of_refusal(fault.number()),
         Err(_) => Outcome::Wrong,
     }
-}
-
-fn try_owned(rt: &HostRuntime, example: &Example, layout: &Layout, arms: bool) -> Outcome {
-    let Ok(json) = Vec::from_slice(rt.alloc(), example.json) else {
-        return Outcome::Wrong;
-    };
-    let options = EncodeOptions::new();
-    arm(rt, arms);
-    let answer = encode_owned(rt.alloc(), layout, json, &options);
-    disarm(rt, arms);
-    of_bytes(answer, example.bytes)
 }
 
 /// An example's buffer, whose text is read in pieces of a few bytes.
@@ -112,7 +99,6 @@ fn try_under(
     match call {
         "encode" => Some(try_encode(rt, example, layout, arms)),
         "encode_plan" => Some(try_plan(rt, example, layout, arms)),
-        "encode_owned" => Some(try_owned(rt, example, layout, arms)),
         "encode_pieces" => Some(try_pieces(rt, example, layout, arms)),
         "decode" => Some(try_decode(rt, example, layout, arms)),
         "read" => Some(try_read(rt, example, layout, arms)),

@@ -46,7 +46,6 @@ const CALLS: &[&str] = &[
     "carry",
     "encode",
     "encode_plan",
-    "encode_owned",
     "encode_pieces",
     "decode",
     "to_binary",
