@@ -17,7 +17,7 @@ from harness import ROOT, Tests, content, program_of, write
 sys.path.append(f"{ROOT}/bench")
 from bench import Runner  # noqa: E402
 
-# Types are numbered A 0, P 1, Q 2, B 3, W 4, E 5, T 6, and T's slots from v 0 to boxes 13.
+# Types are numbered A 0, P 1, Q 2, B 3, W 4, E 5, T 6, and T's slots from v 0 to list 14.
 SCHEMA = b"""
 table A { a:int; }
 struct P { x:int; y:int; }
@@ -27,7 +27,7 @@ union W { A, B }
 enum E : byte { Red, Green }
 table T {
   v:[A]; name:string; n:int; p:P; u:W; old:[A] (deprecated); numbers:[int]; points:[P]; names:[string]; e:E; a:A; q:Q;
-  boxes:[Q];
+  boxes:[Q]; list:[B];
 }
 root_type T;
 """
@@ -231,6 +231,12 @@ ROWS = [
     Row("a union's member by its number", text(b'{"u_type":2,"u":{"v":', tables, b"}}")),
     Row("a union's member before its code", text(b'{"u":{"v":', tables, b'},"u_type":"B"}')),
     Row("a union in a union", text(b'{"u_type":"B","u":{"w_type":"B","w":{"v":', tables, b"}}}")),
+    Row("a union in a table of a vector", text(b'{"list":[{"w_type":"B","w":{"v":', tables, b"}}]}")),
+    Row(
+        "a fault in a union in a table of a vector",
+        text(b'{"list":[{},{"w":{"v":', repeated(TABLE, b"1"), b'},"w_type":"B"}]}'),
+        "70 WrongShape in type 3 slot 0",
+    ),
     Row("a union's member without its code", text(b'{"u":{"v":', tables, b"}}"), MISMATCH, share=NOTHING),
     Row("a union's member with no code", text(b'{"u_type":"NONE","u":{"v":', tables, b"}}"), MISMATCH, share=NOTHING),
     Row(
