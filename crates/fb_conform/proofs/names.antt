@@ -1,3 +1,3 @@
 -- What the proofs of src/names.rt use.
-pub mod MovedNamesAreListedInOrder
 pub mod NamesHaveOneSlot
+pub mod MovedNamesAreFound

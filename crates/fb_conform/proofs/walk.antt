@@ -1,5 +1,5 @@
 -- What the proofs of src/walk.rt use.
 pub mod EachBreachHasItsPlace
-pub mod BreachesAreReportedInOrder
+pub mod DifferencesAreReportedInOrder
 pub mod OtherBreachesAreKept
 pub mod EachPlaceIsWalked

@@ -3,9 +3,9 @@ pub mod ByName
 pub mod Conforms
 pub mod BreachTable
 pub mod Order
-pub mod Listed
 pub mod Names
-pub mod MovedNames
+pub mod Differences
+pub mod Listed
 pub mod Movement
 pub mod Carry
 pub mod Back

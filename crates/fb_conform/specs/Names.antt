@@ -1,9 +1,10 @@
 -- Names that stand for what they stood for.
 -- From the FlatBuffers documentation, "Evolution" and "JSON parsing": stored bytes go by slots and codes, JSON texts by
 -- names. So where a name gets another slot, old JSON texts mean something else.
-use Rattle.std.specs.Prelude.{ℕ, suc, ◌≡◌, ◌≢◌, ◌<◌, ◌⊎◌, Option, Some, option_map, position, bytes_eq}
+use Rattle.std.specs.Prelude.{ℕ, zero, suc, ◌≡◌, ◌≢◌, ◌<◌, ◌⊎◌, Option, None, Some, option_map, position}
+use Rattle.std.specs.Prelude.{bytes_eq, slice_get}
 use Rattle.fb_schema.specs.Schema.{Name, DeclaredBody, union_body, body_at}
-use Rattle.fb_schema.specs.Found.{field_named}
+use Rattle.fb_schema.specs.Found.{fields_in, field_named}
 use Rattle.fb_layout.specs.Laid.{LaidSchema}
 use Rattle.fb_conform.specs.declared.names.MovedName.{MovedName}
 use Rattle.fb_conform.specs.Twins.{Twins}
@@ -13,6 +14,12 @@ use Rattle.fb_conform.specs.Twins.{Twins}
 abbrev pub slot_named : DeclaredBody → Name → Option ℕ
 slot_named (union_body members) name = option_map (λ k. suc k) (position (λ m. bytes_eq name m.0) members)
 slot_named body name = option_map (λ f. f.slot) (field_named body name)
+
+-- the name that stands in a place of a type: the other way round
+abbrev pub name_in : DeclaredBody → ℕ → Option Name
+name_in (union_body members) zero = None
+name_in (union_body members) (suc k) = option_map (λ m. m.0) (slice_get members k)
+name_in body k = option_map (λ f. f.name) (slice_get (fields_in body) k)
 
 -- A name that both versions of a type have stands for one slot.
 abbrev pub KeepsNames : LaidSchema → LaidSchema → Type 0

@@ -26,22 +26,3 @@ IsBefore r b = (type_place r < type_place b) ⊎ ((type_place r ≡ type_place b
 pub record IsFirst (A B : LaidSchema) (b : Breach) : Type 0 where
   pub stands : Stands A B b
   pub first : (r : Breach) → IsBefore r b → Kept A B r
-
--- It is that breach, or before it.
-abbrev pub IsUpTo : Breach → Breach → Type 0
-IsUpTo r b = IsBefore r b ⊎ (r ≡ b)
-
--- It is in front of a slot's place in a type's place.
-abbrev pub IsInFrontOf : ℕ → ℕ → Breach → Type 0
-IsInFrontOf t s b = (type_place b < t) ⊎ ((type_place b ≡ t) × (slot_place b < s))
-
--- It is the root's, the identifier's, or of a type below a number.
-abbrev pub IsOfTypesBelow : ℕ → Breach → Type 0
-IsOfTypesBelow n = IsInFrontOf (n + 1) 0
-
--- It is that, or of a type itself, or of a slot of it below a number.
-abbrev pub IsOfSlotsBelow : ℕ → ℕ → Breach → Type 0
-IsOfSlotsBelow t n = IsInFrontOf (t + 1) (n + 1)
-
-abbrev pub IsAny : Breach → Type 0
-IsAny b = Unit {0}

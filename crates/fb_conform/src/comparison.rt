@@ -1,11 +1,14 @@
-//! Whether a schema may follow another, and all that speaks against it.
+//! Whether a schema may follow another, and how the two differ.
 ghost use Rattle.std.specs.Prelude.{◌↔◌, IsOk, IfOk, IfErr, Contains, AllPairs};
 ghost use Rattle.fb_conform.specs.declared.breaches.Breach.{Breach};
+ghost use Rattle.fb_conform.specs.declared.difference.Difference.{Difference};
 ghost use Rattle.fb_conform.specs.Conforms.{Conforms, Stands};
+ghost use Rattle.fb_conform.specs.Differences.{Differs, ComesBefore};
 ghost use Rattle.fb_conform.specs.Order.{IsBefore, IsFirst};
 
 use crate::breaches::Breach;
-use crate::sinks::FirstBreach;
+use crate::difference::Difference;
+use crate::hearers::FirstBreach;
 use crate::walk::walk;
 use fb_layout::Layout;
 use std::alloc::{AllocError, Global};
@@ -27,7 +30,18 @@ pub fn all_breaches(alloc: Global, old: &Layout, new: &Layout) -> Result<Vec<Bre
     ensures all { IfOk result (λ list. (b : Breach) → Contains list.items b ↔ Stands old.now new.now b) }
     ensures order { IfOk result (λ list. AllPairs IsBefore list.items) }
 {
-    let mut found = Vec::new(alloc);
+    let mut found: Vec<Breach> = Vec::new(alloc);
+    walk(&mut found, old, new)?;
+    Ok(found)
+}
+
+/// Every breach that holds and every moved name: the root's and the identifier's breaches, then for each old type its
+/// breaches and its moved names, both by slot.
+pub fn differences(alloc: Global, old: &Layout, new: &Layout) -> Result<Vec<Difference>, AllocError>
+    ensures all { IfOk result (λ list. (d : Difference) → Contains list.items d ↔ Differs old.now new.now d) }
+    ensures order { IfOk result (λ list. AllPairs ComesBefore list.items) }
+{
+    let mut found: Vec<Difference> = Vec::new(alloc);
     walk(&mut found, old, new)?;
     Ok(found)
 }

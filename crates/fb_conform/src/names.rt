@@ -1,17 +1,16 @@
 //! Names that stand for something else in a new schema.
-ghost use Rattle.std.specs.Prelude.{◌≡◌, ◌+◌, ◌<◌, ◌≤◌, ◌↔◌, length, map, false, AllPairs, Contains, IfOk, OnOk};
-ghost use Rattle.std.specs.Prelude.{string_bytes};
-ghost use Rattle.fb_schema.specs.Schema.{body_at, union_body, is_union};
+ghost use Rattle.std.specs.Prelude.{ℕ, ◌≡◌, ◌<◌, ◌≤◌, ◌↔◌, length, map, None, IsTrue, IfOk, AllPairs, Contains};
+ghost use Rattle.std.specs.Prelude.{option_copied};
+ghost use Rattle.fb_schema.specs.Schema.{body_at};
 ghost use Rattle.fb_schema.specs.Seen.{field_seen};
 ghost use Rattle.fb_schema.specs.Found.{fields_in};
 ghost use Rattle.fb_schema.specs.WellDeclared.{IsDeclared};
 ghost use Rattle.fb_conform.specs.declared.names.MovedName.{MovedName};
-ghost use Rattle.fb_conform.specs.Names.{slot_named, IsMoved, IsBefore};
-ghost use Rattle.fb_conform.specs.MovedNames.{ListsMoved, AddsIfMoved};
+ghost use Rattle.fb_conform.specs.Names.{slot_named, name_in, IsMoved, IsBefore};
 ghost use Rattle.fb_conform.specs.Twins.{Twins};
 
 use crate::bodies::body_of;
-use crate::twins::twin_of;
+use crate::walk::walk;
 use fb_layout::Layout;
 use fb_schema::{Body, FieldInfo, Schema, TypeId};
 use std::alloc::{AllocError, Global};
@@ -40,26 +39,6 @@ fn slot_named(schema: &Schema, owner: TypeId, name: &str) -> Option<u64>
     Some(u64::from(code))
 }
 
-/// Adds an old name, if it stands for something else in the new type.
-fn add_name(
-    found: &mut Vec<MovedName>,
-    new: &Schema,
-    twin: TypeId,
-    name: &str,
-    moved: MovedName,
-) -> Result<(), AllocError>
-    requires { IsDeclared new.now }
-    ensures { OnOk result (AddsIfMoved (slot_named (body_at new.now twin.0) name.now) moved
-        found.old.items found.new.items) }
-{
-    if let Some(slot) = slot_named(new, twin, name) {
-        if slot != u64::from(moved.slot) {
-            found.push(moved)?;
-        }
-    }
-    Ok(())
-}
-
 /// The fields of a table or struct, in order; none of another type.
 fn fields_of(layout: &Layout, owner: TypeId) -> &[FieldInfo]
     ensures fields { map field_seen result.now ≡ fields_in (body_at layout.now.schema owner.0) }
@@ -72,75 +51,41 @@ fn fields_of(layout: &Layout, owner: TypeId) -> &[FieldInfo]
     slots
 }
 
-/// Adds the names of an old type's fields that are moved.
-fn add_fields(
-    found: &mut Vec<MovedName>,
-    old: &Layout,
-    new: &Layout,
-    type_id: TypeId,
-    twin: TypeId,
-) -> Result<(), AllocError>
-    requires declared { IsDeclared old.now.schema }
-    requires twins { Twins old.now.schema new.now.schema type_id.0 twin.0 }
-    requires fields { is_union (body_at old.now.schema type_id.0) ≡ false }
-    requires before { ListsMoved old.now new.now type_id.0 0 found.old.items }
-    ensures { OnOk result (ListsMoved old.now new.now (type_id.0 + 1) 0 found.new.items) }
+/// The name that a slot, a place in a struct or a union's code has.
+fn name_in(layout: &Layout, owner: TypeId, slot: u16) -> Option<&str>
+    requires { owner.0 < length layout.now.schema.types }
+    ensures { option_copied result ≡ name_in (body_at layout.now.schema owner.0) slot }
 {
-    let fields = fields_of(old, type_id);
-    for i in 0..fields.len() {
-        let moved = MovedName {
-            type_id,
-            slot: i as u16,
-        };
-        add_name(found, new.schema(), twin, fields[i].name.as_str(), moved)?;
+    let at = usize::from(slot);
+    match body_of(layout.schema(), owner) {
+        Body::Union(members) => Some(members.get(at.checked_sub(1)?)?.0.as_str()),
+        _ => Some(fields_of(layout, owner).get(at)?.name.as_str()),
     }
-    Ok(())
 }
 
-/// Adds the names of an old union's members that are moved.
-fn add_members(
-    found: &mut Vec<MovedName>,
-    old: &Layout,
-    new: &Layout,
-    type_id: TypeId,
-    twin: TypeId,
-    members: &[(String, TypeId)],
-) -> Result<(), AllocError>
-    requires declared { IsDeclared old.now.schema }
-    requires twins { Twins old.now.schema new.now.schema type_id.0 twin.0 }
-    requires few { length members.now ≤ 255 }
-    requires members { body_at old.now.schema type_id.0
-        ≡ union_body (map (λ m. (string_bytes m.0, m.1.0)) members.now) }
-    requires before { ListsMoved old.now new.now type_id.0 0 found.old.items }
-    ensures { OnOk result (ListsMoved old.now new.now (type_id.0 + 1) 0 found.new.items) }
+/// A number above all that a type's names stand for.
+pub(crate) fn names_end(layout: &Layout, owner: TypeId) -> u16
+    requires { owner.0 < length layout.now.schema.types }
+    ensures { (k : ℕ) → result ≤ k → name_in (body_at layout.now.schema owner.0) k ≡ None }
 {
-    for i in 0..members.len() {
-        let moved = MovedName {
-            type_id,
-            slot: (i + 1) as u16,
-        };
-        add_name(found, new.schema(), twin, members[i].0.as_str(), moved)?;
+    match body_of(layout.schema(), owner) {
+        Body::Union(members) => members.len() as u16 + 1,
+        _ => fields_of(layout, owner).len() as u16,
     }
-    Ok(())
 }
 
-/// Adds the names of an old type that are moved.
-fn add_type(
-    found: &mut Vec<MovedName>,
-    old: &Layout,
-    new: &Layout,
-    type_id: TypeId,
-) -> Result<(), AllocError>
-    requires known { type_id.0 < length old.now.schema.types }
-    requires before { ListsMoved old.now new.now type_id.0 0 found.old.items }
-    ensures { OnOk result (ListsMoved old.now new.now (type_id.0 + 1) 0 found.new.items) }
+/// Whether the name in an old place stands for another one in the new type.
+pub(crate) fn is_moved(old: &Layout, new: &Layout, twin: TypeId, place: MovedName) -> bool
+    requires declared { IsDeclared old.now.schema }
+    requires twins { Twins old.now.schema new.now.schema place.type_id.0 twin.0 }
+    ensures { IsTrue result ↔ IsMoved old.now new.now place }
 {
-    let Some(twin) = twin_of(old.schema(), new.schema(), type_id) else {
-        return Ok(());
+    let Some(name) = name_in(old, place.type_id, place.slot) else {
+        return false;
     };
-    match body_of(old.schema(), type_id) {
-        Body::Union(members) => add_members(found, old, new, type_id, twin, members),
-        _ => add_fields(found, old, new, type_id, twin),
+    match slot_named(new.schema(), twin, name) {
+        Some(slot) => slot != u64::from(place.slot),
+        None => false,
     }
 }
 
@@ -152,9 +97,7 @@ pub fn moved_names(alloc: Global, old: &Layout, new: &Layout) -> Result<Vec<Move
     ensures all { IfOk result (λ list. (m : MovedName) → Contains list.items m ↔ IsMoved old.now new.now m) }
     ensures order { IfOk result (λ list. AllPairs IsBefore list.items) }
 {
-    let mut found = Vec::new(alloc);
-    for i in 0..old.schema().types().len() {
-        add_type(&mut found, old, new, TypeId(i as u64))?;
-    }
+    let mut found: Vec<MovedName> = Vec::new(alloc);
+    walk(&mut found, old, new)?;
     Ok(found)
 }

@@ -17,7 +17,7 @@ use Rattle.fb_schema.specs.WellDeclared.{IsBody, IsUnionBody, IsDeclared}
 use Rattle.fb_schema.proofs.DeclaredNames.{keys_differ}
 use Rattle.fb_schema.proofs.Distinct.{found_at}
 use Rattle.fb_schema.proofs.Positions.{position-map, find-position}
-use Rattle.fb_conform.specs.Names.{slot_named}
+use Rattle.fb_conform.specs.Names.{slot_named, name_in}
 use Rattle.fb_conform.proofs.laws.EachBodyIsDeclared.{is_body}
 
 -- ---- what stands where a name is found
@@ -126,6 +126,44 @@ slot_member ms name k = by (position (λ m. bytes_eq name m.0) ms) refl
         → (i : ℕ) × (k ≡ suc i) × FoundAt (λ m. m.0) ms name i
     by None e none = absurd cc
     by (Some i) e is = let next : k ≡ suc i = cc in (i, next, found_there (λ m. m.0) ms name i e)
+
+-- ---- places
+
+field_stands : (S : DeclaredSchema) (t : ℕ) (body : DeclaredBody) → IsBody S t body → (k : ℕ) (name : Name)
+    → option_map (λ f. f.name) (slice_get (fields_in body) k) ≡ Some name → slot_named body name ≡ Some k
+field_stands S t body is k name = by (slice_get (fields_in body) k) refl
+  where
+    by : (o : Option DeclaredField) → slice_get (fields_in body) k ≡ o → option_map (λ f. f.name) o ≡ Some name
+        → slot_named body name ≡ Some k
+    by None at e = absurd cc
+    by (Some f) at e = let same : f.name ≡ name = cc in rw (← same) (field_slot S t body is k f at)
+
+-- the name in a place stands for it
+pub name_stands : (S : DeclaredSchema) (t : ℕ) (body : DeclaredBody) → IsBody S t body → (k : ℕ) (name : Name)
+    → name_in body k ≡ Some name → slot_named body name ≡ Some k
+name_stands S t (table_body fs) is k name e = field_stands S t (table_body fs) is k name e
+name_stands S t (struct_body fs force) is k name e = field_stands S t (struct_body fs force) is k name e
+name_stands S t (union_body ms) is (suc k) name e = by (slice_get ms k) refl e
+  where
+    by : (o : Option (Name × ℕ)) → slice_get ms k ≡ o → option_map (λ m. m.0) o ≡ Some name
+        → slot_named (union_body ms) name ≡ Some (suc k)
+    by None at e = absurd cc
+    by (Some m) at e = let same : m.0 ≡ name = cc in rw (← same) (member_slot S t ms is k m at)
+name_stands S t _ is k name e = absurd cc
+
+-- and no other does
+pub stands_in : (S : DeclaredSchema) (t : ℕ) (body : DeclaredBody) → IsBody S t body → (name : Name) (k : ℕ)
+    → slot_named body name ≡ Some k → name_in body k ≡ Some name
+stands_in S t (table_body fs) is name k e =
+    let found = slot_field S t (table_body fs) is refl name k e in
+    ap (option_map (λ f. f.name)) found.at ∙ ap Some found.named
+stands_in S t (struct_body fs force) is name k e =
+    let found = slot_field S t (struct_body fs force) is refl name k e in
+    ap (option_map (λ f. f.name)) found.at ∙ ap Some found.named
+stands_in S t (union_body ms) is name k e =
+    let found = slot_member ms name k e in
+    ap (name_in (union_body ms)) found.1 ∙ ap (option_map (λ m. m.0)) found.2.at ∙ ap Some found.2.named
+stands_in S t _ is name k e = absurd cc
 
 -- ---- look-ups
 

@@ -4,8 +4,9 @@ use Rattle.fb_schema.specs.Schema.{Name, enum_body, union_body, DeclaredSchema, 
 use Rattle.fb_schema.specs.Found.{member_coded}
 use Rattle.fb_schema.specs.Seen.{body_seen}
 use Rattle.fb_conform.specs.declared.breaches.Breach.TheVariants.{KindChanged, StructChanged, EnumChanged, UnionChanged}
+use Rattle.fb_conform.specs.declared.difference.Difference.TheVariants.{Breach as Broken}
 use Rattle.fb_conform.specs.Conforms.{SameStruct, KeepsValues, KeepsMembers, CodeKept}
-use Rattle.fb_conform.proofs.walk.BreachesAreReportedInOrder.{reported}
+use Rattle.fb_conform.proofs.walk.DifferencesAreReportedInOrder.{reported}
 use Rattle.fb_conform.proofs.walk.EachPlaceIsWalked.{body_walked}
 use Rattle.fb_conform.proofs.walk.OtherBreachesAreKept.{own_number, twin_decides, struct_decides, enum_decides}
 use Rattle.fb_conform.proofs.walk.OtherBreachesAreKept.{both_passed, one_failed, kind_stands}
@@ -27,7 +28,7 @@ returns-in-Struct-Struct g c =
     let kept = twin_decides A B t u twins c.same_struct-kept.result
     (λ v. SameStruct A B t v (body_at A.schema t) (body_at B.schema v))
     (struct_decides A B t u twins c.same_struct-kept.result _ _ own c.same_struct-kept.ensures) in
-    body_walked A B _ t _ _ c.report_unless.result u twins (StructChanged c.args.type_id) refl refl (omega arith) own
+    body_walked A B g.H.Hearer.wants _ t _ _ c.report_unless.result u twins (StructChanged c.args.type_id) refl refl (omega arith) own
     c.requires.before (c.report_unless.ensures A B kept)
 
 pub returns-after-same_numbers : goal.returns-after-same_numbers
@@ -64,7 +65,7 @@ returns-after-same_numbers g c =
     (λ v. KeepsValues (body_at A.schema t) (body_at B.schema v))
     (enum_decides c.if-same_numbers.kept _ _ e.base e.other e.flags e.marks values others was is told) in
     let own : own_number (body_at A.schema t) (body_at B.schema u) ≡ 101 = rw (was, is) refl in
-    body_walked A B _ t _ _ c.report_unless-in-Enum-Enum.result u twins (EnumChanged c.args.type_id) refl refl
+    body_walked A B g.H.Hearer.wants _ t _ _ c.report_unless-in-Enum-Enum.result u twins (EnumChanged c.args.type_id) refl refl
     (omega arith) own c.requires.before (c.report_unless-in-Enum-Enum.ensures A B kept)
 
 pub returns-in-Union-Union : goal.returns-in-Union-Union
@@ -98,7 +99,7 @@ returns-in-Union-Union g c =
     let members_kept : IsTrue kept ↔ KeepsMembers A.schema B.schema (body_at A.schema t) (body_at B.schema u) =
     rw (was, is) (rw is at told) in
     let own : own_number (body_at A.schema t) (body_at B.schema u) ≡ 102 = rw (was, is) refl in
-    body_walked A B _ t _ _ c.report_unless-in-Union-Union.result u twins (UnionChanged c.args.type_id) refl refl
+    body_walked A B g.H.Hearer.wants _ t _ _ c.report_unless-in-Union-Union.result u twins (UnionChanged c.args.type_id) refl refl
     (omega arith) own c.requires.before
     (c.report_unless-in-Union-Union.ensures A B (twin_decides A B t u twins kept
     (λ v. KeepsMembers A.schema B.schema (body_at A.schema t) (body_at B.schema v)) members_kept))
@@ -115,9 +116,9 @@ returns-in_default g c =
     let seen : own_number (body_seen c.body_of-was.result.now) (body_seen c.body_of-is.result.now) ≡ 93 =
     search rules in
     let own : own_number (body_at A.schema t) (body_at B.schema u) ≡ 93 = rw (was, is) seen in
-    body_walked A B _ t _ _ c.report.result u twins (KindChanged c.args.type_id) refl refl (omega arith) own
-    c.requires.before (reported A B _ (KindChanged c.args.type_id) _ _ c.report.result (kind_stands A B t u twins own)
-    c.report.ensures.more c.report.ensures.stopped)
+    body_walked A B g.H.Hearer.wants _ t _ _ c.hear.result u twins (KindChanged c.args.type_id) refl refl (omega arith) own
+    c.requires.before (reported A B g.H.Hearer.wants _ (Broken (KindChanged c.args.type_id)) _ _ c.hear.result (kind_stands A B t u twins own)
+    c.hear.ensures.kept c.hear.ensures.ignored c.hear.ensures.stopped)
 
 pub body_of-was-requires : goal.body_of-was-requires
 body_of-was-requires g c = rw c.schema.ensures.schema c.requires.known

@@ -1,0 +1,2 @@
+-- What the proofs of the calls that list differences use.
+pub mod ListsHaveEachDifference
