@@ -2,7 +2,6 @@
 use Rattle.std.proofs.Common.{◌≡◌, ℕ, ◌+◌, ◌<◌, ◌≤◌, ◌⊎◌, inl, inr, Bool, true, false, List, [], ◌∷◌}
 use Rattle.std.proofs.Common.{◌++◌, get_or, Result, Ok, Err, OnOk, IfErr, IsErr, IsErrAnd, refl, sym, ap, ◌∙◌, arith}
 use Rattle.std.specs.Bool.{⊤}
-use Rattle.std.proofs.lemmas.Bool.{cases_lt}
 use Rattle.std.proofs.lemmas.List.Elements.{Contains-push, Contains-push_cases, Contains-append_left}
 use Rattle.std.proofs.lemmas.List.Elements.{All-contains_itself}
 use Rattle.std.proofs.lemmas.List.Quantifiers.{all_pairs_push}
@@ -33,37 +32,16 @@ same_difference (Moved m) (Broken b) at there same = absurd (omega (arith, at))
 same_difference (Moved m) (Moved n) at there same = ap Moved (same_name m n (omega (arith, at)) there)
 
 ahead : (d e : Difference) → ComesBefore d e → IsAhead e d
-ahead (Broken r) (Broken b) before = elim before [
-  | inl less ↦ inl (omega (arith, less))
-  | inr both ↦ inr (omega (arith, both.0), both.1)
-]
-ahead (Broken r) (Moved m) before = inl (omega (arith, before))
-ahead (Moved m) (Broken b) before = inl (omega (arith, before))
-ahead (Moved m) (Moved n) before = elim before [
-  | inl less ↦ inl (omega (arith, less))
-  | inr both ↦ inr (omega (arith, both.0), inl both.1)
-]
+ahead (Broken r) (Broken b) before = grind (arith, before)
+ahead (Broken r) (Moved m) before = grind (arith, before)
+ahead (Moved m) (Broken b) before = grind (arith, before)
+ahead (Moved m) (Moved n) before = grind (arith, before)
 
 comes_before : (d e : Difference) → IsAhead e d → ComesBefore d e
-comes_before (Broken r) (Broken b) before = elim before [
-  | inl less ↦ inl (omega (arith, less))
-  | inr both ↦ inr (omega (arith, both.0), both.1)
-]
-comes_before (Broken r) (Moved m) before = elim before [
-  | inl less ↦ omega (arith, less)
-  | inr both ↦ absurd (omega (arith, both.0))
-]
-comes_before (Moved m) (Broken b) before = elim before [
-  | inl less ↦ omega (arith, less)
-  | inr both ↦ absurd (omega (arith, both.0))
-]
-comes_before (Moved m) (Moved n) before = elim before [
-  | inl less ↦ inl (omega (arith, less))
-  | inr both ↦ elim both.1 [
-    | inl less ↦ inr (omega (arith, both.0), less)
-    | inr last ↦ absurd (omega (arith, last.1))
-  ]
-]
+comes_before (Broken r) (Broken b) before = grind (arith, before)
+comes_before (Broken r) (Moved m) before = grind (arith, before)
+comes_before (Moved m) (Broken b) before = grind (arith, before)
+comes_before (Moved m) (Moved n) before = grind (arith, before)
 
 -- each difference in the part of a type's breaches is a breach of it
 pub breach_in : (P : Difference → Type 0) (t : ℕ) → ((r : Breach) → type_place r ≡ t + 1 → P (Broken r))
@@ -77,11 +55,14 @@ pub name_at : (P : Difference → Type 0) (t : ℕ) → ((m : MovedName) → m.t
 name_at P t each (Broken r) at = absurd (omega (arith, at))
 name_at P t each (Moved m) at = each m (omega (arith, at))
 
-below_later : (p k m n : ℕ) (d : Difference) → m ≤ n → IsBelow p k m d → IsBelow p k n d
-below_later p k m n d rise below = elim below [
-  | inl less ↦ inl less
-  | inr both ↦ inr (both.0, elim both.1 [ inl less ↦ inl less | inr last ↦ inr (last.0, omega (arith, last.1)) ])
-]
+-- what comes between two places, and between two parts
+in_place : (p k m : ℕ) (d : Difference) → IsBelow p (k + 1) 0 d
+    → IsBelow p k m d ⊎ ((part d ≡ p) × (place d ≡ k) × (m ≤ number d))
+in_place p k m d below = grind (arith, below)
+
+in_part : (p q k : ℕ) (d : Difference) → q ≡ p + 1 → IsBelow q 0 0 d
+    → IsBelow p k 0 d ⊎ ((part d ≡ p) × (k ≤ place d))
+in_part p q k d next below = grind (arith, next, below)
 
 module _ (A B : LaidSchema) (wants : Difference → Bool) where
   -- nothing else differs of more differences
@@ -101,71 +82,30 @@ module _ (A B : LaidSchema) (wants : Difference → Bool) where
       → ((d : Difference) → part d ≡ p → place d ≡ k → m ≤ number d → number d < n → MayMiss A B wants d)
       → Lists A B wants (IsBelow p k m) xs → Lists A B wants (IsBelow p k n) xs
   numbers_passed p k m n xs rise miss =
-      more (IsBelow p k m) (IsBelow p k n) xs (λ d below. below_later p k m n d rise below)
-      (λ d below. elim below [
-        | inl less ↦ inl (inl less)
-        | inr both ↦ elim both.1 [
-          | inl less ↦ inl (inr (both.0, inl less))
-          | inr last ↦ elim (cases_lt (number d) m) [
-            | inl less ↦ inl (inr (both.0, inr (last.0, less)))
-            | inr not ↦ inr (miss d both.0 last.0 (omega (arith, not)) last.1)
-          ]
-        ]
-      ])
+      more (IsBelow p k m) (IsBelow p k n) xs (λ d below. grind (arith, rise, below))
+      (λ d below. grind (arith, below, miss d))
 
   -- to the next place of a part
   pub place_passed : (p k m : ℕ) (xs : List Difference)
       → ((d : Difference) → part d ≡ p → place d ≡ k → m ≤ number d → MayMiss A B wants d)
       → Lists A B wants (IsBelow p k m) xs → Lists A B wants (IsBelow p (k + 1) 0) xs
   place_passed p k m xs miss =
-      more (IsBelow p k m) (IsBelow p (k + 1) 0) xs
-      (λ d below. elim below [
-        | inl less ↦ inl less
-        | inr both ↦ inr (both.0, inl (elim both.1 [ inl less ↦ omega (arith, less) | inr last ↦ omega (arith, last.0) ]))
+      more (IsBelow p k m) (IsBelow p (k + 1) 0) xs (λ d below. grind (arith, below))
+      (λ d below. elim (in_place p k m d below) [
+        | inl earlier ↦ inl earlier
+        | inr at ↦ inr (miss d at.0 at.1 at.2)
       ])
-      (λ d below. elim below [
-        | inl less ↦ inl (inl less)
-        | inr both ↦ elim both.1 [
-          | inl less ↦ at d both.0 less
-          | inr last ↦ absurd (omega (arith, last.1))
-        ]
-      ])
-    where
-      at : (d : Difference) → part d ≡ p → place d < k + 1 → IsBelow p k m d ⊎ MayMiss A B wants d
-      at d here less = elim (cases_lt (place d) k) [
-        | inl lower ↦ inl (inr (here, inl lower))
-        | inr not ↦ elim (cases_lt (number d) m) [
-          | inl earlier ↦ inl (inr (here, inr (omega (arith, not, less), earlier)))
-          | inr later ↦ inr (miss d here (omega (arith, not, less)) (omega (arith, later)))
-        ]
-      ]
 
   -- to the next part
   pub part_passed : (p q k : ℕ) (xs : List Difference) → q ≡ p + 1
       → ((d : Difference) → part d ≡ p → k ≤ place d → MayMiss A B wants d)
       → Lists A B wants (IsBelow p k 0) xs → Lists A B wants (IsBelow q 0 0) xs
   part_passed p q k xs next miss =
-      more (IsBelow p k 0) (IsBelow q 0 0) xs
-      (λ d below. elim below [
-        | inl less ↦ inl (omega (arith, less, next))
-        | inr both ↦ inl (omega (arith, both.0, next))
+      more (IsBelow p k 0) (IsBelow q 0 0) xs (λ d below. grind (arith, next, below))
+      (λ d below. elim (in_part p q k d next below) [
+        | inl earlier ↦ inl earlier
+        | inr at ↦ inr (miss d at.0 at.1)
       ])
-      (λ d below. elim below [
-        | inl less ↦ elim (cases_lt (part d) p) [
-          | inl lower ↦ inl (inl lower)
-          | inr not ↦ at d (omega (arith, not, less, next))
-        ]
-        | inr both ↦ elim both.1 [
-          | inl less ↦ absurd (omega (arith, less))
-          | inr last ↦ absurd (omega (arith, last.1))
-        ]
-      ])
-    where
-      at : (d : Difference) → part d ≡ p → IsBelow p k 0 d ⊎ MayMiss A B wants d
-      at d here = elim (cases_lt (place d) k) [
-        | inl lower ↦ inl (inr (here, inl lower))
-        | inr not ↦ inr (miss d here (omega (arith, not)))
-      ]
 
   -- ---- reports
 
@@ -174,7 +114,7 @@ module _ (A B : LaidSchema) (wants : Difference → Bool) where
       → Lists A B wants (IsUpTo d) (xs ++ d ∷ [])
   one_more d xs differs before = record {
     among = λ e there. elim (Contains-push_cases xs d e there) [
-      | inl old ↦ below_later (part d) (place d) (number d) (number d + 1) e (omega arith) (before.among e old)
+      | inl old ↦ grind (arith, before.among e old)
       | inr same ↦ rw (← same) (inr (refl, inr (refl, omega arith)))
     ];
     differs = λ e there. elim (Contains-push_cases xs d e there) [
@@ -193,16 +133,7 @@ module _ (A B : LaidSchema) (wants : Difference → Bool) where
   }
     where
       last : (e : Difference) → IsUpTo d e → IsAhead d e ⊎ (e ≡ d)
-      last e upto = elim upto [
-        | inl less ↦ inl (inl less)
-        | inr both ↦ elim both.1 [
-          | inl less ↦ inl (inr (both.0, inl less))
-          | inr here ↦ elim (cases_lt (number e) (number d)) [
-            | inl less ↦ inl (inr (both.0, inr (here.0, less)))
-            | inr not ↦ inr (same_difference e d both.0 here.0 (omega (arith, not, here.1)))
-          ]
-        ]
-      ]
+      last e upto = grind (arith, upto, same_difference e d)
 
   -- one that may be left out
   pub passed : (d : Difference) (xs : List Difference) → MayMiss A B wants d → Lists A B wants (IsAhead d) xs

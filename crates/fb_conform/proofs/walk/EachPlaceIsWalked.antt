@@ -44,36 +44,20 @@ module _ (A B : LaidSchema) (wants : Difference → Bool) where
     order = λ i j d less within. absurd (omega (arith, within));
   })
     where
-      low : (d : Difference) → part d ≡ 0 → 90 ≤ number d
-      low (Broken r) at = numbered r
-      low (Moved m) at = absurd (omega (arith, at))
-
       first : (d : Difference) → IsAhead (Broken RootChanged) d → ⊥
-      first d ahead = elim ahead [
-        | inl less ↦ omega (arith, less)
-        | inr both ↦ elim both.1 [
-          | inl less ↦ omega (arith, less)
-          | inr last ↦ omega (arith, last.1, low d both.0)
-        ]
-      ]
+      first (Broken r) ahead = grind (arith, ahead, numbered r)
+      first (Moved m) ahead = grind (arith, ahead)
 
   -- nothing more is in no type
   pub header_end : (xs : List Difference) → Lists A B wants (IsUpTo (Broken IdentifierChanged)) xs
       → Lists A B wants (IsOfTypesBelow 0) xs
   header_end xs =
-      more A B wants (IsUpTo (Broken IdentifierChanged)) (IsOfTypesBelow 0) xs
-      (λ d upto. inl (elim upto [ inl less ↦ omega (arith, less) | inr both ↦ omega (arith, both.0) ]))
-      (λ d below. inl (elim below [
-        | inl less ↦ at d less
-        | inr both ↦ elim both.1 [ inl less ↦ absurd (omega (arith, less)) | inr last ↦ absurd (omega (arith, last.1)) ]
-      ]))
+      more A B wants (IsUpTo (Broken IdentifierChanged)) (IsOfTypesBelow 0) xs (λ d upto. grind (arith, upto))
+      (λ d below. inl (at d below))
     where
-      at : (d : Difference) → part d < 2 → IsUpTo (Broken IdentifierChanged) d
-      at (Broken r) less =
-          let type : type_place r ≡ 0 = omega (arith, less) in
-          let both = header r type in
-          inr (omega (arith, type), inr (both.0, omega (arith, both.1)))
-      at (Moved m) less = absurd (omega (arith, less))
+      at : (d : Difference) → IsOfTypesBelow 0 d → IsUpTo (Broken IdentifierChanged) d
+      at (Broken r) below = grind (arith, below, header r)
+      at (Moved m) below = grind (arith, below)
 
   -- past the last type nothing differs
   pub types_end : (n : ℕ) (xs : List Difference) (S : DeclaredSchema) (types : List TypeInfo)
