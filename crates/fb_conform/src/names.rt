@@ -12,7 +12,7 @@ ghost use Rattle.fb_conform.specs.Twins.{Twins};
 use crate::bodies::body_of;
 use crate::walk::walk;
 use fb_layout::Layout;
-use fb_schema::{Body, FieldInfo, Schema, TypeId};
+use fb_schema::{Body, FieldInfo, TypeId};
 use std::alloc::{AllocError, Global};
 
 /// A name that stands for another field or member in the new schema: where it was in the old one.
@@ -25,10 +25,10 @@ pub struct MovedName {
 }
 
 /// What a name stands for in a type: a field's slot or a member's code. `NONE` names no member.
-fn slot_named(schema: &Schema, owner: TypeId, name: &str) -> Option<u64>
-    requires { IsDeclared schema.now }
-    ensures { result ≡ slot_named (body_at schema.now owner.0) name.now }
+fn slot_named(layout: &Layout, owner: TypeId, name: &str) -> Option<u64>
+    ensures { result ≡ slot_named (body_at layout.now.schema owner.0) name.now }
 {
+    let schema = layout.schema();
     if let Some(field) = schema.field_by_name(owner, name) {
         return Some(field.slot);
     }
@@ -57,7 +57,7 @@ fn name_in(layout: &Layout, owner: TypeId, slot: u16) -> Option<&str>
     ensures { option_copied result ≡ name_in (body_at layout.now.schema owner.0) slot }
 {
     let at = usize::from(slot);
-    match body_of(layout.schema(), owner) {
+    match body_of(layout, owner) {
         Body::Union(members) => Some(members.get(at.checked_sub(1)?)?.0.as_str()),
         _ => Some(fields_of(layout, owner).get(at)?.name.as_str()),
     }
@@ -68,7 +68,7 @@ pub(crate) fn names_end(layout: &Layout, owner: TypeId) -> u16
     requires { owner.0 < length layout.now.schema.types }
     ensures { (k : ℕ) → result ≤ k → name_in (body_at layout.now.schema owner.0) k ≡ None }
 {
-    match body_of(layout.schema(), owner) {
+    match body_of(layout, owner) {
         Body::Union(members) => members.len() as u16 + 1,
         _ => fields_of(layout, owner).len() as u16,
     }
@@ -83,7 +83,7 @@ pub(crate) fn is_moved(old: &Layout, new: &Layout, twin: TypeId, place: MovedNam
     let Some(name) = name_in(old, place.type_id, place.slot) else {
         return false;
     };
-    match slot_named(new.schema(), twin, name) {
+    match slot_named(new, twin, name) {
         Some(slot) => slot != u64::from(place.slot),
         None => false,
     }

@@ -17,8 +17,8 @@ fn same_fields(old: &Schema, new: &Schema, was: &[FieldInfo], is: &[FieldInfo]) 
     if was.len() != is.len() {
         return false;
     }
-    for i in 0..was.len() {
-        if !same_shape(old, new, was[i].shape, is[i].shape) {
+    for (i, field) in was.iter().enumerate() {
+        if !same_shape(old, new, field.shape, is[i].shape) {
             return false;
         }
     }

@@ -133,8 +133,8 @@ fn walk_bodies<H: Hearer>(
     requires before { Lists old.now new.now H.wants (IsOfTypesBelow type_id.0) (H.heard hearer.old) }
     ensures { Walks old.now new.now H.wants H.stops (IsOfNamesBelow type_id.0 0) (H.heard hearer.new) result }
 {
-    let was = body_of(old.schema(), type_id);
-    let is = body_of(new.schema(), twin);
+    let was = body_of(old, type_id);
+    let is = body_of(new, twin);
     match (was, is) {
         (Body::Table(_), Body::Table(_)) => walk_slots(hearer, old, new, type_id, twin),
         (Body::Struct(_, _), Body::Struct(_, _)) => {
@@ -142,12 +142,11 @@ fn walk_bodies<H: Hearer>(
             report_unless(hearer, kept, Breach::StructChanged(type_id))
         }
         (Body::Enum(base, flags, values), Body::Enum(other, marks, _)) => {
-            let kept = same_numbers(*base, *flags, *other, *marks)
-                && has_values(new.schema(), twin, values);
+            let kept = same_numbers(*base, *flags, *other, *marks) && has_values(new, twin, values);
             report_unless(hearer, kept, Breach::EnumChanged(type_id))
         }
         (Body::Union(members), Body::Union(_)) => {
-            let kept = keeps_codes(old.schema(), new.schema(), twin, members);
+            let kept = keeps_codes(old, new, twin, members);
             report_unless(hearer, kept, Breach::UnionChanged(type_id))
         }
         _ => hearer.hear(Difference::Breach(Breach::KindChanged(type_id))),

@@ -14,10 +14,10 @@ returns-then-not-has_value c =
     let at : slice_get {X = Name × ℤ} (map (λ v. (string_bytes v.0, v.1)) xs) i ≡ Some (string_bytes x.0, x.1) =
     slice_get-map (λ v. (string_bytes v.0, v.1)) xs i ∙ ap (option_map (λ v. (string_bytes v.0, v.1)))
     (slice_get_read xs (length xs) i c.value-item.result refl c.loop-value-test.true c.value-item.is) in
-    let told : Contains (values_in (body_at c.args.schema.now c.args.enumeration.0)) (string_bytes x.0, x.1)
+    let told : Contains (values_in (body_at c.args.layout.now.schema c.args.enumeration.0)) (string_bytes x.0, x.1)
     → false ≡ true = c.if-not-has_value.ensures.1 in (
       λ (e : false ≡ true). cc,
-      λ all. told (there_each (values_in (body_at c.args.schema.now c.args.enumeration.0))
+      λ all. told (there_each (values_in (body_at c.args.layout.now.schema c.args.enumeration.0))
           (map (λ v. (string_bytes v.0, v.1)) xs) i (string_bytes x.0, x.1) at all),
     )
 
@@ -29,16 +29,16 @@ loop-value-preserved c =
     let at : slice_get {X = Name × ℤ} (map (λ v. (string_bytes v.0, v.1)) xs) i ≡ Some (string_bytes x.0, x.1) =
     slice_get-map (λ v. (string_bytes v.0, v.1)) xs i ∙ ap (option_map (λ v. (string_bytes v.0, v.1)))
     (slice_get_read xs (length xs) i c.value-item.result refl c.loop-value-test.true c.value-item.is) in
-    let told : Contains (values_in (body_at c.args.schema.now c.args.enumeration.0)) (string_bytes x.0, x.1) =
+    let told : Contains (values_in (body_at c.args.layout.now.schema c.args.enumeration.0)) (string_bytes x.0, x.1) =
     c.if-not-has_value.ensures.0 refl in
-    there_more (values_in (body_at c.args.schema.now c.args.enumeration.0)) (map (λ v. (string_bytes v.0, v.1)) xs) i
+    there_more (values_in (body_at c.args.layout.now.schema c.args.enumeration.0)) (map (λ v. (string_bytes v.0, v.1)) xs) i
     (string_bytes x.0, x.1) at told c.loop-value.invariant
 
 pub returns : goal.returns
 returns c =
     let xs = c.args.values.now in
     let long : length {A = Name × ℤ} (map (λ v. (string_bytes v.0, v.1)) xs) ≡ length xs = length-map xs _ in (
-      λ (e : true ≡ true). there_all (values_in (body_at c.args.schema.now c.args.enumeration.0))
+      λ (e : true ≡ true). there_all (values_in (body_at c.args.layout.now.schema c.args.enumeration.0))
           (map (λ v. (string_bytes v.0, v.1)) xs) c.loop-value.value-index
           (omega (arith, long, c.loop-value-test.false)) c.loop-value.invariant,
       λ all. refl,

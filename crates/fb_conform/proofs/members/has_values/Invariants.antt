@@ -5,5 +5,5 @@ use Rattle.fb_conform.proofs.members.has_values.Given as goal
 
 abbrev pub invariant-loop-value : goal.invariant-loop-value
 invariant-loop-value l =
-    ValuesThere (values_in (body_at l.schema l.enumeration.0)) (map (λ v. (string_bytes v.0, v.1)) l.values)
+    ValuesThere (values_in (body_at l.layout.schema l.enumeration.0)) (map (λ v. (string_bytes v.0, v.1)) l.values)
     l.value-index

@@ -1,5 +1,5 @@
 use Rattle.std.proofs.Common.{◌≡◌, true, false, None, Some, option_copied, sym, ap, ◌∙◌}
-use Rattle.fb_schema.specs.Schema.{DeclaredSchema, body_at}
+use Rattle.fb_schema.specs.Schema.{body_at}
 use Rattle.fb_conform.specs.Names.{slot_named}
 use Rattle.fb_conform.proofs.names.MovedNamesAreFound.{apart, no_name, new_slot, is_moved}
 use Rattle.fb_conform.proofs.names.is_moved.Goals as goal
@@ -16,8 +16,7 @@ pub returns-in-None : goal.returns-in-None
 returns-in-None c =
     let here = sym c.name_in.ensures ∙ ap option_copied c.in-Some.is in
     let name = c.in-Some.name.now in
-    let new = ap (λ (S : DeclaredSchema). slot_named (body_at S c.args.twin.0) name) (sym c.schema.ensures.schema)
-    ∙ sym c.slot_named.ensures ∙ c.in-None.is in (
+    let new = sym c.slot_named.ensures ∙ c.in-None.is in (
       λ test. let bad : false ≡ true = test in cc,
       λ moved. let bad : None ≡ Some moved.slot = sym new ∙ new_slot c.args.old.now c.args.new.now c.requires.declared
           c.args.place c.args.twin.0 c.requires.twins name here moved in cc,
@@ -33,8 +32,7 @@ returns-in-Some-slot_named c =
     let name = c.in-Some.name.now in
     let k = c.in-Some-slot_named.slot in
     let new : slot_named (body_at B.schema u) name ≡ Some k =
-    ap (λ (S : DeclaredSchema). slot_named (body_at S u) name) (sym c.schema.ensures.schema)
-    ∙ sym c.slot_named.ensures ∙ c.in-Some-slot_named.is in
+    sym c.slot_named.ensures ∙ c.in-Some-slot_named.is in
     let test = apart k c.from.result in (
       λ differs. is_moved A B c.requires.declared m u c.requires.twins name here k new
           (λ same. test.0 differs (same ∙ sym c.from.ensures)),

@@ -1,7 +1,7 @@
 use Rattle.std.proofs.Common.{◌≡◌, ℕ, suc, false, List, slice_get, Some, option_map, option_copied}
 use Rattle.std.proofs.Common.{string_bytes, map, sym, ap, ◌∙◌, rules}
 use Rattle.std.proofs.lemmas.Option.{slice_get-map}
-use Rattle.fb_schema.specs.Schema.{Name, DeclaredField, DeclaredBody, DeclaredSchema, table_body, struct_body, union_body}
+use Rattle.fb_schema.specs.Schema.{Name, DeclaredField, DeclaredBody, table_body, struct_body, union_body}
 use Rattle.fb_schema.specs.Schema.{body_at, is_union}
 use Rattle.fb_schema.specs.Seen.{field_seen, body_seen}
 use Rattle.fb_schema.specs.Found.{fields_in}
@@ -24,8 +24,7 @@ returns-in_ok-get-in-Union c =
     let items = c.in-Union.members.items in
     let ms : List (Name × ℕ) = map (λ m. (string_bytes m.0, m.1.0)) items in
     let was : body_at c.args.layout.now.schema c.args.owner.0 ≡ union_body ms =
-    ap (λ (S : DeclaredSchema). body_at S c.args.owner.0) (sym c.schema.ensures.schema) ∙ sym c.body_of.ensures
-    ∙ ap body_seen c.in-Union.is in
+    sym c.body_of.ensures.body ∙ ap body_seen c.in-Union.is in
     let k = c.in_ok-checked_sub-in-Union.field-0 in
     let next : c.args.slot ≡ suc k = search rules in
     let m = c.in_ok-get-in-Union.field-0.now in
@@ -40,8 +39,6 @@ returns-in_ok-get-in-Union c =
 pub returns-in_ok-get-in_default : goal.returns-in_ok-get-in_default
 returns-in_ok-get-in_default c =
     let fs = c.fields_of.result.now in
-    let was : body_at c.args.layout.now.schema c.args.owner.0 ≡ body_seen c.body_of.result.now =
-    ap (λ (S : DeclaredSchema). body_at S c.args.owner.0) (sym c.schema.ensures.schema) ∙ sym c.body_of.ensures in
     let seen : is_union (body_seen c.body_of.result.now) ≡ false = search rules in
     let f = c.in_ok-get-in_default.field-0.now in
     let there = got fs c.from-at.result c.get-in_default.result c.get-in_default.ensures.lookup.0
@@ -53,4 +50,4 @@ returns-in_ok-get-in_default c =
     ∙ slice_get-map field_seen fs c.from-at.result
     ∙ ap (option_map field_seen) (sym there ∙ ap option_copied c.in_ok-get-in_default.was) in
     ap Some c.as_str-in_default.ensures.value
-    ∙ field_name _ c.args.slot (field_seen f) (ap is_union was ∙ seen) at
+    ∙ field_name _ c.args.slot (field_seen f) (ap is_union (sym c.body_of.ensures.body) ∙ seen) at

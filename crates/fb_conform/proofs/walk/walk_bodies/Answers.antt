@@ -1,6 +1,6 @@
 use Rattle.std.proofs.Common.{◌≡◌, ◌↔◌, ℕ, ℤ, List, map, All, Contains, IsTrue, Some, string_bytes, ◌∙◌, refl, sym, ap}
 use Rattle.std.proofs.Common.{subst, rules, arith}
-use Rattle.fb_schema.specs.Schema.{Name, enum_body, union_body, DeclaredSchema, body_at, values_in}
+use Rattle.fb_schema.specs.Schema.{Name, enum_body, union_body, body_at, values_in}
 use Rattle.fb_schema.specs.Found.{member_coded}
 use Rattle.fb_schema.specs.Seen.{body_seen}
 use Rattle.fb_conform.specs.declared.breaches.Breach.TheVariants.{KindChanged, StructChanged, EnumChanged, UnionChanged}
@@ -20,9 +20,9 @@ returns-in-Struct-Struct g c =
     let t = c.args.type_id.0 in
     let u = c.args.twin.0 in
     let twins = c.requires.twins in
-    let was = ap (λ (S : DeclaredSchema). body_at S t) (sym c.schema.ensures.schema) ∙ sym c.body_of-was.ensures
+    let was = sym c.body_of-was.ensures.body
     ∙ ap body_seen c.in-Struct-Struct.is-0 in
-    let is = ap (λ (S : DeclaredSchema). body_at S u) (sym c.schema-2.ensures.schema) ∙ sym c.body_of-is.ensures
+    let is = sym c.body_of-is.ensures.body
     ∙ ap body_seen c.in-Struct-Struct.is-1 in
     let own : own_number (body_at A.schema t) (body_at B.schema u) ≡ 94 = rw (was, is) refl in
     let kept = twin_decides A B t u twins c.same_struct-kept.result
@@ -42,20 +42,19 @@ returns-after-same_numbers g c =
     let values : List (Name × ℤ) = map (λ v. (string_bytes v.0, v.1)) e.values.items in
     let others : List (Name × ℤ) = map (λ v. (string_bytes v.0, v.1)) e.field-2-1.items in
     let was : body_at A.schema t ≡ enum_body e.base e.flags values =
-    ap (λ (S : DeclaredSchema). body_at S t) (sym c.schema.ensures.schema) ∙ sym c.body_of-was.ensures
+    sym c.body_of-was.ensures.body
     ∙ ap body_seen e.is-0 in
     let is : body_at B.schema u ≡ enum_body e.other e.marks others =
-    ap (λ (S : DeclaredSchema). body_at S u) (sym c.schema-2.ensures.schema) ∙ sym c.body_of-is.ensures
+    sym c.body_of-is.ensures.body
     ∙ ap body_seen e.is-1 in
     let told : IsTrue c.if-same_numbers.kept
     ↔ ((e.other ≡ e.base) × (e.marks ≡ e.flags) × All (Contains (values_in (body_at B.schema u))) values) =
     elim c.if-same_numbers.branch [
       | then-same_numbers w ↦ both_passed _ _ _ c.same_numbers.result w.has_values-kept.result c.if-same_numbers.kept
           c.same_numbers.ensures
-          (rw (← w.schema-then-same_numbers.ensures.schema)
           (subst (λ (vs : List (Name × ℤ)). IsTrue w.has_values-kept.result
-          ↔ All (Contains (values_in (body_at w.schema-then-same_numbers.result.now u))) vs)
-          (ap (λ vs. map (λ v. (string_bytes v.0, v.1)) vs) w.deref.ensures.value) w.has_values-kept.ensures))
+          ↔ All (Contains (values_in (body_at B.schema u))) vs)
+          (ap (λ vs. map (λ v. (string_bytes v.0, v.1)) vs) w.deref.ensures.value) w.has_values-kept.ensures)
           w.if-same_numbers.true w.kept-is
       | else-same_numbers w ↦ one_failed _ _ _ c.same_numbers.result c.if-same_numbers.kept c.same_numbers.ensures
           w.if-same_numbers.false (w.kept-is ∙ w.if-same_numbers.false)
@@ -79,22 +78,18 @@ returns-in-Union-Union g c =
     let members : List (Name × ℕ) = map (λ m. (string_bytes m.0, m.1.0)) e.members.items in
     let others : List (Name × ℕ) = map (λ m. (string_bytes m.0, m.1.0)) e.field-0-1.items in
     let was : body_at A.schema t ≡ union_body members =
-    ap (λ (S : DeclaredSchema). body_at S t) (sym c.schema.ensures.schema) ∙ sym c.body_of-was.ensures
+    sym c.body_of-was.ensures.body
     ∙ ap body_seen e.is-0 in
     let is : body_at B.schema u ≡ union_body others =
-    ap (λ (S : DeclaredSchema). body_at S u) (sym c.schema-2.ensures.schema) ∙ sym c.body_of-is.ensures
+    sym c.body_of-is.ensures.body
     ∙ ap body_seen e.is-1 in
     let kept = c.keeps_codes-kept.result in
-    let S = c.schema-in-Union-Union.result.now in
-    let T = c.schema-in-Union-Union-2.result.now in
     let told : IsTrue kept
     ↔ ((k m : ℕ) → member_coded (union_body members) k ≡ Some m → CodeKept A.schema B.schema (body_at B.schema u) k
     m) =
-    rw (← c.schema-in-Union-Union.ensures.schema)
-    (rw (← c.schema-in-Union-Union-2.ensures.schema) (subst (λ (ms : List (Name × ℕ)). IsTrue kept
-    ↔ ((k m : ℕ) → member_coded (union_body ms) k ≡ Some m → CodeKept S T (body_at T u) k m))
-    (ap (λ ms. map (λ m. (string_bytes m.0, m.1.0)) ms) c.deref-in-Union-Union.ensures.value)
-    c.keeps_codes-kept.ensures))
+    subst (λ (ms : List (Name × ℕ)). IsTrue kept
+    ↔ ((k m : ℕ) → member_coded (union_body ms) k ≡ Some m → CodeKept A.schema B.schema (body_at B.schema u) k m))
+    (ap (λ ms. map (λ m. (string_bytes m.0, m.1.0)) ms) c.deref-in-Union-Union.ensures.value) c.keeps_codes-kept.ensures
     in
     let members_kept : IsTrue kept ↔ KeepsMembers A.schema B.schema (body_at A.schema t) (body_at B.schema u) =
     rw (was, is) (rw is at told) in
@@ -111,8 +106,8 @@ returns-in_default g c =
     let t = c.args.type_id.0 in
     let u = c.args.twin.0 in
     let twins = c.requires.twins in
-    let was = ap (λ (S : DeclaredSchema). body_at S t) (sym c.schema.ensures.schema) ∙ sym c.body_of-was.ensures in
-    let is = ap (λ (S : DeclaredSchema). body_at S u) (sym c.schema-2.ensures.schema) ∙ sym c.body_of-is.ensures in
+    let was = sym c.body_of-was.ensures.body in
+    let is = sym c.body_of-is.ensures.body in
     let seen : own_number (body_seen c.body_of-was.result.now) (body_seen c.body_of-is.result.now) ≡ 93 =
     search rules in
     let own : own_number (body_at A.schema t) (body_at B.schema u) ≡ 93 = rw (was, is) seen in
@@ -120,23 +115,11 @@ returns-in_default g c =
     c.requires.before (reported A B g.H.Hearer.wants _ (Broken (KindChanged c.args.type_id)) _ _ c.hear.result (kind_stands A B t u twins own)
     c.hear.ensures.kept c.hear.ensures.ignored c.hear.ensures.stopped)
 
-pub body_of-was-requires : goal.body_of-was-requires
-body_of-was-requires g c = rw c.schema.ensures.schema c.requires.known
-
-pub body_of-is-requires : goal.body_of-is-requires
-body_of-is-requires g c = rw c.schema-2.ensures.schema c.requires.found
-
 pub walk_slots-requires-clause-tables : goal.walk_slots-requires-clause-tables
 walk_slots-requires-clause-tables g c =
-    let was = ap (λ (S : DeclaredSchema). body_at S c.args.type_id.0) (sym c.schema.ensures.schema)
-    ∙ sym c.body_of-was.ensures ∙ ap body_seen c.in-Table-Table.is-0 in
-    let is = ap (λ (S : DeclaredSchema). body_at S c.args.twin.0) (sym c.schema-2.ensures.schema)
-    ∙ sym c.body_of-is.ensures ∙ ap body_seen c.in-Table-Table.is-1 in
+    let was = sym c.body_of-was.ensures.body ∙ ap body_seen c.in-Table-Table.is-0 in
+    let is = sym c.body_of-is.ensures.body ∙ ap body_seen c.in-Table-Table.is-1 in
     record { twins = c.requires.twins; old = rw was refl; new = rw is refl }
-
-pub has_values-kept-requires : goal.has_values-kept-requires
-has_values-kept-requires g c =
-    rw c.schema-then-same_numbers.ensures.schema c.schema-then-same_numbers.ensures.made.declared
 
 pub returns-in-Table-Table : goal.returns-in-Table-Table
 returns-in-Table-Table g c = c.walk_slots.ensures
