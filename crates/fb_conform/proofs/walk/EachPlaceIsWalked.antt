@@ -186,38 +186,41 @@ module _ (A B : LaidSchema) (wants : Difference → Bool) where
         (λ r at there other. slot_kept A B t k o p slot r at there (others (number_of r) other))
 
   -- two fields in one slot
-  module _ (t k : ℕ) (f g : DeclaredField) (slot : TableSlot A.schema B.schema t k (Some f) (Some g)) where
-    pub pair : SlotTwins A.schema B.schema t k f g
-    pair = record { type = slot.type; twins = slot.tables.twins; old = slot.old; new = slot.new }
+  module _ {t k : ℕ} {f g : DeclaredField} (slot : TableSlot A.schema B.schema t k (Some f) (Some g)) where
+    -- what a test of the two says of a breach
+    decides : {kept : Bool} (P : DeclaredField → DeclaredField → Type 0) → IsTrue kept ↔ P f g
+        → IsTrue kept ↔ ((a b : DeclaredField) → SlotTwins A.schema B.schema t k a b → P a b)
+    decides {kept} P =
+        pair_decides A B t k kept P f g
+        (record { type = slot.type; twins = slot.tables.twins; old = slot.old; new = slot.new })
 
-    pub shape_decides : (kept : Bool) → IsTrue kept ↔ SameShape A.schema B.schema f.shape g.shape
+    pub shape_decides : {kept : Bool} → IsTrue kept ↔ SameShape A.schema B.schema f.shape g.shape
         → IsTrue kept ↔ Kept A B (FieldTypeChanged (id t) k)
-    shape_decides kept = pair_decides A B t k kept (λ a b. SameShape A.schema B.schema a.shape b.shape) f g pair
+    shape_decides = decides (λ a b. SameShape A.schema B.schema a.shape b.shape)
 
-    pub default_decides : (kept : Bool) → IsTrue kept ↔ SameDefault f g
+    pub default_decides : {kept : Bool} → IsTrue kept ↔ SameDefault f g
         → IsTrue kept ↔ Kept A B (DefaultChanged (id t) k)
-    default_decides kept = pair_decides A B t k kept (λ a b. SameDefault a b) f g pair
+    default_decides = decides (λ a b. SameDefault a b)
 
-    pub required_decides : (kept : Bool) → IsTrue kept ↔ (is_required g ≡ is_required f)
+    pub required_decides : {kept : Bool} → IsTrue kept ↔ (is_required g ≡ is_required f)
         → IsTrue kept ↔ Kept A B (RequiredChanged (id t) k)
-    required_decides kept = pair_decides A B t k kept (λ a b. is_required b ≡ is_required a) f g pair
+    required_decides = decides (λ a b. is_required b ≡ is_required a)
 
-    pub deprecated_decides : (kept : Bool) → IsTrue kept ↔ (f.deprecated ≡ true → g.deprecated ≡ true)
+    pub deprecated_decides : {kept : Bool} → IsTrue kept ↔ (f.deprecated ≡ true → g.deprecated ≡ true)
         → IsTrue kept ↔ Kept A B (DeprecatedTakenBack (id t) k)
-    deprecated_decides kept =
-        pair_decides A B t k kept (λ a b. a.deprecated ≡ true → b.deprecated ≡ true) f g pair
+    deprecated_decides = decides (λ a b. a.deprecated ≡ true → b.deprecated ≡ true)
 
     -- from the slot to their first breach, and from the last on
-    pub fields_start : (xs : List Difference) → Lists A B wants (IsOfSlotsBelow t k) xs
+    pub fields_start : {xs : List Difference} → Lists A B wants (IsOfSlotsBelow t k) xs
         → Lists A B wants (IsAhead (Broken (FieldTypeChanged (id t) k))) xs
-    fields_start xs before =
+    fields_start {xs} before =
         let here : t + 1 + (t + 1) ≡ t + t + 2 = omega arith in
         rw here (numbers_passed A B wants (t + t + 2) (k + 1) 0 96 xs (omega arith)
         (λ d at there low high. slot_missed t k (Some f) (Some g) slot d at there (inl high)) before)
 
-    pub fields_end : (xs : List Difference) → Lists A B wants (IsUpTo (Broken (DeprecatedTakenBack (id t) k))) xs
+    pub fields_end : {xs : List Difference} → Lists A B wants (IsUpTo (Broken (DeprecatedTakenBack (id t) k))) xs
         → Lists A B wants (IsOfSlotsBelow t (k + 1)) xs
-    fields_end xs before =
+    fields_end {xs} before =
         let here : t + 1 + (t + 1) ≡ t + t + 2 = omega arith in
         place_passed A B wants (t + t + 2) (k + 1) 100 xs
         (λ d at there past. slot_missed t k (Some f) (Some g) slot d at there (inr past)) (rw here at before)

@@ -1,5 +1,4 @@
 use Rattle.std.proofs.Common.{◌+◌}
-use Rattle.fb_schema.specs.Seen.{field_seen}
 use Rattle.fb_conform.specs.declared.breaches.Breach.TheVariants.{DeprecatedTakenBack}
 use Rattle.fb_conform.specs.declared.difference.Difference.TheVariants.{Breach as Broken}
 use Rattle.fb_conform.specs.Listed.{IsUpTo, IsOfSlotsBelow}
@@ -13,70 +12,49 @@ returns-in_err-report_unless g c =
     let A = c.args.old.now in
     let B = c.args.new.now in
     let wants = g.H.Hearer.wants in
-    let t = c.args.at.type_id.0 in
-    let k = c.args.at.slot in
-    let f = field_seen c.args.was.now in
-    let h = field_seen c.args.is.now in
     let slot = c.requires.slot in
-    let start = fields_start A B wants t k f h slot _ c.requires.before in
-    let shape = shape_decides A B wants t k f h slot c.same_type-shape.result c.same_type-shape.ensures in
-    stopped_on A B wants _ _ _ _ c.from_residual.result c.from_residual.ensures
-    (c.in_err-report_unless.ensures A B shape start)
+    stopped_on A B wants _ _ _ _ c.from_residual.result c.from_residual.ensures (c.in_err-report_unless.ensures A B
+    (shape_decides A B wants slot c.same_type-shape.ensures) (fields_start A B wants slot c.requires.before))
 
 pub returns-in_err-report_unless-2 : goal.returns-in_err-report_unless-2
 returns-in_err-report_unless-2 g c =
     let A = c.args.old.now in
     let B = c.args.new.now in
     let wants = g.H.Hearer.wants in
-    let t = c.args.at.type_id.0 in
-    let k = c.args.at.slot in
-    let f = field_seen c.args.was.now in
-    let h = field_seen c.args.is.now in
     let slot = c.requires.slot in
-    let start = fields_start A B wants t k f h slot _ c.requires.before in
-    let shape = shape_decides A B wants t k f h slot c.same_type-shape.result c.same_type-shape.ensures in
-    let after_shape = c.in_ok-report_unless.ensures A B shape start in
-    let default = default_decides A B wants t k f h slot c.same_default-default.result c.same_default-default.ensures in
-    stopped_on A B wants _ _ _ _ c.from_residual-in_err-report_unless-2.result c.from_residual-in_err-report_unless-2.ensures
-    (c.in_err-report_unless-2.ensures A B default after_shape)
+    let after_shape = c.in_ok-report_unless.ensures A B (shape_decides A B wants slot c.same_type-shape.ensures)
+    (fields_start A B wants slot c.requires.before) in
+    stopped_on A B wants _ _ _ _ c.from_residual-in_err-report_unless-2.result
+    c.from_residual-in_err-report_unless-2.ensures (c.in_err-report_unless-2.ensures A B
+    (default_decides A B wants slot c.same_default-default.ensures) after_shape)
 
 pub returns-in_err-report_unless-3 : goal.returns-in_err-report_unless-3
 returns-in_err-report_unless-3 g c =
     let A = c.args.old.now in
     let B = c.args.new.now in
     let wants = g.H.Hearer.wants in
-    let t = c.args.at.type_id.0 in
-    let k = c.args.at.slot in
-    let f = field_seen c.args.was.now in
-    let h = field_seen c.args.is.now in
     let slot = c.requires.slot in
-    let start = fields_start A B wants t k f h slot _ c.requires.before in
-    let shape = shape_decides A B wants t k f h slot c.same_type-shape.result c.same_type-shape.ensures in
-    let after_shape = c.in_ok-report_unless.ensures A B shape start in
-    let default = default_decides A B wants t k f h slot c.same_default-default.result c.same_default-default.ensures in
-    let after_default = c.in_ok-report_unless-2.ensures A B default after_shape in
-    let required = required_decides A B wants t k f h slot c.same_required-required.result c.same_required-required.ensures in
-    stopped_on A B wants _ _ _ _ c.from_residual-in_err-report_unless-3.result c.from_residual-in_err-report_unless-3.ensures
-    (c.in_err-report_unless-3.ensures A B required after_default)
+    let after_shape = c.in_ok-report_unless.ensures A B (shape_decides A B wants slot c.same_type-shape.ensures)
+    (fields_start A B wants slot c.requires.before) in
+    let after_default = c.in_ok-report_unless-2.ensures A B
+    (default_decides A B wants slot c.same_default-default.ensures) after_shape in
+    stopped_on A B wants _ _ _ _ c.from_residual-in_err-report_unless-3.result
+    c.from_residual-in_err-report_unless-3.ensures (c.in_err-report_unless-3.ensures A B
+    (required_decides A B wants slot c.same_required-required.ensures) after_default)
 
 pub returns : goal.returns
 returns g c =
     let A = c.args.old.now in
     let B = c.args.new.now in
     let wants = g.H.Hearer.wants in
-    let t = c.args.at.type_id.0 in
-    let k = c.args.at.slot in
-    let f = field_seen c.args.was.now in
-    let h = field_seen c.args.is.now in
     let slot = c.requires.slot in
-    let start = fields_start A B wants t k f h slot _ c.requires.before in
-    let shape = shape_decides A B wants t k f h slot c.same_type-shape.result c.same_type-shape.ensures in
-    let after_shape = c.in_ok-report_unless.ensures A B shape start in
-    let default = default_decides A B wants t k f h slot c.same_default-default.result c.same_default-default.ensures in
-    let after_default = c.in_ok-report_unless-2.ensures A B default after_shape in
-    let required = required_decides A B wants t k f h slot c.same_required-required.result c.same_required-required.ensures in
-    let after_required = c.in_ok-report_unless-3.ensures A B required after_default in
-    let deprecated = deprecated_decides A B wants t k f h slot c.stays_deprecated-deprecated.result
-    c.stays_deprecated-deprecated.ensures in
-    walked_on A B wants _ (IsUpTo (Broken (DeprecatedTakenBack c.args.at.type_id k))) (IsOfSlotsBelow t (k + 1)) _
-    c.report_unless-4.result (fields_end A B wants t k f h slot _) (c.report_unless-4.ensures A B deprecated after_required)
+    let after_shape = c.in_ok-report_unless.ensures A B (shape_decides A B wants slot c.same_type-shape.ensures)
+    (fields_start A B wants slot c.requires.before) in
+    let after_default = c.in_ok-report_unless-2.ensures A B
+    (default_decides A B wants slot c.same_default-default.ensures) after_shape in
+    let after_required = c.in_ok-report_unless-3.ensures A B
+    (required_decides A B wants slot c.same_required-required.ensures) after_default in
+    walked_on A B wants _ (IsUpTo (Broken (DeprecatedTakenBack c.args.at.type_id c.args.at.slot)))
+    (IsOfSlotsBelow c.args.at.type_id.0 (c.args.at.slot + 1)) _ c.report_unless-4.result (fields_end A B wants slot)
+    (c.report_unless-4.ensures A B (deprecated_decides A B wants slot c.stays_deprecated-deprecated.ensures)
+    after_required)
