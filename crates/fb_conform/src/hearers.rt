@@ -1,4 +1,4 @@
-//! Who hears of the differences between two schemas.
+//! What the differences between two schemas are reported to.
 ghost use Rattle.std.specs.Prelude.{⊤, ◌≡◌, Bool, true, false, List, [], ◌∷◌, ◌++◌, map, IfErr, OnOk, refl};
 ghost use Rattle.fb_conform.specs.declared.names.MovedName.{MovedName};
 ghost use Rattle.fb_conform.specs.declared.difference.Difference.{Difference};
@@ -10,7 +10,7 @@ use crate::difference::Difference;
 use crate::names::MovedName;
 use std::alloc::AllocError;
 
-/// Hears of differences, one after another, until it stops.
+/// Takes differences, one after another, until it stops.
 pub(crate) trait Hearer {
     type Error;
 
@@ -28,7 +28,7 @@ pub(crate) trait Hearer {
     // By what error it stops at a difference, if it had kept these before.
     ghost stops: { List Difference → Difference → Self.Error → Type 0 };
 
-    /// Hears of one more difference.
+    /// Reports one more difference to it.
     fn hear(&mut self, difference: Difference) -> Result<(), Self::Error>
         ensures kept { OnOk result (wants difference ≡ true
             → heard self.new ≡ heard self.old ++ difference ∷ []) }

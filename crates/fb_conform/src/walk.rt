@@ -1,4 +1,4 @@
-//! One walk over two schemas, of whose differences a hearer hears in order.
+//! One walk over two schemas that reports their differences to a hearer, in order.
 ghost use Rattle.std.specs.Prelude.{◌≡◌, ◌<◌, ◌+◌, ◌↔◌, [], length, IsTrue, Some, option_map, option_copied};
 ghost use Rattle.fb_schema.specs.Seen.{field_seen};
 ghost use Rattle.fb_schema.specs.WellDeclared.{IsDeclared};

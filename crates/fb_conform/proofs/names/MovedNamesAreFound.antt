@@ -1,7 +1,7 @@
 -- Whether the name in a place is moved, by the name and what it stands for in the new type.
-use Rattle.std.proofs.Common.{◌≡◌, ◌≢◌, ◌↔◌, ℕ, Bool, true, false, IsTrue, not, nat_eq, None, Some, refl}
-use Rattle.std.proofs.Common.{sym, ap, ◌∙◌}
-use Rattle.std.proofs.lemmas.Bool.Decides.{Decides-eqb}
+use Rattle.std.proofs.Common.{◌≡◌, ◌≢◌, ◌↔◌, ℕ, IsTrue, not, nat_eq, None, Some}
+use Rattle.std.proofs.Common.{sym, ap, ◌∙◌, arith}
+use Rattle.std.proofs.lemmas.Bool.Decides.{nat_tests}
 use Rattle.fb_schema.specs.Schema.{Name, DeclaredBody, body_at}
 use Rattle.fb_schema.specs.WellDeclared.{IsBody, IsDeclared}
 use Rattle.fb_layout.specs.Laid.{LaidSchema}
@@ -13,11 +13,7 @@ use Rattle.fb_conform.proofs.names.NamesHaveOneSlot.{name_stands, stands_in}
 use Rattle.fb_conform.proofs.twins.TypesAreFoundByTheirNames.{one_twin, twin_declared}
 
 pub apart : (j k : ℕ) → IsTrue (not (nat_eq j k)) ↔ (j ≢ k)
-apart j k = by (nat_eq j k) refl
-  where
-    by : (b : Bool) → nat_eq j k ≡ b → IsTrue (not b) ↔ (j ≢ k)
-    by true e = (λ test. let bad : false ≡ true = test in cc, λ differ. absurd (differ ((Decides-eqb j k).0 e)))
-    by false e = (λ test same. let bad : false ≡ true = sym e ∙ (Decides-eqb j k).1 same in cc, λ differ. refl)
+apart j k = (λ test same. grind (arith, nat_tests, test, same), λ differ. grind (arith, nat_tests, differ))
 
 module _ (A B : LaidSchema) (declared : IsDeclared A.schema) (m : MovedName) (u : ℕ)
     (twins : Twins A.schema B.schema m.type_id.0 u) where
@@ -45,14 +41,20 @@ module _ (A B : LaidSchema) (declared : IsDeclared A.schema) (m : MovedName) (u 
       (one_twin A.schema B.schema m.type_id.0 u moved.type twins moved.twins)
       ∙ moved.new
 
-  pub is_moved : (name : Name) → name_in body m.slot ≡ Some name → (k : ℕ)
-      → slot_named (body_at B.schema u) name ≡ Some k → k ≢ m.slot → IsMoved A B m
-  is_moved name here k new apart = record {
-    name = name;
-    type = u;
-    slot = k;
-    twins = twins;
-    old = name_stands A.schema m.type_id.0 body is m.slot name here;
-    new = new;
-    moved = apart;
-  }
+  pub moved_to : (name : Name) → name_in body m.slot ≡ Some name → (k : ℕ)
+      → slot_named (body_at B.schema u) name ≡ Some k → IsMoved A B m ↔ (k ≢ m.slot)
+  moved_to name here k new = (
+    λ moved same.
+        let both : Some k ≡ Some moved.slot = sym new ∙ new_slot name here moved in
+        let one : k ≡ moved.slot = cc in
+        moved.moved (sym one ∙ same),
+    λ apart. record {
+      name = name;
+      type = u;
+      slot = k;
+      twins = twins;
+      old = name_stands A.schema m.type_id.0 body is m.slot name here;
+      new = new;
+      moved = apart;
+    },
+  )

@@ -1,5 +1,5 @@
 -- Breaches by their places: no two have one.
-use Rattle.std.proofs.Common.{◌≡◌, ℕ, ◌+◌, ◌≤◌, if◌then◌else◌, ◌==◌, Option, None, Some, refl, sym, subst, ap, ◌∙◌}
+use Rattle.std.proofs.Common.{◌≡◌, ℕ, ◌+◌, ◌≤◌, if◌then◌else◌, ◌==◌, Option, None, Some, refl, sym, ap, ◌∙◌}
 use Rattle.std.proofs.Common.{arith}
 use Rattle.std.specs.Option.{option_map_or, unwrap_or}
 use Rattle.fb_schema.specs.declared.kinds.TypeId.{TypeId}
@@ -85,32 +85,26 @@ pub record OfSlot (P : Breach → Type 0) (t k : ℕ) : Type 0 where
   pub deprecated : P (DeprecatedTakenBack (id t) k)
   pub new : P (NewRequired (id t) k)
 
+same_id : (v : TypeId) (t : ℕ) → v.0 + 1 ≡ t + 1 → v ≡ id t
+same_id v t e = ap id (omega (arith, e))
+
 pub of_type : (P : Breach → Type 0) (t : ℕ) → OfType P t → (r : Breach) → type_place r ≡ t + 1 → slot_place r ≡ 0 → P r
-of_type P t all (TypeGone v) e i = subst P (same_breach (TypeGone (id t)) (TypeGone v) (sym e) refl refl) all.gone
-of_type P t all (KindChanged v) e i =
-    subst P (same_breach (KindChanged (id t)) (KindChanged v) (sym e) refl refl) all.kind
-of_type P t all (StructChanged v) e i =
-    subst P (same_breach (StructChanged (id t)) (StructChanged v) (sym e) refl refl) all.struct
-of_type P t all (EnumChanged v) e i =
-    subst P (same_breach (EnumChanged (id t)) (EnumChanged v) (sym e) refl refl) all.values
-of_type P t all (UnionChanged v) e i =
-    subst P (same_breach (UnionChanged (id t)) (UnionChanged v) (sym e) refl refl) all.members
+of_type P t all (TypeGone v) e i = rw (same_id v t e) all.gone
+of_type P t all (KindChanged v) e i = rw (same_id v t e) all.kind
+of_type P t all (StructChanged v) e i = rw (same_id v t e) all.struct
+of_type P t all (EnumChanged v) e i = rw (same_id v t e) all.values
+of_type P t all (UnionChanged v) e i = rw (same_id v t e) all.members
 of_type P t all _ e i = absurd (omega arith)
 
 pub of_slot : (P : Breach → Type 0) (t k : ℕ) → OfSlot P t k → (r : Breach) → type_place r ≡ t + 1
     → slot_place r ≡ k + 1 → P r
-of_slot P t k all (SlotGone v j) e i =
-    subst P (same_breach (SlotGone (id t) k) (SlotGone v j) (sym e) (sym i) refl) all.gone
-of_slot P t k all (FieldTypeChanged v j) e i =
-    subst P (same_breach (FieldTypeChanged (id t) k) (FieldTypeChanged v j) (sym e) (sym i) refl) all.shape
-of_slot P t k all (DefaultChanged v j) e i =
-    subst P (same_breach (DefaultChanged (id t) k) (DefaultChanged v j) (sym e) (sym i) refl) all.default
-of_slot P t k all (RequiredChanged v j) e i =
-    subst P (same_breach (RequiredChanged (id t) k) (RequiredChanged v j) (sym e) (sym i) refl) all.required
+of_slot P t k all (SlotGone v j) e i = let same : j ≡ k = omega (arith, i) in rw (same_id v t e, same) all.gone
+of_slot P t k all (FieldTypeChanged v j) e i = let same : j ≡ k = omega (arith, i) in rw (same_id v t e, same) all.shape
+of_slot P t k all (DefaultChanged v j) e i = let same : j ≡ k = omega (arith, i) in rw (same_id v t e, same) all.default
+of_slot P t k all (RequiredChanged v j) e i = let same : j ≡ k = omega (arith, i) in rw (same_id v t e, same) all.required
 of_slot P t k all (DeprecatedTakenBack v j) e i =
-    subst P (same_breach (DeprecatedTakenBack (id t) k) (DeprecatedTakenBack v j) (sym e) (sym i) refl) all.deprecated
-of_slot P t k all (NewRequired v j) e i =
-    subst P (same_breach (NewRequired (id t) k) (NewRequired v j) (sym e) (sym i) refl) all.new
+    let same : j ≡ k = omega (arith, i) in rw (same_id v t e, same) all.deprecated
+of_slot P t k all (NewRequired v j) e i = let same : j ≡ k = omega (arith, i) in rw (same_id v t e, same) all.new
 of_slot P t k all _ e i = absurd (omega arith)
 
 -- each breach of a type is one of these

@@ -1,4 +1,4 @@
-use Rattle.std.proofs.Common.{◌≡◌, ◌↔◌, true, false, inl, inr, List, [], Result, Ok, Err, IfErr, refl, arith}
+use Rattle.std.proofs.Common.{◌≡◌, ◌↔◌, inl, inr, List, [], Result, Ok, Err, IfErr, refl, arith, rules}
 use Rattle.std.specs.Bool.{⊤}
 use Rattle.std.specs.Prelude.{IsOk}
 use Rattle.fb_layout.specs.Laid.{LaidSchema}
@@ -19,11 +19,7 @@ module _ (A B : LaidSchema) where
     λ ok r. elim (walked.all (Broken r) tt) [ inl there ↦ absurd (omega (arith, there.1)) | inr miss ↦ miss refl ],
     λ conforms. refl,
   )
-  exact (Err breach) walked =
-      let here = walked.stopped.1 in (
-        λ failed. let bad : false ≡ true = failed in cc,
-        λ conforms. absurd (rw here at walked.differs (conforms breach)),
-      )
+  exact (Err breach) walked = search rules
 
   first : (result : Result ⊤ Breach) → Walks A B is_breach StopsAtOnce IsAny [] result → IfErr result (IsFirst A B)
   first (Ok done) walked = tt

@@ -1,7 +1,5 @@
 use Rattle.std.proofs.Common.{◌≡◌, true, false, None, Some, option_copied, sym, ap, ◌∙◌}
-use Rattle.fb_schema.specs.Schema.{body_at}
-use Rattle.fb_conform.specs.Names.{slot_named}
-use Rattle.fb_conform.proofs.names.MovedNamesAreFound.{apart, no_name, new_slot, is_moved}
+use Rattle.fb_conform.proofs.names.MovedNamesAreFound.{apart, no_name, new_slot, moved_to}
 use Rattle.fb_conform.proofs.names.is_moved.Goals as goal
 
 pub returns-in_default : goal.returns-in_default
@@ -24,21 +22,11 @@ returns-in-None c =
 
 pub returns-in-Some-slot_named : goal.returns-in-Some-slot_named
 returns-in-Some-slot_named c =
-    let A = c.args.old.now in
-    let B = c.args.new.now in
-    let m = c.args.place in
-    let u = c.args.twin.0 in
     let here = sym c.name_in.ensures ∙ ap option_copied c.in-Some.is in
-    let name = c.in-Some.name.now in
     let k = c.in-Some-slot_named.slot in
-    let new : slot_named (body_at B.schema u) name ≡ Some k =
-    sym c.slot_named.ensures ∙ c.in-Some-slot_named.is in
+    let moved = moved_to c.args.old.now c.args.new.now c.requires.declared c.args.place c.args.twin.0 c.requires.twins
+    c.in-Some.name.now here k (sym c.slot_named.ensures ∙ c.in-Some-slot_named.is) in
     let test = apart k c.from.result in (
-      λ differs. is_moved A B c.requires.declared m u c.requires.twins name here k new
-          (λ same. test.0 differs (same ∙ sym c.from.ensures)),
-      λ moved. test.1 (λ same.
-          let both : Some k ≡ Some moved.slot =
-          sym new ∙ new_slot A B c.requires.declared m u c.requires.twins name here moved in
-          let one : k ≡ moved.slot = cc in
-          moved.moved (sym one ∙ same ∙ c.from.ensures)),
+      λ differs. moved.1 (λ same. test.0 differs (same ∙ sym c.from.ensures)),
+      λ is. test.1 (λ same. moved.0 is (same ∙ c.from.ensures)),
     )
