@@ -15,7 +15,7 @@ use Rattle.fb_syntax.specs.Spells.{IsAtFront}
 use Rattle.fb_syntax.specs.Gaps.{IsGap}
 use Rattle.fb_syntax.proofs.Gaps.{gap_starts, gap_within, same_gap, behind_first, line_gap, block_gap, no_comment}
 
-unsigned_starts : (c : ℕ) (s : List ℕ) → is_unsigned (c ∷ s) ≡ true → is_digit c ≡ true
+pub unsigned_starts : (c : ℕ) (s : List ℕ) → is_unsigned (c ∷ s) ≡ true → is_digit c ≡ true
 unsigned_starts c (x ∷ h ∷ s) e = grind (arith, nat_tests)
 unsigned_starts c _ e = grind (arith, nat_tests)
 

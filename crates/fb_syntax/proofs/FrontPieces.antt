@@ -1,9 +1,13 @@
 -- What stands at the front decides which tokens a text has; the scanner goes from piece to piece.
 use Rattle.std.proofs.Common.{◌≡◌, ℕ, ◌+◌, ◌<◌, List, [], ◌++◌, ◌≤◌, length, drop, refl, ap, sym, arith, ◌∙◌}
-use Rattle.std.proofs.Common.{append_assoc, length-drop}
+use Rattle.std.proofs.Common.{append_assoc, length-drop, Some, None, Ok, Err, ◌∷◌}
+use Rattle.std.proofs.lemmas.List.{append-nil, drop-drop}
 use Rattle.fb_syntax.specs.declared.tokens.Token.{Token}
 use Rattle.fb_syntax.specs.declared.scan.Piece.{Piece}
 use Rattle.fb_syntax.specs.Spells.{Spells, finished, piece, mark_len, OneSpelling, IsAtFront, len_of, tokens_of}
+use Rattle.fb_syntax.specs.Gaps.{IsGap}
+use Rattle.fb_syntax.specs.NextToken.{ComesNext, ended, after_gap, longest, refused}
+use Rattle.fb_syntax.specs.declared.tokens.BadToken.{BadToken}
 use Rattle.fb_syntax.proofs.Gaps.{gap_within}
 use Rattle.fb_syntax.proofs.FirstBytes.{nowhere, one_piece, token_some}
 use Rattle.std.proofs.lemmas.Grind.{common_steps}
@@ -89,3 +93,34 @@ over start text at found s h =
           let last = nothing at [] split.0 (λ p h. nowhere [] p refl h) (rw none at split.2) in
           sym (split.1 ∙ ap (λ r. found ++ r) last.1 ∙ whole),
     )
+
+-- The same from token to token.
+gap_passed : (start : ℕ) (text : List ℕ) (at : ℕ) (found : List Token) (n : ℕ) → Scanned start text at found
+    → IsGap n (drop at text) → Scanned start text (at + n) found
+gap_passed start text at found n s gap = rw append-nil at (over_piece start text at found (pieces.Gap n) s gap).2
+
+pub over_token : (start : ℕ) (text : List ℕ) (at : ℕ) (rest : List ℕ) (found : List Token) (token : Token)
+    → rest ≡ drop at text → Scanned start text at found → ComesNext at rest (Some (Ok token))
+    → Scanned start text (token.at + token.len) (found ++ token ∷ [])
+over_token start text at rest found token is s (after_gap n gap next) = over_token start text (at + n) (drop n rest) found
+    token (rw is (drop-drop n at text)) (gap_passed start text at found n s (rw is at gap)) next
+over_token start text at rest found token is s (longest kind n l small) =
+    (over_piece start text at found (pieces.Token kind n) s (rw is at l, rw is at small)).2
+
+pub over_bad : (start : ℕ) (text : List ℕ) (at : ℕ) (rest : List ℕ) (found : List Token) (bad : BadToken)
+    → rest ≡ drop at text → Scanned start text at found → ComesNext at rest (Some (Err bad)) → (every : List Token)
+    → Spells start (drop start text) every → ⊥
+over_bad start text at rest found bad is s (after_gap n gap next) = over_bad start text (at + n) (drop n rest) found
+    bad (rw is (drop-drop n at text)) (gap_passed start text at found n s (rw is at gap)) next
+over_bad start text at rest found bad is s (refused some none) =
+    let here : at < length text = omega (arith, ap length is, length-drop at text, some) in
+    over_fault start text at found s here (rw is at none)
+
+pub over_end : (start : ℕ) (text : List ℕ) (at : ℕ) (rest : List ℕ) (found : List Token)
+    → rest ≡ drop at text → Scanned start text at found → ComesNext at rest None
+    → Spells start (drop start text) found × ((every : List Token) → Spells start (drop start text) every
+    → found ≡ every)
+over_end start text at rest found is s (after_gap n gap next) = over_end start text (at + n) (drop n rest) found
+    (rw is (drop-drop n at text)) (gap_passed start text at found n s (rw is at gap)) next
+over_end start text at rest found is s ended =
+    let last : length text ≤ at = omega (arith, ap length is, length-drop at text) in over start text at found s last

@@ -1,6 +1,7 @@
 pub mod DigitSums
 pub mod Gaps
 pub mod FirstBytes
+pub mod BadTokens
 pub mod LongestTokens
 pub mod FrontPieces
 pub mod Repeat

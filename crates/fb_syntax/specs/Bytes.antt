@@ -2,6 +2,7 @@
 use Rattle.std.specs.Prelude.{ℕ, Bool, ◌==◌, ◌||◌, ◌&&◌, nat_le, not}
 use Rattle.fb_syntax.specs.declared.bytes.ByteClass.{ByteClass}
 use Rattle.fb_syntax.specs.declared.bytes.ByteClass.TheVariants.{Word, Digit, Hex, Quotable, Line}
+use Rattle.fb_syntax.specs.declared.bytes.ByteClass.TheVariants.{Continuation}
 
 abbrev pub is_between : ℕ → ℕ → ℕ → Bool
 is_between low high c = nat_le low c && nat_le c high
@@ -38,6 +39,10 @@ is_punct c = c == 123 || c == 125 || c == 40 || c == 41 || c == 91 || c == 93 ||
 abbrev pub is_quotable : ℕ → Bool
 is_quotable c = nat_le 32 c && not (c == 34) && not (c == 92)
 
+-- a byte of a character in UTF-8, after its first
+abbrev pub is_continuation : ℕ → Bool
+is_continuation c = is_between 128 191 c
+
 -- the bytes of a class
 abbrev pub has : ByteClass → ℕ → Bool
 has Word = is_word_byte
@@ -45,3 +50,4 @@ has Digit = is_digit
 has Hex = is_hex
 has Quotable = is_quotable
 has Line = λ c. not (c == 10)
+has Continuation = is_continuation

@@ -3,6 +3,8 @@ pub mod Gaps
 pub mod Integers
 pub mod TokenBytes
 pub mod Spells
+pub mod BadTokens
+pub mod NextToken
 pub mod Located
 pub mod NumberRead
 pub mod Attributes

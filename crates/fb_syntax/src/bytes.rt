@@ -51,6 +51,8 @@ pub(crate) enum ByteClass {
     Quotable,
     /// Any byte but a line feed.
     Line,
+    /// A byte of a character in UTF-8, after its first.
+    Continuation,
 }
 
 impl ByteClass {
@@ -63,6 +65,7 @@ impl ByteClass {
             ByteClass::Hex => is_hex(byte),
             ByteClass::Quotable => byte >= 0x20 && byte != b'"' && byte != b'\\',
             ByteClass::Line => byte != b'\n',
+            ByteClass::Continuation => matches!(byte, 0x80..=0xbf),
         }
     }
 

@@ -18,6 +18,6 @@ pub use declarations::{
 };
 pub use faults::SyntaxFault;
 pub use integers::integer_value;
-pub use scan::one_spelling;
+pub use scan::{Tokens, one_spelling};
 pub use schema_text::{one_reading, parse};
-pub use tokens::{Token, TokenKind};
+pub use tokens::{BadToken, Token, TokenKind};

@@ -7,12 +7,13 @@ ghost use Rattle.fb_syntax.specs.declared.tokens.TokenKind.TheVariants.{Integer}
 ghost use Rattle.fb_syntax.specs.Gaps.{is_close, ClosesBehind};
 ghost use Rattle.fb_syntax.specs.Spells.{IsFront, SpellsText, OneSpelling, mark_len};
 ghost use Rattle.fb_syntax.specs.TokenBytes.{starts};
+ghost use Rattle.fb_syntax.specs.BadTokens.{fault_of, refused_len};
 ghost use Rattle.fb_syntax.specs.Refusals.{StandsWithin, IsTokenFault};
 
 use crate::bytes::{ByteClass, is_blank, is_digit, is_letter, is_punct, is_sign};
 use crate::faults::SyntaxFault;
 use crate::integers::{magnitude, number_len, sign_len};
-use crate::tokens::{Token, TokenKind};
+use crate::tokens::{BadToken, Token, TokenKind};
 use simdutf8::compat;
 use std::alloc::Global;
 
@@ -48,8 +49,7 @@ fn before_close(text: &[u8]) -> Option<usize>
 #[tactic(auto, using(crate::proofs::FirstBytes::comments))]
 fn comment(at: u64, text: &[u8]) -> Result<Piece, SyntaxFault>
     ensures piece { IsFront (47 ∷ text.now) result }
-    ensures fault { IfErr result IsTokenFault }
-    ensures within { IfErr result (StandsWithin at) }
+    ensures fault { IfErr result (λ e. e ≡ fault_of at (47 ∷ text.now)) }
 {
     match text {
         [b'/', rest @ ..] => Ok(Piece::Gap(2 + ByteClass::Line.run(rest))),
@@ -66,8 +66,7 @@ fn comment(at: u64, text: &[u8]) -> Result<Piece, SyntaxFault>
 fn quoted(at: u64, text: &[u8]) -> Result<Piece, SyntaxFault>
     requires { at + length text.now < 2 ^ 64 }
     ensures piece { IsFront (34 ∷ text.now) result }
-    ensures fault { IfErr result IsTokenFault }
-    ensures within { IfErr result (StandsWithin (at + length text.now)) }
+    ensures fault { IfErr result (λ e. e ≡ fault_of at (34 ∷ text.now)) }
 {
     let len = ByteClass::Quotable.run(text);
     match text.get(len) {
@@ -81,8 +80,7 @@ fn quoted(at: u64, text: &[u8]) -> Result<Piece, SyntaxFault>
 fn integer(at: u64, text: &[u8]) -> Result<Piece, SyntaxFault>
     requires { IsTrue (starts Integer (get_or text.now 0 0)) }
     ensures piece { IsFront text.now result }
-    ensures fault { IfErr result IsTokenFault }
-    ensures within { IfErr result (StandsWithin at) }
+    ensures fault { IfErr result (λ e. e ≡ fault_of at text.now) }
 {
     let sign = sign_len(text);
     let len = number_len(&text[sign..]);
@@ -99,8 +97,7 @@ fn integer(at: u64, text: &[u8]) -> Result<Piece, SyntaxFault>
 fn next_piece(at: u64, text: &[u8]) -> Result<Piece, SyntaxFault>
     requires { at + length text.now < 2 ^ 64 }
     ensures piece { IsFront text.now result }
-    ensures fault { IfErr result IsTokenFault }
-    ensures within { IfErr result (StandsWithin (at + length text.now)) }
+    ensures fault { IfErr result (λ e. e ≡ fault_of at text.now) }
 {
     let [first, rest @ ..] = text else {
         return Err(SyntaxFault::BadByte(at));
@@ -134,6 +131,78 @@ fn mark_len(text: &[u8]) -> usize
     }
 }
 
+// How many bytes at a text's front are refused together, where no piece stands there.
+fn refused_len(text: &[u8]) -> usize
+    ensures len { result ≡ refused_len text.now }
+    ensures some { 0 < length text.now → 0 < result }
+    ensures within { result ≤ length text.now }
+{
+    let [first, rest @ ..] = text else {
+        return 0;
+    };
+    1 + match (*first, rest) {
+        (b'"', _) => ByteClass::Line.run(rest),
+        (b'/', [b'*', ..]) => rest.len(),
+        (b'0'..=b'9' | b'+' | b'-', _) => ByteClass::Word.run(rest),
+        _ => ByteClass::Continuation.run(rest),
+    }
+}
+
+/// The tokens of a text in order; where none is, the bytes that are refused, and then what is after them.
+#[derive(Clone, Copy, Debug, Drop)]
+pub struct Tokens<'t> {
+    /// It needn't be UTF-8.
+    pub text: &'t [u8],
+    /// The offset from which on tokens are read.
+    pub at: usize,
+}
+
+impl<'t> Tokens<'t> {
+    /// All tokens of a text, after its byte order mark if it has one; offsets count the mark.
+    pub fn of(text: &'t [u8]) -> Tokens<'t>
+        ensures text { result.text.now ≡ text.now }
+        ensures at { result.at ≡ mark_len text.now }
+        ensures within { result.at ≤ length text.now }
+    {
+        let at = mark_len(text);
+        Tokens { text, at }
+    }
+}
+
+impl<'t> Iterator for Tokens<'t> {
+    ghost use Rattle.std.specs.Prelude.{◌-◌, length};
+    ghost use Rattle.std.specs.Iterator.{at_most};
+    ghost use Rattle.fb_syntax.specs.NextToken.{GivesToken};
+
+    type Item = Result<Token, BadToken>;
+
+    ghost next_gives = { GivesToken };
+
+    ghost remaining = { λ tokens. at_most (length tokens.text.now - tokens.at) };
+
+    fn next(&mut self) -> Option<Result<Token, BadToken>> {
+        while self.at < self.text.len() {
+            let at = self.at as u64;
+            let rest = &self.text[self.at..];
+            match next_piece(at, rest) {
+                Ok(Piece::Gap(len)) => self.at += len,
+                Ok(Piece::Token(kind, len)) => {
+                    self.at += len;
+                    let len = len as u64;
+                    return Some(Ok(Token { kind, at, len }));
+                }
+                Err(fault) => {
+                    let len = refused_len(rest);
+                    self.at += len;
+                    let len = len as u64;
+                    return Some(Err(BadToken { fault, at, len }));
+                }
+            }
+        }
+        None
+    }
+}
+
 /// The bytes as text, or the length of their longest front that is UTF-8.
 pub(crate) fn text_of(bytes: &[u8]) -> Result<&str, SyntaxFault>
     ensures text { IfOk result (λ s. (s.now ≡ bytes.now) × IsUtf8 bytes.now) }
@@ -143,7 +212,7 @@ pub(crate) fn text_of(bytes: &[u8]) -> Result<&str, SyntaxFault>
     compat::from_utf8(bytes).map_err(|fault| SyntaxFault::NotUtf8(fault.valid_up_to() as u64))
 }
 
-/// The tokens of a text, behind its byte order mark if it has one; offsets count the mark.
+/// The tokens of a text, after its byte order mark if it has one; offsets count the mark.
 pub(crate) fn tokens_in(alloc: Global, text: &str) -> Result<Vec<Token>, SyntaxFault>
     ensures found { IfOk result (λ v. SpellsText text.now v.items) }
     ensures only { (tokens : List Token) →
@@ -152,22 +221,9 @@ pub(crate) fn tokens_in(alloc: Global, text: &str) -> Result<Vec<Token>, SyntaxF
     ensures fault { IfErr result IsTokenFault }
     ensures within { IfErr result (StandsWithin (length text.now)) }
 {
-    let bytes = text.as_bytes();
     let mut found = Vec::new(alloc);
-    let mut at = mark_len(bytes);
-    while at < bytes.len() {
-        match next_piece(at as u64, &bytes[at..])? {
-            Piece::Gap(len) => at += len,
-            Piece::Token(kind, len) => {
-                let token = Token {
-                    kind,
-                    at: at as u64,
-                    len: len as u64,
-                };
-                found.push(token).or(Err(SyntaxFault::Memory))?;
-                at += len;
-            }
-        }
+    for token in Tokens::of(text.as_bytes()) {
+        found.push(token?).or(Err(SyntaxFault::Memory))?;
     }
     Ok(found)
 }

@@ -1,10 +1,10 @@
-use Rattle.std.proofs.Common.{◌-◌, length}
+use Rattle.std.proofs.Common.{◌≡◌}
 use Rattle.fb_syntax.specs.Spells.{mark_len}
 use Rattle.fb_syntax.proofs.FrontPieces.{Scanned}
 use Rattle.fb_syntax.proofs.scan.tokens_in.Given as goal
 
-abbrev pub invariant-loop-at : goal.invariant-loop-at
-invariant-loop-at l = Scanned (mark_len l.bytes) l.bytes l.at l.found.items
-
-abbrev pub decreases-loop-at : goal.decreases-loop-at
-decreases-loop-at l = length l.bytes - l.at
+abbrev pub invariant-loop-token : goal.invariant-loop-token
+invariant-loop-token l = record {
+  text : l.token-iterator.text.now ≡ l.text;
+  scanned : Scanned (mark_len l.text) l.text l.token-iterator.at l.found.items;
+}
