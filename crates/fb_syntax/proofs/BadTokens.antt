@@ -14,7 +14,7 @@ use Rattle.fb_syntax.specs.declared.tokens.BadToken.{BadToken}
 use Rattle.fb_syntax.specs.declared.faults.SyntaxFault.{SyntaxFault}
 use Rattle.fb_syntax.proofs.Gaps.{gap_within}
 use Rattle.fb_syntax.specs.Refusals.{IsTokenFault, StandsWithin}
-use Rattle.fb_syntax.specs.declared.faults.SyntaxFault.TheVariants.{BadByte, Unterminated, NumberTooBig}
+use Rattle.fb_syntax.specs.declared.faults.SyntaxFault.TheVariants.{BadByte, NumberTooBig}
 use Rattle.fb_syntax.specs.declared.tokens.TokenKind.TheVariants.{Integer}
 use Rattle.fb_syntax.specs.TokenBytes.{starts}
 use Rattle.fb_syntax.proofs.FirstBytes.{unsigned_starts}

@@ -20,12 +20,13 @@ abbrev pub has_digit : List ℕ → Bool
 has_digit [] = false
 has_digit (c ∷ cs) = is_digit c
 
--- why no quoted text begins at `at`: these bytes are after its quote
+-- why a quote at `at`, with these bytes after it, begins no quoted text
 abbrev pub quoted_fault : ℕ → List ℕ → SyntaxFault
 quoted_fault at cs = if prefix_len is_quotable cs == length cs then Unterminated at else BadByte
     (at + prefix_len is_quotable cs + 1)
 
--- why the text at `at` is refused there: a quoted text, a comment without an end, an integer, or another byte
+-- Why the text that begins at `at` is refused: it begins with a quote, with a comment that has no end, with an integer,
+-- which is too great, or with another byte.
 abbrev pub fault_of : ℕ → List ℕ → SyntaxFault
 fault_of at [] = BadByte at
 fault_of at (c ∷ cs) = if c == 34 then quoted_fault at cs else

@@ -36,8 +36,8 @@ pub record IsPartFrom (at : ℕ) (text : List ℕ) (found : Result Token BadToke
   pub some : start_of found < end_of found
   pub within : end_of found ≤ length text
 
--- What `Tokens` returns next: nothing but blanks and comments is between it and all before it, and reading goes on at
--- its end.
+-- What `Tokens` returns next is what comes first from its offset on, and it goes on at the end of that. It returns None
+-- only at the text's end.
 pub record GivesToken (old : Tokens) (found : Option (Result Token BadToken)) (new : Tokens) : Type 0 where
   pub text : new.text.now ≡ old.text.now
   pub next : ComesNext old.at (drop old.at old.text.now) found

@@ -1,4 +1,4 @@
-use Rattle.std.proofs.Common.{◌+◌, ◌-◌, ◌≤◌, ◌<◌, ◌≡◌, length, take, drop, arith, refl, List, [], Option, None, Some, Result}
+use Rattle.std.proofs.Common.{◌-◌, ◌<◌, ◌≡◌, length, drop, arith, refl, [], Option, None, Some, Result}
 use Rattle.std.proofs.Common.{length-drop}
 use Rattle.std.specs.Iterator.{MakesProgress, at_most}
 use Rattle.std.proofs.lemmas.List.{take_rest, drop-drop}
