@@ -93,10 +93,8 @@ impl<'t> Statement<'t> {
 
 /// What is expected at an offset, where that is one sign.
 pub(crate) fn expected_at(text: &[u8], offset: usize) -> Option<&'static str> {
-    let mut tokens = Tokens::of(text);
     let mut statement = Statement::of(b"");
-    for _ in 0..text.len() {
-        let token = tokens.next_token()?;
+    for token in Tokens::of(text) {
         if token.at >= offset {
             return statement.expected();
         }

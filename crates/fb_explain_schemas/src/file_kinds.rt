@@ -33,7 +33,7 @@ pub fn kind_of_file(bytes: &[u8]) -> Option<FileKind> {
     if front.contains(&0) {
         return Some(FileKind::Buffer);
     }
-    let token = Tokens::of(bytes).next_token()?.bytes;
+    let token = Tokens::of(bytes).next()?.bytes;
     match token.first()? {
         b'{' | b'[' => Some(FileKind::Json),
         _ if is_one_of(FIRST_WORDS, token) => Some(FileKind::Schema),

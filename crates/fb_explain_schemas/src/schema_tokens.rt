@@ -1,76 +1,62 @@
-//! The tokens of a schema text, also of one that isn't right.
-use bstr::ByteSlice;
+//! The tokens of a schema text as people read them, also of one that isn't right.
 use fb_explain_pages::{WORD_BYTES, front_len};
 
-/// A token, and its offset in bytes.
+/// A token, or bytes that are none, and its offset in bytes.
 #[derive(Clone, Copy)]
 pub(crate) struct Token<'t> {
     pub(crate) bytes: &'t [u8],
     pub(crate) at: usize,
 }
 
-/// The tokens from an offset on.
-#[derive(Clone, Copy)]
-pub(crate) struct Tokens<'t> {
-    text: &'t [u8],
-    at: usize,
-}
+/// The tokens of a text. Letters that touch a number or a sign belong to it.
+#[derive(Clone, Copy, Drop)]
+pub(crate) struct Tokens<'t>(fb_syntax::Tokens<'t>);
 
 /// The bytes of words and of the dots between them.
 const NAME_BYTES: &[u8] = b".0123456789ABCDEFGHIJKLMNOPQRSTUVWXYZ_abcdefghijklmnopqrstuvwxyz";
 
-fn is_word_byte(byte: u8) -> bool {
-    byte.is_ascii_alphanumeric() || byte == b'_'
-}
-
 /// Whether a token is a word, and no number, text or sign.
 pub(crate) fn is_word(token: &[u8]) -> bool {
-    token
-        .first()
-        .is_some_and(|first| is_word_byte(*first) && !first.is_ascii_digit())
+    matches!(token, [b'a'..=b'z' | b'A'..=b'Z' | b'_', ..])
 }
 
 fn rest_from(text: &[u8], at: usize) -> &[u8] {
     text.get(at..).unwrap_or(&[])
 }
 
-/// How long a comment at the text's front is, or a blank; 0 where there is none.
-fn blank_len(text: &[u8]) -> usize {
-    match text {
-        [b' ' | b'\t' | b'\r' | b'\n', ..] => 1,
-        [b'/', b'/', ..] => text.find_byte(b'\n').unwrap_or(text.len()),
-        [b'/', b'*', rest @ ..] => match rest.find(b"*/") {
-            Some(end) => end.saturating_add(4),
-            None => text.len(),
-        },
-        [0xef, 0xbb, 0xbf, ..] => 3,
-        _ => 0,
+impl<'t> Tokens<'t> {
+    pub(crate) fn of(text: &'t [u8]) -> Tokens<'t> {
+        Tokens(fb_syntax::Tokens::of(text))
     }
 }
 
-/// How many bytes the token at the text's front has.
-fn token_len(text: &[u8]) -> usize {
-    match text {
-        [] => 0,
-        [b'"', rest @ ..] => match rest.find_byteset(b"\"\n") {
-            Some(end) => end.saturating_add(2),
-            None => text.len(),
-        },
-        [b'+' | b'-', rest @ ..] => front_len(rest, WORD_BYTES).saturating_add(1),
-        [first, ..] if is_word_byte(*first) => front_len(text, WORD_BYTES),
-        [first, rest @ ..] if *first >= 128 => rest
-            .iter()
-            .position(|byte| byte / 64 != 2)
-            .unwrap_or(rest.len())
-            .saturating_add(1),
-        _ => 1,
+impl<'t> Iterator for Tokens<'t> {
+    ghost use Rattle.std.specs.Prelude.{◌-◌, length};
+    ghost use Rattle.std.specs.Iterator.{at_most};
+
+    type Item = Token<'t>;
+
+    ghost remaining = { λ tokens. at_most (length tokens.0.text.now - tokens.0.at) };
+
+    fn next(&mut self) -> Option<Token<'t>> {
+        let found = self.0.next()?;
+        let at = found.map_or_else(|bad| bad.at, |token| token.at) as usize;
+        let text = self.0.text;
+        if let [b'0'..=b'9' | b'+' | b'-', ..] = rest_from(text, at) {
+            let letters = front_len(rest_from(text, self.0.at), WORD_BYTES);
+            self.0.at = self.0.at.saturating_add(letters);
+        }
+        let bytes = text.get(at..self.0.at).unwrap_or(&[]);
+        Some(Token { bytes, at })
     }
 }
 
-/// The token at an offset; empty at the text's end.
+/// The token at an offset, or the blank there; empty at the text's end.
 pub(crate) fn token_at(text: &[u8], at: usize) -> &[u8] {
-    let rest = rest_from(text, at);
-    rest.get(..token_len(rest)).unwrap_or(rest)
+    match Tokens(fb_syntax::Tokens { text, at }).next() {
+        Some(token) if token.at == at => token.bytes,
+        _ => rest_from(text, at).get(..1).unwrap_or(&[]),
+    }
 }
 
 /// The words at an offset with the dots between them; the token there where it is no word.
@@ -83,30 +69,45 @@ pub(crate) fn name_at(text: &[u8], at: usize) -> &[u8] {
     rest.get(..front_len(rest, NAME_BYTES)).unwrap_or(rest)
 }
 
-impl<'t> Tokens<'t> {
-    pub(crate) fn of(text: &'t [u8]) -> Tokens<'t> {
-        Tokens { text, at: 0 }
-    }
+#[cfg(test)]
+mod tests {
+    use super::*;
 
-    fn skip_blanks(&mut self) {
-        for _ in 0..self.text.len() {
-            let len = blank_len(rest_from(self.text, self.at));
-            if len == 0 {
-                break;
-            }
-            self.at = self.at.saturating_add(len);
+    /// Texts with an offset, and the token there.
+    const TOKENS: &[(&str, usize, &str)] = &[
+        ("first-name:string;", 5, "-name"),
+        ("n:int = 1e5;", 8, "1e5"),
+        ("n:int = 99999999999999999999f;", 8, "99999999999999999999f"),
+        ("n:int = -5;", 8, "-5"),
+        ("s:string = \"a\n\";", 13, "\n"),
+        ("s:string = \"a\\n\";", 13, "\\"),
+        ("größe:int;", 2, "ö"),
+        ("n:int?;", 5, "?"),
+        ("n:int; // a", 7, "/"),
+        ("n:int;", 6, ""),
+    ];
+
+    #[test]
+    fn finds_the_token_at_an_offset(rt: HostRuntime) {
+        for (text, at, want) in TOKENS {
+            assert_eq!(rt; token_at(text.as_bytes(), *at), want.as_bytes(), "{text}");
         }
     }
 
-    /// The next token.
-    pub(crate) fn next_token(&mut self) -> Option<Token<'t>> {
-        self.skip_blanks();
-        let at = self.at;
-        let bytes = token_at(self.text, at);
-        if bytes.is_empty() {
-            return None;
+    #[test]
+    fn goes_on_after_what_is_no_token(rt: HostRuntime) {
+        let text = "\u{feff}s:string = \"a // b\nn?:int = -é /* c */ 1f, 2. /* d";
+        let want = [
+            "s", ":", "string", "=", "\"a // b", "n", "?", ":", "int", "=", "-", "é", "1f", ",",
+            "2", ".", "/* d",
+        ];
+        let mut tokens = Tokens::of(text.as_bytes());
+        for token in want {
+            assert_eq!(rt;
+                tokens.next().map(|found| found.bytes),
+                Some(token.as_bytes())
+            );
         }
-        self.at = at.saturating_add(bytes.len());
-        Some(Token { bytes, at })
+        assert!(rt; tokens.next().is_none());
     }
 }

@@ -110,15 +110,10 @@ impl<'t> Before<'t> {
 
 /// The tokens before an offset.
 pub(crate) fn before_at(text: &[u8], offset: usize) -> Before<'_> {
-    let mut tokens = Tokens::of(text);
-    let mut before = Before::nothing();
-    for _ in 0..text.len() {
-        match tokens.next_token() {
-            Some(token) if token.at < offset => before = before.followed_by(token),
-            _ => break,
-        }
-    }
-    before
+    Tokens::of(text).take_while(|token| token.at < offset).fold(
+        Before::nothing(),
+        |before, token| before.followed_by(token),
+    )
 }
 
 /// What isn't supported at an offset.
@@ -149,17 +144,11 @@ pub(crate) fn push_others(page: &mut Page, source: &Source<'_>, offset: usize) {
     let Some(starts) = page.keep(indexed) else {
         return;
     };
-    let mut tokens = Tokens::of(source.bytes);
     let mut before = Before::nothing();
-    for _ in 0..source.bytes.len() {
-        match tokens.next_token() {
-            Some(token) => {
-                if token.at != offset {
-                    push_unsupported_token(page, source, &starts, token, before);
-                }
-                before = before.followed_by(token);
-            }
-            None => break,
+    for token in Tokens::of(source.bytes) {
+        if token.at != offset {
+            push_unsupported_token(page, source, &starts, token, before);
         }
+        before = before.followed_by(token);
     }
 }
