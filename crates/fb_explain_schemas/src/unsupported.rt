@@ -144,11 +144,17 @@ pub(crate) fn push_others(page: &mut Page, source: &Source<'_>, offset: usize) {
     let Some(starts) = page.keep(indexed) else {
         return;
     };
+    let mut tokens = Tokens::of(source.bytes);
     let mut before = Before::nothing();
-    for token in Tokens::of(source.bytes) {
-        if token.at != offset {
-            push_unsupported_token(page, source, &starts, token, before);
+    for _ in 0..source.bytes.len() {
+        match tokens.next() {
+            Some(token) => {
+                if token.at != offset {
+                    push_unsupported_token(page, source, &starts, token, before);
+                }
+                before = before.followed_by(token);
+            }
+            None => break,
         }
-        before = before.followed_by(token);
     }
 }
