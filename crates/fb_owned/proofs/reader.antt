@@ -1,2 +1,3 @@
 -- What the proofs of src/reader.rt use.
+pub mod FaultsAreNoMemory
 pub mod RootValueIsHeld

@@ -1,2 +1,2 @@
 -- What the proofs of src/values.rt use.
-pub mod OneValueMore
+pub mod FrontsGrow

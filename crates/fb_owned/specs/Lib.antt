@@ -4,6 +4,4 @@ pub mod Planned
 pub mod Ready
 pub mod NewNumbers
 pub mod ShownValues
-pub mod Inlines
-pub mod Before
 pub mod Memory

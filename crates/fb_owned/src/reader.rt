@@ -8,9 +8,9 @@ ghost use Rattle.fb_value.specs.Holds.{HoldsFramed, RootKeepsFramed, RefusesFram
 ghost use Rattle.fb_read.specs.Entered.{EntersRefused};
 ghost use Rattle.fb_owned.specs.Memory.{PartIsReached, PartIsReachedFramed};
 
-use crate::values::Values;
+use crate::values::value_of_view;
 use fb_layout::{Layout, layout_is_well_made};
-use fb_read::{Buffer, Entries, visit_root};
+use fb_read::{Entries, verify_framed};
 use fb_value::{Limits, ReadFault, Value};
 use std::alloc::Global;
 
@@ -79,6 +79,6 @@ pub fn read_framed<'a>(
         entries.old.count entries.new.count) }
 {
     layout_is_well_made(layout);
-    let buffer = Buffer::checked(layout, bytes, limits, raw, prefixed)?;
-    visit_root(&buffer, Values { alloc }, prefixed, entries)
+    let root = verify_framed(layout, bytes, limits, raw, prefixed, entries)?;
+    Ok(value_of_view(alloc, root)?)
 }

@@ -1,135 +1,74 @@
-//! A visitor that makes values.
-use crate::inlines::{read_inline, read_inlines};
-use fb_layout::Layout;
-use fb_read::{Buffer, PartAt, Step, Visited, Visitor};
-use fb_schema::{Kind, TypeId};
+//! Values of what is read in place.
+ghost use Rattle.std.specs.Prelude.{◌≡◌, IfOk, Option, option_map};
+ghost use Rattle.fb_layout.specs.Laid.{LaidSchema};
+ghost use Rattle.fb_value.specs.Datum.{Datum, Parts};
+ghost use Rattle.fb_value.specs.View.{view, parts_view};
+ghost use Rattle.fb_read.specs.Shows.{Shows, ShowsFields, ShowsItems};
+ghost use Rattle.fb_read.specs.Weights.{ShowsEntry};
+
+use fb_read::{Entry, FixedView, Items, View};
 use fb_value::Value;
 use std::alloc::{AllocError, Global};
 
-/// Makes the value of what a walk passes. Nobody hears of the way back from a refusal.
-#[derive(Clone, Copy, Drop)]
-pub struct Values {
-    pub alloc: Global,
+/// The value of a table that is read in place.
+#[cycle(values)]
+pub fn value_of_view(alloc: Global, table: View) -> Result<Value, AllocError>
+    ensures { IfOk result (λ v. (d : Datum) → Shows table.entry d → view v ≡ d) }
+{
+    let slots = table.layout().slots_of(table.type_id());
+    let mut entries = Vec::with_capacity(alloc, slots.len())?;
+    for slot in 0..slots.len() {
+        entries.push(value_of_entry(alloc, table.slot(slot as u16))?)?;
+    }
+    Ok(Value::Fields(table.type_id(), entries))
 }
 
-impl Visitor for Values {
-    ghost use Rattle.std.specs.Prelude.{◌≡◌};
-    ghost use Rattle.fb_value.specs.View.{view};
-    ghost use Rattle.fb_read.specs.Tails.{entries_from, parts_from};
-    ghost use Rattle.fb_owned.specs.Before.{entries_before, parts_before};
-
-    type Kept = Value;
-
-    type KeptEntries = Vec<Option<Value>>;
-
-    type KeptElements = Vec<Value>;
-
-    ghost keeps = { λ value d. view value ≡ d };
-
-    ghost has_entries = { λ entries k es. entries_before entries.items (entries_from k es) ≡ es };
-
-    ghost has_elements = { λ elements i ds. parts_before elements.items (parts_from i ds) ≡ ds };
-
-    ghost takes_memory = { Unit {0} };
-
-    ghost knows = { λ _ _. Unit {0} };
-
-    ghost told = { λ _ _ _. Unit {0} };
-
-    #[inline(always)]
-    fn come_to(
-        &mut self,
-        _buffer: &Buffer,
-        _target: PartAt,
-        _reference_at: usize,
-        _tables: u8,
-        _spent: u64,
-    ) -> Option<(Value, Visited)> {
-        None
+/// The value of an entry that is read in place, if there is one.
+#[cycle(values)]
+fn value_of_entry(alloc: Global, entry: Entry) -> Result<Option<Value>, AllocError>
+    ensures { IfOk result (λ found. (L : LaidSchema) (o : Option Datum) → ShowsEntry L entry.entry o
+        → option_map view found ≡ o) }
+{
+    match entry {
+        Entry::Absent => Ok(None),
+        Entry::Number(number) => Ok(Some(Value::Number(number))),
+        Entry::Text(text) => Ok(Some(Value::Text(String::from_str(alloc, text)?))),
+        Entry::Fixed(fixed) => Ok(Some(Value::Fixed(values_of_fields(alloc, fixed)?))),
+        Entry::Table(table) => Ok(Some(value_of_view(alloc, table)?)),
+        Entry::Member(code, table) => {
+            let member = value_of_view(alloc, table)?;
+            Ok(Some(Value::Member(code, Box::new(alloc, member)?)))
+        }
+        Entry::Unknown(code) => Ok(Some(Value::Other(code))),
+        Entry::Vector(items) => Ok(Some(Value::Items(values_of_items(alloc, items)?))),
     }
+}
 
-    #[inline(always)]
-    fn leave(&mut self, _buffer: &Buffer, _target: PartAt, _visited: Visited) {}
-
-    fn number(&self, number: i128) -> Value {
-        Value::Number(number)
+/// The values of the fields of a struct that is read in place.
+#[cycle(values)]
+fn values_of_fields(alloc: Global, fixed: FixedView) -> Result<Vec<Value>, AllocError>
+    ensures { IfOk result (λ values. (ds : Parts) → ShowsFields fixed.entry ds → parts_view values.items ≡ ds) }
+{
+    let fields = fixed.layout().parts_of(fixed.type_id());
+    let mut values = Vec::with_capacity(alloc, fields.len())?;
+    for field in 0..fields.len() {
+        if let Some(value) = value_of_entry(alloc, fixed.part(field as u16))? {
+            values.push(value)?;
+        }
     }
+    Ok(values)
+}
 
-    fn text(&self, text: &str) -> Result<Value, AllocError> {
-        Ok(Value::Text(String::from_str(self.alloc, text)?))
+/// The values of the elements of a vector that is read in place.
+#[cycle(values)]
+fn values_of_items(alloc: Global, items: Items) -> Result<Vec<Value>, AllocError>
+    ensures { IfOk result (λ values. (ds : Parts) → ShowsItems items.entry ds → parts_view values.items ≡ ds) }
+{
+    let mut values = Vec::with_capacity(alloc, items.count() as usize)?;
+    for i in 0..items.count() {
+        if let Some(value) = value_of_entry(alloc, items.item(i))? {
+            values.push(value)?;
+        }
     }
-
-    fn inline(
-        &self,
-        layout: &Layout,
-        bytes: &[u8],
-        kind: Kind,
-        at: usize,
-    ) -> Result<Option<Value>, AllocError> {
-        read_inline(self.alloc, layout, bytes, kind, at)
-    }
-
-    fn inlines(
-        &self,
-        layout: &Layout,
-        bytes: &[u8],
-        kind: Kind,
-        at: usize,
-        count: u32,
-    ) -> Result<Value, AllocError> {
-        Ok(Value::Items(read_inlines(self.alloc, layout, bytes, kind, at, count)?))
-    }
-
-    fn unknown(&self, code: u8) -> Value {
-        Value::Other(code)
-    }
-
-    fn member(&self, code: u8, table: Value) -> Result<Value, AllocError> {
-        Ok(Value::Member(code, Box::new(self.alloc, table)?))
-    }
-
-    #[inline(always)]
-    fn passes_by(&self) -> bool {
-        false
-    }
-
-    fn no_entries(&self, slots: usize) -> Result<Vec<Option<Value>>, AllocError> {
-        Vec::with_capacity(self.alloc, slots)
-    }
-
-    fn add_absent(&self, entries: &mut Vec<Option<Value>>) -> Result<(), AllocError> {
-        entries.push(None)?;
-        Ok(())
-    }
-
-    fn add_present(
-        &self,
-        entries: &mut Vec<Option<Value>>,
-        entry: Value,
-    ) -> Result<(), AllocError> {
-        entries.push(Some(entry))?;
-        Ok(())
-    }
-
-    fn table(&self, type_id: TypeId, entries: Vec<Option<Value>>) -> Value {
-        Value::Fields(type_id, entries)
-    }
-
-    fn no_elements(&self, count: u32) -> Result<Vec<Value>, AllocError> {
-        Vec::with_capacity(self.alloc, count as usize)
-    }
-
-    fn add_element(&self, elements: &mut Vec<Value>, element: Value) -> Result<(), AllocError> {
-        elements.push(element)?;
-        Ok(())
-    }
-
-    fn vector(&self, elements: Vec<Value>) -> Value {
-        Value::Items(elements)
-    }
-
-    #[inline(always)]
-    fn hear(&mut self, _step: Step) {}
-
-    ghost silent = { λ _. tt };
+    Ok(values)
 }

@@ -2,10 +2,8 @@
 pub mod CountsGoOn
 pub mod EndsAtAPlace
 pub mod EndsAtASlot
-pub mod EnteredPartsAreCounted
 pub mod FrontIsFreeOfFaults
 pub mod HearsTheWayBack
-pub mod KeepsWhatLies
 pub mod PartsAddUp
 pub mod StepLeadsToTheLeast
 pub mod VisitsOnePlaceAfterAnother

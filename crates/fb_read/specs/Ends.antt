@@ -2,7 +2,6 @@
 use Rattle.std.specs.Prelude.{ℕ, ◌+◌, ◌≡◌, ◌≤◌, List, ◌∷◌, map, take, Option, Some, Result, Ok, Err, MatchResult}
 use Rattle.fb_schema.specs.declared.types.FieldInfo.{FieldInfo}
 use Rattle.fb_value.specs.declared.faults.ReadFault.{ReadFault}
-use Rattle.fb_value.specs.Datum.{Datum}
 use Rattle.fb_value.specs.Faults.{sum_over}
 use Rattle.fb_value.specs.Nth.{slot_place}
 use Rattle.fb_value.specs.Places.{Place, named_slots}
@@ -11,9 +10,8 @@ use Rattle.fb_read.specs.declared.step.Step.{Step}
 use Rattle.fb_read.specs.declared.walk.Walk.{Walk}
 use Rattle.fb_read.specs.Entered.{parts_from, parts_of, parts_to}
 use Rattle.fb_read.specs.FaultPaths.{number_of, LeadsToLeast, ComesTo}
-use Rattle.fb_read.specs.Values.{MemoryLasts, KeepsAt}
 use Rattle.fb_read.specs.Visits.{slot_seen, slots_seen}
-use Rattle.fb_read.specs.Walks.{limits_of, visit_in, visit_each_in, visit_entry_in, EntersAt, EntersSlot}
+use Rattle.fb_read.specs.Walks.{limits_of, visit_in, visit_each_in, visit_entry_in}
 
 -- What is entered of a place and of what it leads to.
 abbrev pub parts_in : Buffer → Place → ℕ
@@ -25,9 +23,9 @@ parts_in_entry buffer o = parts_of buffer.layout.now buffer.bytes.now o
 abbrev pub parts_in_each : Buffer → List (Option Place) → ℕ
 parts_in_each buffer xs = sum_over (parts_from buffer.layout.now buffer.bytes.now) xs
 
--- A visitor was told the steps from a place to the least fault, and the counter has risen by the parts up to there.
-pub record ComesFrom {V : Type 0} (told : V → List Step → V → Type 0) (buffer : Buffer) (o : Option Place)
-    (tables spent : ℕ) (old new : V) (before after : ℕ) : Type 0 where
+-- A hearer was told the steps from a place to the least fault, and the counter has risen by the parts up to there.
+pub record ComesFrom {H : Type 0} (told : H → List Step → H → Type 0) (buffer : Buffer) (o : Option Place)
+    (tables spent : ℕ) (old new : H) (before after : ℕ) : Type 0 where
   pub steps : List Step
   pub fault : ReadFault
   pub heard : told old steps new
@@ -35,8 +33,8 @@ pub record ComesFrom {V : Type 0} (told : V → List Step → V → Type 0) (buf
   pub entered : after ≡ before + parts_to buffer.layout.now buffer.bytes.now o (map number_of steps)
 
 -- The same from some places, with the step to one of them before.
-pub record ComesAmong {V : Type 0} (told : V → List Step → V → Type 0) (step_to : ℕ → Step) (buffer : Buffer)
-    (xs : List (Option Place)) (tables spent : ℕ) (old new : V) (before after : ℕ) : Type 0 where
+pub record ComesAmong {H : Type 0} (told : H → List Step → H → Type 0) (step_to : ℕ → Step) (buffer : Buffer)
+    (xs : List (Option Place)) (tables spent : ℕ) (old new : H) (before after : ℕ) : Type 0 where
   pub index : ℕ
   pub there : Option Place
   pub spent_there : ℕ
@@ -48,44 +46,38 @@ pub record ComesAmong {V : Type 0} (told : V → List Step → V → Type 0) (st
   pub entered : after ≡ before + (parts_in_each buffer (take index xs)
       + parts_to buffer.layout.now buffer.bytes.now there (map number_of steps))
 
--- A visit that gives this found no fault: what it has spent and entered is counted, its visitor has heard of nothing,
--- and what is kept stands for what lies there.
-pub record Passes {V K : Type 0} (buffer : Buffer) (old new : Walk V) (given : Result ℕ ReadFault) (parts : ℕ)
-    (enters : ℕ → ℕ → Type 0) (keeps : K → Type 0) (found : K) : Type 0 where
+-- A visit that gives this found no fault: what it has spent and entered is counted, and its hearer has heard of nothing.
+pub record Passes {H : Type 0} (buffer : Buffer) (old new : Walk H) (given : Result ℕ ReadFault) (parts : ℕ)
+    : Type 0 where
   pub visit : given ≡ Ok new.spent
   pub few : new.spent ≤ buffer.most_cells
   pub ticks : new.ticks + old.spent ≤ old.ticks + new.spent
   pub exact : new.ticks ≡ old.ticks + parts
-  pub each : enters old.ticks new.ticks
-  pub silent : new.visitor ≡ old.visitor
-  pub kept : keeps found
+  pub silent : new.hearer ≡ old.hearer
 
--- It was refused: as far as memory lasts for the fault that it gives, and it has come to the least one. It has entered
--- one part more than it has spent cells at most.
-pub record IsRefused {V : Type 0} (takes_memory : Type 0) (buffer : Buffer) (old new : Walk V)
-    (given : Result ℕ ReadFault) (reached : Type 0) (f : ReadFault) : Type 0 where
-  pub visit : MemoryLasts takes_memory f → given ≡ Err f
+-- It was refused, and has come to the least fault. It has entered one part more than it has spent cells at most.
+pub record IsRefused {H : Type 0} (buffer : Buffer) (old new : Walk H) (given : Result ℕ ReadFault) (reached : Type 0)
+    (f : ReadFault) : Type 0 where
+  pub visit : given ≡ Err f
   pub ticks : new.ticks + old.spent ≤ old.ticks + (buffer.most_cells + 1)
-  pub comes : MemoryLasts takes_memory f → reached
+  pub comes : reached
 
-abbrev pub Ends : {V K : Type 0} → Type 0 → Buffer → Walk V → Walk V → Result ℕ ReadFault → Type 0 → ℕ
-    → (ℕ → ℕ → Type 0) → (K → Type 0) → Result K ReadFault → Type 0
-Ends takes_memory buffer old new given comes parts enters keeps result = MatchResult result
-    (λ kept. Passes buffer old new given parts enters keeps kept)
-    (λ f. IsRefused takes_memory buffer old new given comes f)
+abbrev pub Ends : {H T : Type 0} → Buffer → Walk H → Walk H → Result ℕ ReadFault → Type 0 → ℕ → Result T ReadFault
+    → Type 0
+Ends buffer old new given comes parts result = MatchResult result
+    (λ _. Passes buffer old new given parts) (λ f. IsRefused buffer old new given comes f)
 
 -- past a place, with so many tables above it
-abbrev pub PassesAt : {V K : Type 0} → (K → Datum → Type 0) → Buffer → Place → ℕ → Walk V → Walk V → K → Type 0
-PassesAt keeps buffer x tables old new kept = Passes buffer old new (visit_in buffer x tables old.spent)
-    (parts_in buffer x) (λ before after. EntersAt buffer x before after) (λ found. KeepsAt keeps buffer x found) kept
+abbrev pub PassesAt : {H : Type 0} → Buffer → Place → ℕ → Walk H → Walk H → Type 0
+PassesAt buffer x tables old new =
+    Passes buffer old new (visit_in buffer x tables old.spent) (parts_in buffer x)
 
 -- at a place, with so many tables above it
-abbrev pub EndsAt : {V K : Type 0} → Type 0 → (V → List Step → V → Type 0) → (K → Datum → Type 0) → Buffer → Place → ℕ
-    → Walk V → Walk V → Result K ReadFault → Type 0
-EndsAt takes_memory told keeps buffer x tables old new result =
-    Ends takes_memory buffer old new (visit_in buffer x tables old.spent)
-    (ComesFrom told buffer (Some x) tables old.spent old.visitor new.visitor old.ticks new.ticks) (parts_in buffer x)
-    (λ before after. EntersAt buffer x before after) (λ found. KeepsAt keeps buffer x found) result
+abbrev pub EndsAt : {H T : Type 0} → (H → List Step → H → Type 0) → Buffer → Place → ℕ → Walk H → Walk H
+    → Result T ReadFault → Type 0
+EndsAt told buffer x tables old new result = Ends buffer old new (visit_in buffer x tables old.spent)
+    (ComesFrom told buffer (Some x) tables old.spent old.hearer new.hearer old.ticks new.ticks) (parts_in buffer x)
+    result
 
 -- the place that a slot of the table at a position names, with the slots behind it
 abbrev pub slot_at : Buffer → ℕ → ℕ → List FieldInfo → FieldInfo → Option Place
@@ -97,17 +89,16 @@ abbrev pub slots_at : Buffer → ℕ → List FieldInfo → List (Option Place)
 slots_at buffer p slots = named_slots buffer.layout.now buffer.bytes.now p 0 (slots_seen buffer.layout.now slots)
 
 -- at a slot's place, if it names one
-abbrev pub EndsAtEntry : {V K : Type 0} → Type 0 → (V → List Step → V → Type 0) → (K → Type 0) → Buffer
-    → Option Place → ℕ → Walk V → Walk V → Result K ReadFault → Type 0
-EndsAtEntry takes_memory told keeps buffer x tables old new result =
-    Ends takes_memory buffer old new (visit_entry_in buffer x tables old.spent)
-    (ComesFrom told buffer x tables old.spent old.visitor new.visitor old.ticks new.ticks) (parts_in_entry buffer x)
-    (λ before after. EntersSlot buffer x before after) keeps result
+abbrev pub EndsAtEntry : {H T : Type 0} → (H → List Step → H → Type 0) → Buffer → Option Place → ℕ → Walk H → Walk H
+    → Result T ReadFault → Type 0
+EndsAtEntry told buffer x tables old new result = Ends buffer old new (visit_entry_in buffer x tables old.spent)
+    (ComesFrom told buffer x tables old.spent old.hearer new.hearer old.ticks new.ticks) (parts_in_entry buffer x)
+    result
 
 -- at several places, one after another
-abbrev pub EndsAtEach : {V K : Type 0} → Type 0 → (V → List Step → V → Type 0) → (ℕ → Step) → Buffer
-    → List (Option Place) → ℕ → (ℕ → ℕ → Type 0) → (K → Type 0) → Walk V → Walk V → Result K ReadFault → Type 0
-EndsAtEach takes_memory told step_to buffer xs tables enters keeps old new result =
-    Ends takes_memory buffer old new (visit_each_in buffer xs tables old.spent)
-    (ComesAmong told step_to buffer xs tables old.spent old.visitor new.visitor old.ticks new.ticks)
-    (parts_in_each buffer xs) enters keeps result
+abbrev pub EndsAtEach : {H T : Type 0} → (H → List Step → H → Type 0) → (ℕ → Step) → Buffer → List (Option Place) → ℕ
+    → Walk H → Walk H → Result T ReadFault → Type 0
+EndsAtEach told step_to buffer xs tables old new result =
+    Ends buffer old new (visit_each_in buffer xs tables old.spent)
+    (ComesAmong told step_to buffer xs tables old.spent old.hearer new.hearer old.ticks new.ticks)
+    (parts_in_each buffer xs) result

@@ -14,7 +14,6 @@ use Rattle.fb_value.specs.Holds.{front_of, front_fault, checked_identifier, root
 use Rattle.fb_read.specs.declared.step.Step.{Step}
 use Rattle.fb_read.specs.declared.step.Step.TheVariants.{Reference, Slot, Element}
 use Rattle.fb_read.specs.declared.buffer.Buffer.{Buffer}
-use Rattle.fb_read.specs.Values.{MemoryLasts}
 use Rattle.fb_read.specs.Walks.{limits_of, visit_each_in}
 
 -- which of the places that a place names a step leads to
@@ -65,16 +64,16 @@ pub record ComesTo (buffer : Buffer) (xs : List (Option Place)) (tables old new 
   pub names : slice_get xs k ≡ Some o
   pub before : visit_each_in buffer (take k xs) tables old ≡ Ok new
 
--- A visitor was told the steps from a place to the least fault.
-pub record HearsFrom {V : Type 0} (told : V → List Step → V → Type 0) (buffer : Buffer) (o : Option Place)
-    (tables spent : ℕ) (old new : V) : Type 0 where
+-- A hearer was told the steps from a place to the least fault.
+pub record HearsFrom {H : Type 0} (told : H → List Step → H → Type 0) (buffer : Buffer) (o : Option Place)
+    (tables spent : ℕ) (old new : H) : Type 0 where
   pub steps : List Step
   pub fault : ReadFault
   pub heard : told old steps new
   pub leads : LeadsToLeast buffer.layout.now buffer.bytes.now (limits_of buffer) o tables spent steps fault
 
--- A visitor hears nothing of what was visited, or of the steps to its least fault, as far as memory lasts.
-abbrev pub Hears : {V T : Type 0} → Type 0 → (V → List Step → V → Type 0) → Buffer → Option Place → ℕ → ℕ → V → V
+-- A hearer hears nothing of what was visited, or of the steps to its least fault.
+abbrev pub Hears : {H T : Type 0} → (H → List Step → H → Type 0) → Buffer → Option Place → ℕ → ℕ → H → H
     → Result T ReadFault → Type 0
-Hears takes_memory told buffer o tables spent old new result = MatchResult result (λ _. new ≡ old)
-    (λ f. MemoryLasts takes_memory f → HearsFrom told buffer o tables spent old new)
+Hears told buffer o tables spent old new result = MatchResult result (λ _. new ≡ old)
+    (λ f. HearsFrom told buffer o tables spent old new)

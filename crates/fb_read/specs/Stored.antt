@@ -1,17 +1,16 @@
 -- What is said of a slot's entry by what was found in the slot.
 -- From the FlatBuffers documentation, "FlatBuffer Internals": Tables. An absent scalar has its default.
-use Rattle.std.specs.Prelude.{ℕ, ◌+◌, ◌≡◌, ◌≤◌, true, List, [], ◌∷◌, length, Option, None, Some, ℤ}
+use Rattle.std.specs.Prelude.{ℕ, ◌+◌, ◌≡◌, ◌≤◌, true, List, length, Option, None, Some, ℤ}
 use Rattle.std.specs.Str.{is_utf8}
 use Rattle.fb_schema.specs.declared.kinds.TypeId.{TypeId}
 use Rattle.fb_schema.specs.declared.kinds.Kind.{Kind}
 use Rattle.fb_schema.specs.declared.kinds.Base.{Base}
-use Rattle.fb_layout.specs.Laid.{LaidSchema, Slot, scalar_kind, struct_kind, stored_kind}
-use Rattle.fb_value.specs.Datum.{Datum, a_number, an_unknown, SlotEntries, no_entries}
+use Rattle.fb_layout.specs.Laid.{LaidSchema, scalar_kind, struct_kind, stored_kind}
+use Rattle.fb_value.specs.Datum.{Datum, a_number, an_unknown}
 use Rattle.fb_value.specs.Num.{Bytes, num, part_of}
 use Rattle.fb_value.specs.Places.{Sort, table_part, member_part, text_part, vector_part, ref_place, inline_place}
 use Rattle.fb_value.specs.Places.{code_place, unknown_place, Place}
 use Rattle.fb_value.specs.Lies.{LiesAt}
-use Rattle.fb_read.specs.Tails.{entry_before}
 use Rattle.fb_read.specs.declared.stored.Stored.{Stored}
 use Rattle.fb_read.specs.declared.stored.Stored.TheVariants.{Absent, Code, Unknown, Number, Fixed, Text, Table, Member}
 use Rattle.fb_read.specs.declared.stored.Stored.TheVariants.{Vector}
@@ -51,11 +50,6 @@ HasAt L b sort p o = (d : Datum) × (o ≡ Some d) × LiesAt L b sort p d
 abbrev pub number_entry : Option ℤ → Option Datum
 number_entry None = None
 number_entry (Some n) = Some (a_number n)
-
--- the entries of slots that have nothing stored
-abbrev pub defaults_of : List Slot → SlotEntries
-defaults_of [] = no_entries
-defaults_of (f ∷ fs) = entry_before (number_entry f.if_absent) (defaults_of fs)
 
 -- the entry is what was found, or lies where it was found
 abbrev pub StoredAs : LaidSchema → Bytes → Stored → Option Datum → Type 0

@@ -1,6 +1,6 @@
 -- What is left of a table's entries and of a vector's elements.
-use Rattle.std.specs.Prelude.{ℕ, zero, suc, Option, None, Some}
-use Rattle.fb_value.specs.Datum.{Datum, Parts, no_parts, more_parts, SlotEntries}
+use Rattle.std.specs.Prelude.{ℕ, zero, suc}
+use Rattle.fb_value.specs.Datum.{Parts, no_parts, more_parts, SlotEntries}
 use Rattle.fb_value.specs.Datum.{no_entries, absent_entry, present_entry}
 
 -- the entries from slot k on
@@ -15,8 +15,3 @@ abbrev pub parts_from : ℕ → Parts → Parts
 parts_from zero ds = ds
 parts_from (suc i) no_parts = no_parts
 parts_from (suc i) (more_parts d ds) = parts_from i ds
-
--- an entry in front of others
-abbrev pub entry_before : Option Datum → SlotEntries → SlotEntries
-entry_before None es = absent_entry es
-entry_before (Some d) es = present_entry d es

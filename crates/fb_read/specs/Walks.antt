@@ -1,14 +1,13 @@
 -- What a walk over a buffer gives.
-use Rattle.std.specs.Prelude.{ℕ, ◌+◌, ◌^◌, ◌≡◌, ◌<◌, ◌≤◌, List, length, Option, None, Some, Result}
-use Rattle.fb_layout.specs.Laid.{LaidSchema, Slot, StoredKind}
+use Rattle.std.specs.Prelude.{ℕ, ◌+◌, ◌^◌, ◌≡◌, ◌<◌, ◌≤◌, List, length, Option, Result}
+use Rattle.fb_layout.specs.Laid.{LaidSchema}
 use Rattle.fb_value.specs.declared.faults.ReadFault.{ReadFault}
 use Rattle.fb_value.specs.Bounds.{Bounds}
-use Rattle.fb_value.specs.Datum.{Datum, Parts, SlotEntries, count}
-use Rattle.fb_value.specs.Counts.{entered, parts_entered, entries_entered}
+use Rattle.fb_value.specs.Datum.{Datum}
+use Rattle.fb_value.specs.Counts.{entered}
 use Rattle.fb_value.specs.Num.{Bytes, num}
 use Rattle.fb_value.specs.Places.{Sort, Place, vtable}
-use Rattle.fb_value.specs.Lies.{LiesAt, LiesItems, LiesSlots}
-use Rattle.fb_value.specs.Nth.{LiesInSlot}
+use Rattle.fb_value.specs.Lies.{LiesAt}
 use Rattle.fb_read.specs.declared.buffer.Buffer.{Buffer}
 use Rattle.fb_read.specs.declared.walk.Walk.{Walk}
 use Rattle.fb_read.specs.declared.walk.TableAt.{TableAt}
@@ -36,12 +35,12 @@ visit_each_in buffer xs tables spent = visit_each buffer.layout.now buffer.bytes
 abbrev pub visit_entry_in : Buffer → Option Place → ℕ → ℕ → Result ℕ ReadFault
 visit_entry_in buffer x tables spent = visit_entry buffer.layout.now buffer.bytes.now (limits_of buffer) x tables spent
 
--- A walk keeps to the limits, with so many tables above it, and what its visitor knows is of the buffer.
-pub record IsWithin {V : Type 0} (knows : V → Buffer → Type 0) (buffer : Buffer) (tables : ℕ) (walk : Walk V)
+-- A walk keeps to the limits, with so many tables above it, and what its hearer knows is of the buffer.
+pub record IsWithin {H : Type 0} (knows : H → Buffer → Type 0) (buffer : Buffer) (tables : ℕ) (walk : Walk H)
     : Type 0 where
   pub flat : tables ≤ buffer.most_depth
   pub few : walk.spent ≤ buffer.most_cells
-  pub known : knows walk.visitor buffer
+  pub known : knows walk.hearer buffer
 
 -- A table has a valid vtable.
 pub record HasVtable (b : Bytes) (table : TableAt) : Type 0 where
@@ -50,27 +49,7 @@ pub record HasVtable (b : Bytes) (table : TableAt) : Type 0 where
   pub within : table.vtable_at + 2 ≤ length b
   pub low : table.at < 2 ^ 32
 
--- the tables, vectors and texts of an entry
-abbrev pub entered_in : Option Datum → ℕ
-entered_in None = 0
-entered_in (Some d) = entered d
-
 -- The counter has risen by the tables, vectors and texts of what lies at a place.
 abbrev pub EntersAt : Buffer → Place → ℕ → ℕ → Type 0
 EntersAt buffer x old new = (d : Datum) → LiesAt buffer.layout.now buffer.bytes.now x.sort x.at d
     → new ≡ old + entered d
-
--- The same of what lies in a slot that names a place, or none.
-abbrev pub EntersSlot : Buffer → Option Place → ℕ → ℕ → Type 0
-EntersSlot buffer x old new = (f : Slot) (o : Option Datum) → LiesInSlot buffer.layout.now buffer.bytes.now f x o
-    → new ≡ old + entered_in o
-
--- The same of a table's entries.
-abbrev pub EntersSlots : Buffer → List Slot → List (Option Place) → ℕ → ℕ → Type 0
-EntersSlots buffer fs xs old new = (es : SlotEntries) → LiesSlots buffer.layout.now buffer.bytes.now fs xs es
-    → new ≡ old + entries_entered es
-
--- The same of n elements from a position on.
-abbrev pub EntersItems : Buffer → StoredKind → ℕ → ℕ → ℕ → ℕ → Type 0
-EntersItems buffer kind p n old new = (ds : Parts) → count ds ≡ n
-    → LiesItems buffer.layout.now buffer.bytes.now kind p ds → new ≡ old + parts_entered ds

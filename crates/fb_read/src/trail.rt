@@ -2,10 +2,10 @@
 ghost use Rattle.std.specs.Prelude.{◌≡◌, [], false, reverse, IfOk};
 
 use crate::buffer::Buffer;
+use crate::hearer::Hearer;
 use crate::part::PartAt;
 use crate::step::Step;
 use crate::visited::Visited;
-use crate::visitor::Hearer;
 use std::alloc::{AllocError, Global};
 
 /// The steps back from a fault, the last one first, as far as memory lasts.

@@ -1,43 +1,36 @@
 //! Visits of what names no table.
-ghost use Rattle.std.specs.Prelude.{◌≡◌, ℕ, ◌+◌, ◌*◌, ◌<◌, ◌≤◌, ◌^◌, length, List, IsTrue};
-ghost use Rattle.std.specs.Prelude.{Ok, OnOk, IfOk, IfErr, Option};
+ghost use Rattle.std.specs.Prelude.{◌≡◌, ℕ, ◌+◌, ◌*◌, ◌<◌, ◌≤◌, ◌^◌, List, IsTrue, Ok};
 ghost use Rattle.fb_layout.specs.Laid.{LaidSchema, Slot, stored_kind};
 ghost use Rattle.fb_value.specs.Num.{num};
 ghost use Rattle.fb_value.specs.Places.{is_present, text_part, ref_place, part_place, inline_place};
 ghost use Rattle.fb_value.specs.Places.{code_place, next_required};
 ghost use Rattle.fb_value.specs.Nth.{slot_place};
-ghost use Rattle.fb_value.specs.Datum.{Datum, SlotEntries};
-ghost use Rattle.fb_read.specs.Values.{Gives, KeepsInline, KeepsEntry};
-ghost use Rattle.fb_read.specs.Stored.{number_entry, defaults_of};
-ghost use Rattle.fb_read.specs.Tails.{entries_from, entry_before};
 ghost use Rattle.fb_read.specs.Visits.{Visits, slot_seen, slots_seen};
-ghost use Rattle.fb_read.specs.Walks.{place, visit_in, visit_entry_in, HasVtable, IsWithin, EntersSlot};
+ghost use Rattle.fb_read.specs.Walks.{place, visit_in, visit_entry_in, HasVtable, IsWithin};
 ghost use Rattle.fb_read.specs.Ends.{EndsAt, parts_in_entry};
 
 use crate::buffer::Buffer;
+use crate::hearer::Hearer;
 use crate::kinds::base_of;
 use crate::part::{Part, PartAt};
 use crate::places::{follow, held_slot};
 use crate::rules::{check_code, check_inline, check_number, is_next_stored, open_text};
-use crate::stored::{UnionCode, default_of};
-use crate::visitor::Visitor;
+use crate::stored::UnionCode;
 use crate::walk::{TableAt, Walk, leave, pass_over};
-use fb_layout::Layout;
 use fb_schema::{FieldInfo, Kind, Shape, TypeId};
 use fb_value::ReadFault;
-use std::alloc::AllocError;
 
 /// Visits the text at a position.
 #[inline(always)]
 #[tactic(auto, using(crate::proofs::visit_tables::VisitsOnePlaceAfterAnother::text_visits))]
-pub fn visit_text<V: Visitor>(
+pub fn visit_text<H: Hearer>(
     buffer: &Buffer,
-    walk: &mut Walk<V>,
+    walk: &mut Walk<H>,
     at: usize,
-) -> Result<V::Kept, ReadFault>
+) -> Result<(), ReadFault>
     requires low { at < 2 ^ 33 }
     requires few { walk.old.spent ≤ buffer.now.most_cells }
-    ensures { (tables : ℕ) → EndsAt V.takes_memory V.told V.keeps buffer.now (place (part_place text_part) at) tables
+    ensures { (tables : ℕ) → EndsAt H.told buffer.now (place (part_place text_part) at) tables
         walk.old walk.new result }
 {
     walk.ticks.tick();
@@ -48,20 +41,20 @@ pub fn visit_text<V: Visitor>(
         return Err(ReadFault::TooManyCells(at as u64));
     }
     walk.spent = after;
-    Ok(walk.visitor.text(text)?)
+    Ok(())
 }
 
 /// Visits the text behind a reference.
 #[inline(always)]
-pub fn visit_text_behind<V: Visitor>(
+pub fn visit_text_behind<H: Hearer>(
     buffer: &Buffer,
-    walk: &mut Walk<V>,
+    walk: &mut Walk<H>,
     at: usize,
     tables: u8,
-) -> Result<V::Kept, ReadFault>
+) -> Result<(), ReadFault>
     requires low { at < 2 ^ 33 }
-    requires limits { IsWithin V.knows buffer.now tables walk.old }
-    ensures { EndsAt V.takes_memory V.told V.keeps buffer.now (place (ref_place text_part) at) tables
+    requires limits { IsWithin H.knows buffer.now tables walk.old }
+    ensures { EndsAt H.told buffer.now (place (ref_place text_part) at) tables
         walk.old walk.new result }
 {
     let target = follow(buffer.bytes, at)?;
@@ -69,8 +62,8 @@ pub fn visit_text_behind<V: Visitor>(
         part: Part::Text,
         at: target,
     };
-    if let Some(kept) = pass_over(buffer, walk, part_at, at, tables) {
-        return Ok(kept);
+    if pass_over(buffer, walk, part_at, at, tables) {
+        return Ok(());
     }
     let mark = walk.mark();
     let visited = visit_text(buffer, walk, target);
@@ -80,31 +73,22 @@ pub fn visit_text_behind<V: Visitor>(
 
 /// Visits a number or struct.
 #[inline(always)]
-#[tactic(auto, using(crate::proofs::visit_tables::VisitsOnePlaceAfterAnother::inline_visits))]
-pub fn visit_inline<V: Visitor>(
-    buffer: &Buffer,
-    visitor: &V,
-    kind: Kind,
-    at: usize,
-) -> Result<Option<V::Kept>, ReadFault>
+pub fn visit_inline(buffer: &Buffer, kind: Kind, at: usize) -> Result<(), ReadFault>
     requires low { at < 2 ^ 33 }
-    ensures visit { (tables spent : ℕ) → Gives V.takes_memory result spent (visit_in buffer.now (place (inline_place
+    ensures { (tables spent : ℕ) → Visits result spent (visit_in buffer.now (place (inline_place
         (stored_kind buffer.now.layout.now.schema kind)) at) tables spent) }
-    ensures kept { IfOk result (KeepsInline V.keeps buffer.now.layout.now buffer.now.bytes.now
-        (stored_kind buffer.now.layout.now.schema kind) at) }
 {
+    let layout = buffer.layout;
     check_inline(
         buffer.bytes,
         at,
-        buffer.layout.size_of(kind),
-        buffer.layout.align_of(kind),
-    )?;
-    Ok(visitor.inline(buffer.layout, buffer.bytes, kind, at)?)
+        layout.size_of(kind),
+        layout.align_of(kind),
+    )
 }
 
 /// Visits the code of a union of this type, at a position, in a slot of a table.
 #[inline(always)]
-#[tactic(auto, using(crate::proofs::visit_tables::VisitsOnePlaceAfterAnother::code_visits))]
 pub fn visit_code(
     buffer: &Buffer,
     union: TypeId,
@@ -128,8 +112,7 @@ pub fn visit_code(
         required,
         present,
     };
-    check_code(buffer.bytes, at, code)?;
-    Ok(())
+    check_code(buffer.bytes, at, code)
 }
 
 /// Whether nothing is to visit at a slot: it is absent, or a number that keeps its rules. Most slots are
@@ -142,9 +125,6 @@ pub fn is_settled(buffer: &Buffer, field: &FieldInfo, table: TableAt, slot: usiz
     ensures visit { IsTrue result → (fs : List Slot) (tables spent : ℕ)
         → visit_entry_in buffer.now (slot_place buffer.now.layout.now buffer.now.bytes.now table.at slot fs
         (slot_seen buffer.now.layout.now field.now)) tables spent ≡ Ok spent }
-    ensures each { IsTrue result → (fs : List Slot) (n : ℕ)
-        → EntersSlot buffer.now (slot_place buffer.now.layout.now buffer.now.bytes.now table.at slot fs
-        (slot_seen buffer.now.layout.now field.now)) n n }
     ensures parts { IsTrue result → (fs : List Slot) → parts_in_entry buffer.now (slot_place buffer.now.layout.now
         buffer.now.bytes.now table.at slot fs (slot_seen buffer.now.layout.now field.now)) ≡ 0 }
 {
@@ -172,79 +152,4 @@ pub fn is_first_required(slots: &[FieldInfo]) -> bool
     slots
         .first()
         .is_some_and(|slot| slot.required && !slot.deprecated)
-}
-
-/// Whether a visitor passes by a slot: nothing is to visit there.
-#[inline(always)]
-pub fn is_passed_by<V: Visitor>(
-    buffer: &Buffer,
-    visitor: &V,
-    field: &FieldInfo,
-    table: TableAt,
-    slot: usize,
-) -> bool
-    requires vtable { HasVtable buffer.now.bytes.now table }
-    requires held { 6 + 2 * slot ≤ num buffer.now.bytes.now table.vtable_at 2 }
-    requires few { slot < 2 ^ 15 }
-    ensures visit { IsTrue result → (fs : List Slot) (tables spent : ℕ)
-        → visit_entry_in buffer.now (slot_place buffer.now.layout.now buffer.now.bytes.now table.at slot fs
-        (slot_seen buffer.now.layout.now field.now)) tables spent ≡ Ok spent }
-    ensures each { IsTrue result → (fs : List Slot) (n : ℕ)
-        → EntersSlot buffer.now (slot_place buffer.now.layout.now buffer.now.bytes.now table.at slot fs
-        (slot_seen buffer.now.layout.now field.now)) n n }
-    ensures parts { IsTrue result → (fs : List Slot) → parts_in_entry buffer.now (slot_place buffer.now.layout.now
-        buffer.now.bytes.now table.at slot fs (slot_seen buffer.now.layout.now field.now)) ≡ 0 }
-    ensures kept { IsTrue result → (entries : V.KeptEntries) (k : ℕ) (es : SlotEntries) → V.has_entries entries k es
-        → V.has_entries entries (k + 1) es }
-{
-    visitor.passes_by() && is_settled(buffer, field, table, slot)
-}
-
-/// Has a visitor keep what a slot has.
-#[inline(always)]
-pub fn add_entry<V: Visitor>(
-    visitor: &V,
-    entries: &mut V::KeptEntries,
-    kept: Option<V::Kept>,
-) -> Result<(), AllocError>
-    ensures kept { OnOk result ((k : ℕ) (es : SlotEntries) (o : Option Datum) → V.has_entries entries.old k es
-        → entries_from k es ≡ entry_before o (entries_from (k + 1) es) → KeepsEntry V.keeps kept o
-        → V.has_entries entries.new (k + 1) es) }
-    ensures memory { IfErr result (λ _. V.takes_memory) }
-{
-    match kept {
-        Some(value) => visitor.add_present(entries, value),
-        None => visitor.add_absent(entries),
-    }
-}
-
-/// What a visitor keeps of a slot that has nothing stored.
-#[inline(always)]
-pub fn default_kept<V: Visitor>(visitor: &V, layout: &Layout, field: &FieldInfo) -> Option<V::Kept>
-    ensures { KeepsEntry V.keeps result (number_entry (slot_seen layout.now field.now).if_absent) }
-{
-    let number = default_of(layout, field)?;
-    Some(visitor.number(number))
-}
-
-/// Has a visitor keep the entries of slots that have nothing stored.
-#[inline(always)]
-pub fn add_defaults<V: Visitor>(
-    visitor: &V,
-    entries: &mut V::KeptEntries,
-    layout: &Layout,
-    slots: &[FieldInfo],
-) -> Result<(), AllocError>
-    ensures kept { OnOk result ((k : ℕ) (es : SlotEntries) → V.has_entries entries.old k es
-        → entries_from k es ≡ defaults_of (slots_seen layout.now slots.now)
-        → V.has_entries entries.new (k + length slots.now) es) }
-    ensures memory { IfErr result (λ _. V.takes_memory) }
-{
-    if visitor.passes_by() {
-        return Ok(());
-    }
-    for field in slots {
-        add_entry(visitor, entries, default_kept(visitor, layout, field))?;
-    }
-    Ok(())
 }

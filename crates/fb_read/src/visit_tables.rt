@@ -2,28 +2,25 @@
 //!
 //! A call passes slices and results through memory, which costs more than most rules. So all that is
 //! done at a table is inlined into `visit_table`, but for what is seldom or has a loop of its own.
-ghost use Rattle.std.specs.Prelude.{◌≡◌, ◌+◌, ◌*◌, ◌<◌, ◌≤◌, ◌^◌, length, Some, None, Err};
-ghost use Rattle.fb_layout.specs.Laid.{StoredKind, Slot, stored_kind, member_by_code};
+ghost use Rattle.std.specs.Prelude.{◌+◌, ◌*◌, ◌<◌, ◌≤◌, ◌^◌, length};
+ghost use Rattle.fb_layout.specs.Laid.{stored_kind, member_by_code};
 ghost use Rattle.fb_value.specs.Num.{num};
-ghost use Rattle.fb_value.specs.Places.{table_part, vector_part, ref_place, part_place, named_elements, target_of};
-ghost use Rattle.fb_read.specs.Visits.{slot_seen, slots_seen, union_place};
-ghost use Rattle.fb_read.specs.Values.{led_to, KeepsInSlot, KeepsSlots, KeepsItems, IsOpen, IsOpenBehind};
+ghost use Rattle.fb_value.specs.Places.{table_part, vector_part, ref_place, part_place, named_elements};
+ghost use Rattle.fb_read.specs.Visits.{union_place};
+ghost use Rattle.fb_read.specs.Values.{led_to};
 ghost use Rattle.fb_read.specs.declared.step.Step.{Step};
-ghost use Rattle.fb_read.specs.Walks.{place, HasVtable, IsWithin, EntersSlots, EntersItems};
+ghost use Rattle.fb_read.specs.Walks.{place, HasVtable, IsWithin};
 ghost use Rattle.fb_read.specs.Ends.{EndsAt, EndsAtEntry, EndsAtEach, slot_at, slots_at};
 
 use crate::buffer::Buffer;
+use crate::hearer::Hearer;
 use crate::kinds::{align_in, reference_of, size_in};
 use crate::part::{Part, PartAt};
 use crate::places::{follow, held_slot, stored_slots};
 use crate::reference::Reference;
 use crate::rules::{enter_table, open_vector, union_code};
 use crate::step::Step;
-use crate::visit_leaves::{
-    add_defaults, add_entry, default_kept, is_passed_by, visit_code, visit_inline,
-    visit_text_behind,
-};
-use crate::visitor::Visitor;
+use crate::visit_leaves::{is_settled, visit_code, visit_inline, visit_text_behind};
 use crate::walk::{NumberedSlot, TableAt, Walk, leave, pass_over, tell};
 use fb_schema::{FieldInfo, Kind, Shape, TypeId};
 use fb_value::ReadFault;
@@ -31,26 +28,24 @@ use fb_value::ReadFault;
 /// Visits the table behind a reference.
 #[inline(always)]
 #[cycle(visit)]
-pub fn visit_table_behind<V: Visitor>(
+pub fn visit_table_behind<H: Hearer>(
     buffer: &Buffer,
-    walk: &mut Walk<V>,
+    walk: &mut Walk<H>,
     table: TypeId,
     at: usize,
     tables: u8,
-) -> Result<V::Kept, ReadFault>
+) -> Result<(), ReadFault>
     requires low { at < 2 ^ 33 }
-    requires limits { IsWithin V.knows buffer.now tables walk.old }
-    ensures visit { EndsAt V.takes_memory V.told V.keeps buffer.now (place (ref_place (table_part table.0)) at)
-        tables walk.old walk.new result }
-    ensures open { result ≡ Err ReadFault.Memory → IsOpenBehind buffer.now table.0 at tables walk.old.spent }
+    requires limits { IsWithin H.knows buffer.now tables walk.old }
+    ensures { EndsAt H.told buffer.now (place (ref_place (table_part table.0)) at) tables walk.old walk.new result }
 {
     let target = follow(buffer.bytes, at)?;
     let part_at = PartAt {
         part: Part::Table(table),
         at: target,
     };
-    if let Some(kept) = pass_over(buffer, walk, part_at, at, tables) {
-        return Ok(kept);
+    if pass_over(buffer, walk, part_at, at, tables) {
+        return Ok(());
     }
     let mark = walk.mark();
     let visited = visit_table(buffer, walk, table, target, tables);
@@ -59,18 +54,16 @@ pub fn visit_table_behind<V: Visitor>(
 }
 
 #[cycle(visit)]
-fn visit_table<V: Visitor>(
+fn visit_table<H: Hearer>(
     buffer: &Buffer,
-    walk: &mut Walk<V>,
+    walk: &mut Walk<H>,
     table: TypeId,
     at: usize,
     tables: u8,
-) -> Result<V::Kept, ReadFault>
+) -> Result<(), ReadFault>
     requires low { at < 2 ^ 33 }
-    requires limits { IsWithin V.knows buffer.now tables walk.old }
-    ensures visit { EndsAt V.takes_memory V.told V.keeps buffer.now (place (part_place (table_part table.0)) at)
-        tables walk.old walk.new result }
-    ensures open { result ≡ Err ReadFault.Memory → IsOpen buffer.now table.0 at tables walk.old.spent }
+    requires limits { IsWithin H.knows buffer.now tables walk.old }
+    ensures { EndsAt H.told buffer.now (place (part_place (table_part table.0)) at) tables walk.old walk.new result }
 {
     walk.ticks.tick();
     let vtable_at = enter_table(buffer.layout, table, buffer.bytes, at)?;
@@ -83,35 +76,30 @@ fn visit_table<V: Visitor>(
     walk.spent += 1;
     let slots = buffer.layout.slots_of(table);
     let table_at = TableAt { at, vtable_at };
-    let entries = visit_slots(buffer, walk, table, slots, table_at, tables + 1)?;
-    Ok(walk.visitor.table(table, entries))
+    visit_slots(buffer, walk, table, slots, table_at, tables + 1)
 }
 
 #[inline(always)]
 #[cycle(visit)]
-fn visit_slots<V: Visitor>(
+fn visit_slots<H: Hearer>(
     buffer: &Buffer,
-    walk: &mut Walk<V>,
+    walk: &mut Walk<H>,
     owner: TypeId,
     slots: &[FieldInfo],
     table: TableAt,
     tables: u8,
-) -> Result<V::KeptEntries, ReadFault>
+) -> Result<(), ReadFault>
     requires vtable { HasVtable buffer.now.bytes.now table }
     requires slots { length slots.now < 2 ^ 15 }
-    requires limits { IsWithin V.knows buffer.now tables walk.old }
-    ensures { EndsAtEach V.takes_memory V.told (λ k. Step.Slot owner k) buffer.now
-        (slots_at buffer.now table.at slots.now) tables
-        (λ before after. EntersSlots buffer.now (slots_seen buffer.now.layout.now slots.now)
-        (slots_at buffer.now table.at slots.now) before after)
-        (λ kept. KeepsSlots V.has_entries buffer.now (slots_seen buffer.now.layout.now slots.now)
-        (slots_at buffer.now table.at slots.now) (length slots.now) kept) walk.old walk.new result }
+    requires limits { IsWithin H.knows buffer.now tables walk.old }
+    ensures { EndsAtEach H.told (λ k. Step.Slot owner k) buffer.now (slots_at buffer.now table.at slots.now) tables
+        walk.old walk.new result }
 {
     let present = stored_slots(buffer.bytes, table.at, table.vtable_at, slots.len());
-    let mut entries = walk.visitor.no_entries(slots.len())?;
     for slot in 0..present {
         let field = &slots[slot];
-        if is_passed_by(buffer, &walk.visitor, field, table, slot) {
+        // Most slots are settled: no result is made for these.
+        if is_settled(buffer, field, table, slot) {
             continue;
         }
         let (_before, later) = slots.split_at(slot + 1);
@@ -122,63 +110,54 @@ fn visit_slots<V: Visitor>(
         };
         let visited = visit_slot(buffer, walk, numbered, table, tables);
         tell(walk, Step::Slot(owner, slot as u16), &visited);
-        add_entry(&walk.visitor, &mut entries, visited?)?;
+        visited?;
     }
-    let (_present, absent) = slots.split_at(present);
-    add_defaults(&walk.visitor, &mut entries, buffer.layout, absent)?;
-    Ok(entries)
+    Ok(())
 }
 
 // Visits what a slot names that the vtable reaches to.
 #[inline(always)]
 #[cycle(visit)]
-fn visit_slot<V: Visitor>(
+fn visit_slot<H: Hearer>(
     buffer: &Buffer,
-    walk: &mut Walk<V>,
+    walk: &mut Walk<H>,
     slot: NumberedSlot<'_>,
     table: TableAt,
     tables: u8,
-) -> Result<Option<V::Kept>, ReadFault>
+) -> Result<(), ReadFault>
     requires vtable { HasVtable buffer.now.bytes.now table }
     requires held { 6 + 2 * slot.number ≤ num buffer.now.bytes.now table.vtable_at 2 }
     requires slots { slot.number < 2 ^ 15 }
-    requires limits { IsWithin V.knows buffer.now tables walk.old }
-    ensures { EndsAtEntry V.takes_memory V.told
-        (λ kept. KeepsInSlot V.keeps buffer.now (slot_seen buffer.now.layout.now slot.entry.field.now)
-        (slot_at buffer.now table.at slot.entry.number slot.entry.later.now slot.entry.field.now) kept) buffer.now
+    requires limits { IsWithin H.knows buffer.now tables walk.old }
+    ensures { EndsAtEntry H.told buffer.now
         (slot_at buffer.now table.at slot.entry.number slot.entry.later.now slot.entry.field.now) tables
         walk.old walk.new result }
 {
     if slot.field.deprecated {
-        return Ok(None);
+        return Ok(());
     }
     let offset = held_slot(buffer.bytes, table.at, table.vtable_at, slot.number);
     if offset == 0 {
-        return Ok(default_kept(&walk.visitor, buffer.layout, slot.field));
+        return Ok(());
     }
     let found = table.at + offset;
     match slot.field.shape {
-        Shape::Many(kind) => Ok(Some(visit_vector_behind(buffer, walk, kind, found, tables)?)),
-        Shape::One(Kind::Text) => Ok(Some(visit_text_behind(buffer, walk, found, tables)?)),
-        Shape::One(Kind::Table(type_id)) => Ok(Some(visit_table_behind(
-            buffer, walk, type_id, found, tables,
-        )?)),
+        Shape::Many(kind) => visit_vector_behind(buffer, walk, kind, found, tables),
+        Shape::One(Kind::Text) => visit_text_behind(buffer, walk, found, tables),
+        Shape::One(Kind::Table(type_id)) => {
+            visit_table_behind(buffer, walk, type_id, found, tables)
+        }
         Shape::One(Kind::Union(union)) => {
             let code = union_code(buffer.bytes, table.at, table.vtable_at, slot.number);
             visit_union(buffer, walk, union, code, found, tables)
         }
         Shape::One(Kind::Code(union)) => {
-            visit_code(buffer, union, slot.later, table, slot.number, found)?;
-            Ok(None)
+            visit_code(buffer, union, slot.later, table, slot.number, found)
         }
-        Shape::One(Kind::Scalar(base)) => {
-            visit_inline(buffer, &walk.visitor, Kind::Scalar(base), found)
-        }
-        Shape::One(Kind::Enum(values)) => {
-            visit_inline(buffer, &walk.visitor, Kind::Enum(values), found)
-        }
+        Shape::One(Kind::Scalar(base)) => visit_inline(buffer, Kind::Scalar(base), found),
+        Shape::One(Kind::Enum(values)) => visit_inline(buffer, Kind::Enum(values), found),
         Shape::One(Kind::Struct(structure)) => {
-            visit_inline(buffer, &walk.visitor, Kind::Struct(structure), found)
+            visit_inline(buffer, Kind::Struct(structure), found)
         }
     }
 }
@@ -186,43 +165,37 @@ fn visit_slot<V: Visitor>(
 // Visits a union's value under a code.
 #[inline(always)]
 #[cycle(visit)]
-fn visit_union<V: Visitor>(
+fn visit_union<H: Hearer>(
     buffer: &Buffer,
-    walk: &mut Walk<V>,
+    walk: &mut Walk<H>,
     union: TypeId,
     code: u8,
     at: usize,
     tables: u8,
-) -> Result<Option<V::Kept>, ReadFault>
+) -> Result<(), ReadFault>
     requires low { at < 2 ^ 33 }
-    requires limits { IsWithin V.knows buffer.now tables walk.old }
-    ensures { EndsAtEntry V.takes_memory V.told
-        (λ kept. (f : Slot) → f.if_absent ≡ None → KeepsInSlot V.keeps buffer.now f
-        (union_place code at (member_by_code buffer.now.layout.now union.0 code)) kept) buffer.now
+    requires limits { IsWithin H.knows buffer.now tables walk.old }
+    ensures { EndsAtEntry H.told buffer.now
         (union_place code at (member_by_code buffer.now.layout.now union.0 code)) tables walk.old walk.new result }
 {
     match buffer.layout.schema().member_by_code(union, code) {
-        Some(table) => {
-            let behind = visit_table_behind(buffer, walk, table, at, tables)?;
-            Ok(Some(walk.visitor.member(code, behind)?))
-        }
-        None if code == 0 => Ok(None),
-        None => Ok(Some(walk.visitor.unknown(code))),
+        Some(table) => visit_table_behind(buffer, walk, table, at, tables),
+        None => Ok(()),
     }
 }
 
 #[inline(always)]
 #[cycle(visit)]
-pub fn visit_vector_behind<V: Visitor>(
+pub fn visit_vector_behind<H: Hearer>(
     buffer: &Buffer,
-    walk: &mut Walk<V>,
+    walk: &mut Walk<H>,
     kind: Kind,
     at: usize,
     tables: u8,
-) -> Result<V::Kept, ReadFault>
+) -> Result<(), ReadFault>
     requires low { at < 2 ^ 33 }
-    requires limits { IsWithin V.knows buffer.now tables walk.old }
-    ensures { EndsAt V.takes_memory V.told V.keeps buffer.now (place (ref_place (vector_part
+    requires limits { IsWithin H.knows buffer.now tables walk.old }
+    ensures { EndsAt H.told buffer.now (place (ref_place (vector_part
         (stored_kind buffer.now.layout.now.schema kind))) at)
         tables walk.old walk.new result }
 {
@@ -231,8 +204,8 @@ pub fn visit_vector_behind<V: Visitor>(
         part: Part::Vector(kind),
         at: target,
     };
-    if let Some(kept) = pass_over(buffer, walk, part_at, at, tables) {
-        return Ok(kept);
+    if pass_over(buffer, walk, part_at, at, tables) {
+        return Ok(());
     }
     let mark = walk.mark();
     let visited = visit_vector(buffer, walk, kind, target, tables);
@@ -242,16 +215,16 @@ pub fn visit_vector_behind<V: Visitor>(
 
 #[inline(always)]
 #[cycle(visit)]
-fn visit_vector<V: Visitor>(
+fn visit_vector<H: Hearer>(
     buffer: &Buffer,
-    walk: &mut Walk<V>,
+    walk: &mut Walk<H>,
     kind: Kind,
     at: usize,
     tables: u8,
-) -> Result<V::Kept, ReadFault>
+) -> Result<(), ReadFault>
     requires low { at < 2 ^ 33 }
-    requires limits { IsWithin V.knows buffer.now tables walk.old }
-    ensures { EndsAt V.takes_memory V.told V.keeps buffer.now (place (part_place (vector_part
+    requires limits { IsWithin H.knows buffer.now tables walk.old }
+    ensures { EndsAt H.told buffer.now (place (part_place (vector_part
         (stored_kind buffer.now.layout.now.schema kind))) at)
         tables walk.old walk.new result }
 {
@@ -267,58 +240,46 @@ fn visit_vector<V: Visitor>(
     let first = at + 4;
     match reference_of(kind) {
         Some(reference) => visit_elements(buffer, walk, reference, first, count, tables),
-        None => {
-            let bytes = buffer.bytes;
-            Ok(
-                walk.visitor
-                    .inlines(buffer.layout, bytes, kind, first, count)?,
-            )
-        }
+        None => Ok(()),
     }
 }
 
 // Visits what the references from a position on lead to.
 #[inline(never)]
 #[cycle(visit)]
-fn visit_elements<V: Visitor>(
+fn visit_elements<H: Hearer>(
     buffer: &Buffer,
-    walk: &mut Walk<V>,
+    walk: &mut Walk<H>,
     reference: Reference,
     at: usize,
     count: u32,
     tables: u8,
-) -> Result<V::Kept, ReadFault>
+) -> Result<(), ReadFault>
     requires within { at + count * 4 ≤ length buffer.now.bytes.now }
-    requires limits { IsWithin V.knows buffer.now tables walk.old }
-    ensures { EndsAtEach V.takes_memory V.told (λ i. Step.Element i) buffer.now
-        (named_elements (led_to reference) at count) tables
-        (λ before after. (kind : StoredKind) → target_of kind ≡ Some (led_to reference)
-        → EntersItems buffer.now kind at count before after)
-        (λ kept. (kind : StoredKind) → target_of kind ≡ Some (led_to reference)
-        → KeepsItems V.keeps buffer.now.layout.now buffer.now.bytes.now kind at count kept)
+    requires limits { IsWithin H.knows buffer.now tables walk.old }
+    ensures { EndsAtEach H.told (λ i. Step.Element i) buffer.now (named_elements (led_to reference) at count) tables
         walk.old walk.new result }
 {
-    let mut elements = walk.visitor.no_elements(count)?;
     for i in 0..count {
         let visited = visit_behind(buffer, walk, reference, at + 4 * i as usize, tables);
         tell(walk, Step::Element(i), &visited);
-        walk.visitor.add_element(&mut elements, visited?)?;
+        visited?;
     }
-    Ok(walk.visitor.vector(elements))
+    Ok(())
 }
 
 #[inline(always)]
 #[cycle(visit)]
-fn visit_behind<V: Visitor>(
+fn visit_behind<H: Hearer>(
     buffer: &Buffer,
-    walk: &mut Walk<V>,
+    walk: &mut Walk<H>,
     reference: Reference,
     at: usize,
     tables: u8,
-) -> Result<V::Kept, ReadFault>
+) -> Result<(), ReadFault>
     requires low { at < 2 ^ 33 }
-    requires limits { IsWithin V.knows buffer.now tables walk.old }
-    ensures { EndsAt V.takes_memory V.told V.keeps buffer.now (place (ref_place (led_to reference)) at)
+    requires limits { IsWithin H.knows buffer.now tables walk.old }
+    ensures { EndsAt H.told buffer.now (place (ref_place (led_to reference)) at)
         tables walk.old walk.new result }
 {
     match reference {

@@ -1,36 +1,36 @@
 //! What a walk carries along.
-ghost use Rattle.std.specs.Prelude.{◌≡◌, ◌<◌, ◌^◌, List, ◌∷◌, None, IfSome, OnOk, MatchResult};
+ghost use Rattle.std.specs.Prelude.{◌≡◌, ◌<◌, ◌^◌, List, ◌∷◌, false, IsTrue, OnOk, MatchResult};
 ghost use Rattle.fb_read.specs.declared.step.Step.{Step};
 ghost use Rattle.fb_read.specs.Visited.{part_at, HasVisited};
 ghost use Rattle.fb_read.specs.Ends.{PassesAt};
 
 use crate::buffer::Buffer;
+use crate::hearer::Hearer;
 use crate::part::PartAt;
 use crate::reader::ticks::{Counted, Ticks};
 use crate::step::Step;
 use crate::visited::Visited;
-use crate::visitor::Visitor;
 use fb_schema::FieldInfo;
 use fb_value::ReadFault;
 
-/// What rises along a walk, the cells spent so far and the parts entered, and its visitor.
-pub struct Walk<V> {
+/// What rises along a walk, the cells spent so far and the parts entered, and its hearer.
+pub struct Walk<H> {
     pub spent: u64,
     pub ticks: Ticks,
-    pub visitor: V,
+    pub hearer: H,
 }
 
-/// Tells a walk's visitor the step to what was visited, where that was refused.
+/// Tells a walk's hearer the step to what was visited, where that was refused.
 #[inline(always)]
-pub fn tell<V: Visitor, T>(walk: &mut Walk<V>, step: Step, visited: &Result<T, ReadFault>)
+pub fn tell<H: Hearer>(walk: &mut Walk<H>, step: Step, visited: &Result<(), ReadFault>)
     ensures spent { walk.new.spent ≡ walk.old.spent }
     ensures ticks { walk.new.ticks ≡ walk.old.ticks }
-    ensures told { MatchResult visited.now (λ _. walk.new.visitor ≡ walk.old.visitor)
-        (λ _. (first : V) (steps : List Step) → V.told first steps walk.old.visitor
-        → V.told first (step ∷ steps) walk.new.visitor) }
+    ensures told { MatchResult visited.now (λ _. walk.new.hearer ≡ walk.old.hearer)
+        (λ _. (first : H) (steps : List Step) → H.told first steps walk.old.hearer
+        → H.told first (step ∷ steps) walk.new.hearer) }
 {
     if visited.is_err() {
-        walk.visitor.hear(step);
+        walk.hearer.hear(step);
     }
 }
 
@@ -41,7 +41,7 @@ pub struct Mark {
     pub parts: Counted,
 }
 
-impl<V> Walk<V> {
+impl<H> Walk<H> {
     /// What it has spent and entered so far.
     #[inline(always)]
     pub fn mark(&self) -> Mark
@@ -55,47 +55,50 @@ impl<V> Walk<V> {
     }
 }
 
-/// Comes to the target of the reference at a position, and passes over it where the visitor knows what its visit takes.
+/// Comes to the target of the reference at a position, and passes over it where the hearer knows what its visit takes.
+/// Returns whether it did.
 #[inline(always)]
-pub fn pass_over<V: Visitor>(
+pub fn pass_over<H: Hearer>(
     buffer: &Buffer,
-    walk: &mut Walk<V>,
+    walk: &mut Walk<H>,
     target: PartAt,
     reference_at: usize,
     tables: u8,
-) -> Option<V::Kept>
-    requires knows { V.knows walk.old.visitor buffer.now }
+) -> bool
+    requires knows { H.knows walk.old.hearer buffer.now }
     requires low { target.at < 2 ^ 33 }
-    ensures before { result ≡ None → walk.new ≡ walk.old }
-    ensures known { IfSome result (λ kept. PassesAt V.keeps buffer.now (part_at buffer.now target.part target.at) tables
-        walk.old walk.new kept) }
+    ensures before { result ≡ false → walk.new ≡ walk.old }
+    ensures known { IsTrue result → PassesAt buffer.now (part_at buffer.now target.part target.at) tables
+        walk.old walk.new }
 {
     let known = walk
-        .visitor
+        .hearer
         .come_to(buffer, target, reference_at, tables, walk.spent);
-    let (kept, visited) = known?;
+    let Some(visited) = known else {
+        return false;
+    };
     walk.spent += visited.cells;
     walk.ticks.count_again(&visited.parts);
-    Some(kept)
+    true
 }
 
-/// Leaves a part: tells the visitor what its visit has taken, or the way back from its fault.
+/// Leaves a part: tells the hearer what its visit has taken, or the way back from its fault.
 #[inline(always)]
-pub fn leave<V: Visitor, T>(
+pub fn leave<H: Hearer>(
     buffer: &Buffer,
-    walk: &mut Walk<V>,
+    walk: &mut Walk<H>,
     target: PartAt,
     tables: u8,
     mark: Mark,
-    visited: &Result<T, ReadFault>,
+    visited: &Result<(), ReadFault>,
 )
-    requires { OnOk visited.now (HasVisited V.knows buffer.now (part_at buffer.now target.part target.at) tables mark
+    requires { OnOk visited.now (HasVisited H.knows buffer.now (part_at buffer.now target.part target.at) tables mark
         walk.old) }
     ensures spent { walk.new.spent ≡ walk.old.spent }
     ensures ticks { walk.new.ticks ≡ walk.old.ticks }
-    ensures told { MatchResult visited.now (λ _. walk.new.visitor ≡ walk.old.visitor)
-        (λ _. (first : V) (steps : List Step) → V.told first steps walk.old.visitor
-        → V.told first (Step.Reference ∷ steps) walk.new.visitor) }
+    ensures told { MatchResult visited.now (λ _. walk.new.hearer ≡ walk.old.hearer)
+        (λ _. (first : H) (steps : List Step) → H.told first steps walk.old.hearer
+        → H.told first (Step.Reference ∷ steps) walk.new.hearer) }
 {
     match visited {
         Ok(_) => {
@@ -104,9 +107,9 @@ pub fn leave<V: Visitor, T>(
                 cells: walk.spent - mark.spent,
                 parts: walk.ticks.counted_since(&mark.parts),
             };
-            walk.visitor.leave(buffer, target, taken);
+            walk.hearer.leave(buffer, target, taken);
         }
-        Err(_) => walk.visitor.hear(Step::Reference),
+        Err(_) => walk.hearer.hear(Step::Reference),
     }
 }
 

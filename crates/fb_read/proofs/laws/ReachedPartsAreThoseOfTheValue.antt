@@ -1,22 +1,44 @@
 -- The parts of a value are those that are reached from where it lies.
 use Rattle.std.proofs.Common.{◌≡◌, ℕ, suc, ◌+◌, List, [], ◌∷◌, Option, None, Some, refl, sym, ◌∙◌, arith}
-use Rattle.fb_value.specs.Datum.{Datum, a_text, a_vector, a_table, a_member, Parts, no_parts}
+use Rattle.fb_value.specs.Datum.{Datum, a_number, a_text, a_vector, a_struct, a_table, a_member, Parts, no_parts}
 use Rattle.fb_value.specs.Datum.{more_parts, SlotEntries, no_entries, absent_entry, present_entry, count}
 use Rattle.fb_value.specs.Counts.{entered, parts_entered, entries_entered}
 use Rattle.fb_value.specs.Num.{Bytes, num}
-use Rattle.fb_layout.specs.Laid.{LaidSchema, Slot, StoredKind, table_kind, text_kind}
-use Rattle.fb_layout.specs.Laid.{slots_of, size_of}
+use Rattle.fb_layout.specs.Laid.{LaidSchema, Slot, StoredKind, scalar_kind, struct_kind, table_kind, text_kind}
+use Rattle.fb_layout.specs.Laid.{parts_of, slots_of, struct_at, size_of}
 use Rattle.fb_value.specs.Places.{Target, table_part, member_part, text_part, vector_part, Sort, ref_place, part_place}
 use Rattle.fb_value.specs.Places.{inline_place, code_place, unknown_place, Place, named, named_slots, named_elements}
 use Rattle.fb_value.specs.Places.{target_of}
 use Rattle.fb_value.specs.Rules.{Keeps}
 use Rattle.fb_value.specs.Lies.{EntryAt, Behind, IsCode, AbsentEntry, PresentEntry, Element}
-use Rattle.fb_value.specs.Lies.{Lies, LiesItems, LiesSlots, LiesAt}
+use Rattle.fb_value.specs.Lies.{LiesInline, LiesParts, Lies, LiesItems, LiesSlots, LiesAt}
 use Rattle.fb_value.specs.Faults.{sum_over}
 use Rattle.fb_value.proofs.reached.CellsAreThoseReached.{unknown_keeps}
 use Rattle.fb_read.specs.Entered.{own_parts, parts_from, PartsOfValue}
-use Rattle.fb_read.proofs.visit_tables.EnteredPartsAreCounted.{inline_entered, target_size}
 use Rattle.fb_read.proofs.visit_tables.PartsAddUp.{parts_kept, member_part_parts}
+
+mutual
+  -- Numbers and structs have none.
+  inline_entered : (L : LaidSchema) (b : Bytes) (kind : StoredKind) (p : ℕ) (d : Datum) → LiesInline L b kind p d
+      → entered d ≡ 0
+  inline_entered L b (scalar_kind base) p (a_number n) lies = refl
+  inline_entered L b (struct_kind s) p (a_struct ds) lies =
+      fields_entered L b (parts_of L s) (struct_at L s).offsets p ds lies
+  inline_entered L b _ p _ lies = absurd lies
+
+  fields_entered : (L : LaidSchema) (b : Bytes) (ks : List StoredKind) (os : List ℕ) (p : ℕ) (ds : Parts)
+      → LiesParts L b ks os p ds → parts_entered ds ≡ 0
+  fields_entered L b [] os p no_parts lies = refl
+  fields_entered L b (k ∷ ks) (o ∷ os) p (more_parts d ds) lies =
+      omega (arith, inline_entered L b k (p + o) d lies.0, fields_entered L b ks os p ds lies.1)
+  fields_entered L b _ _ p _ lies = absurd lies
+
+-- references take four bytes
+target_size : (L : LaidSchema) (kind : StoredKind) (X : Target) → target_of kind ≡ Some X → size_of L kind ≡ 4
+target_size L text_kind X e = refl
+target_size L (table_kind t) X e = refl
+target_size L (scalar_kind base) X e = cc
+target_size L _ X e = cc
 
 kept_at : (L : LaidSchema) (b : Bytes) (s : Sort) (p : ℕ) → Keeps L b s p
     → parts_from L b (record { sort = s; at = p }) ≡ own_parts s + sum_over (parts_from L b) (named L b s p)

@@ -1,6 +1,6 @@
 -- A visit from the root decides whether the buffer holds a value.
 use Rattle.std.proofs.Common.{◌≡◌, ℕ, ◌+◌, ◌<◌, ◌⊎◌, inl, inr, List, [], ◌∷◌, Option, None, Some, Result, Ok, Err}
-use Rattle.std.proofs.Common.{OnOk, IfErr, map, refl, sym, ap, arith}
+use Rattle.std.proofs.Common.{OnOk, IfErr, map, refl, sym, arith}
 use Rattle.std.proofs.lemmas.Bool.{cases_order}
 use Rattle.fb_layout.specs.Laid.{LaidSchema}
 use Rattle.fb_layout.specs.WellMade.{IsWellMade}
@@ -17,13 +17,13 @@ use Rattle.fb_value.specs.Holds.{HoldsBehind, NoFaultBehind, RefusesBehind, root
 use Rattle.fb_value.proofs.held.BytesHoldAValueOrAFault.{outcome_shown}
 use Rattle.fb_read.specs.declared.buffer.Buffer.{Buffer}
 use Rattle.fb_read.specs.declared.step.Step.{Step}
-use Rattle.fb_read.specs.declared.verdict.Verdict.{Verdict}
 use Rattle.fb_read.specs.Entered.{parts_along, EntersToFault}
-use Rattle.fb_read.specs.Ends.{ComesFrom}
-use Rattle.fb_read.specs.FaultPaths.{Hears, HearsFrom, LeastAt, LeadsToLeast, number_of}
-use Rattle.fb_read.specs.Values.{Gives, Finds, FindsWhile, MemoryLasts}
-use Rattle.fb_read.specs.Visits.{outcome, visit}
+use Rattle.fb_read.specs.Ends.{ComesFrom, parts_in}
+use Rattle.fb_read.specs.FaultPaths.{HearsFrom, LeastAt, LeadsToLeast, number_of}
+use Rattle.fb_read.specs.Values.{Finds}
+use Rattle.fb_read.specs.Visits.{Visits, outcome, visit}
 use Rattle.fb_read.specs.Walks.{IsBufferOf, limits_of, visit_in, EntersAt}
+use Rattle.fb_read.proofs.laws.ReachedPartsAreThoseOfTheValue.{parts_of_value_shown}
 
 pub err_told : (o : Option ReadFault) (n : ℕ) (f : ReadFault) → outcome o n ≡ Err f → o ≡ Some f
 err_told None n f e = cc
@@ -33,46 +33,20 @@ pub ok_told : (o : Option ReadFault) (n m : ℕ) → outcome o n ≡ Ok m → o 
 ok_told None n m e = refl
 ok_told (Some g) n m e = cc
 
--- What a hearer heard of a verdict's walk.
-pub hearer_hears : {H T : Type 0} (told : H → List Step → H → Type 0) (buffer : Buffer) (o : Option Place)
-    (tables spent : ℕ) (v w : Verdict H) (r : Result T ReadFault)
-    → Hears ⊥ (λ first steps last. told first.hearer steps last.hearer) buffer o tables spent v w r
-    → Hears ⊥ told buffer o tables spent v.hearer w.hearer r
-hearer_hears told buffer o tables spent v w (Ok y) same = ap (λ verdict. verdict.hearer) same
-hearer_hears told buffer o tables spent v w (Err f) hears = λ lasts. let told_of = hears lasts in record {
-  steps = told_of.steps;
-  fault = told_of.fault;
-  heard = told_of.heard;
-  leads = told_of.leads;
-}
-
--- Memory always lasts where none is taken.
-pub finds_always : {T : Type 0} (r : Result T ReadFault) (first : Option ReadFault) → FindsWhile ⊥ r first
-    → Finds r first
-finds_always (Ok y) first finds = finds
-finds_always (Err f) first finds = finds (λ never. absurd never)
-
-pub refused_always : {T : Type 0} (r : Result T ReadFault) (known : ReadFault → Type 0)
-    → IfErr r (λ f. MemoryLasts ⊥ f → known f) → IfErr r known
-refused_always (Ok y) known refused = tt
-refused_always (Err f) known refused = refused (λ never. absurd never)
-
--- A visit finds the first fault, if there is one, as far as memory lasts.
-pub visit_finds_while : {T : Type 0} (takes : Type 0) (L : LaidSchema) (b : Bytes) (most : Bounds) (x : Place)
-    (tables spent after : ℕ) (r : Result T ReadFault) → Gives takes r after (visit L b most x tables spent)
-    → FindsWhile takes r (fault_from L b most x tables spent)
+-- A visit finds the first fault, if there is one.
+pub visit_finds : {T : Type 0} (L : LaidSchema) (b : Bytes) (most : Bounds) (x : Place) (tables spent after : ℕ)
+    (r : Result T ReadFault) → Visits r after (visit L b most x tables spent)
+    → Finds r (fault_from L b most x tables spent)
 unfolding visit
-visit_finds_while takes L b most x tables spent after (Ok y) gives =
-    ok_told (fault_from L b most x tables spent) _ after gives
-visit_finds_while takes L b most x tables spent after (Err f) gives =
-    λ lasts. err_told (fault_from L b most x tables spent) _ f (gives lasts)
+visit_finds L b most x tables spent after (Ok y) gives = ok_told (fault_from L b most x tables spent) _ after gives
+visit_finds L b most x tables spent after (Err f) gives = err_told (fault_from L b most x tables spent) _ f gives
 
--- What a walk has counted from 0 on is added to a count.
+-- What a walk has counted from 0 on is added to a count: the tables, vectors and texts of the value that lies there.
 pub entered_more : {T : Type 0} (buffer : Buffer) (x : Place) (start ticks old new : ℕ) (r : Result T ReadFault)
-    → start ≡ 0 → new ≡ old + ticks → OnOk r (EntersAt buffer x start ticks) → OnOk r (EntersAt buffer x old new)
-entered_more buffer x start ticks old new (Ok y) none is each = λ d lies.
-    (let all = each d lies in omega (arith, none, is, all))
-entered_more buffer x start ticks old new (Err f) none is each = tt
+    → start ≡ 0 → new ≡ old + ticks → OnOk r (ticks ≡ start + parts_in buffer x) → OnOk r (EntersAt buffer x old new)
+entered_more buffer x start ticks old new (Ok y) none is counted = λ d lies.
+    (let all = parts_of_value_shown buffer.layout.now buffer.bytes.now x d lies in omega (arith, none, is, all, counted))
+entered_more buffer x start ticks old new (Err f) none is counted = tt
 
 -- A visit that is refused gives the fault that is computed.
 pub visit_fault_is : (L : LaidSchema) (b : Bytes) (most : Bounds) (x : Place) (tables spent : ℕ) (f : ReadFault)
@@ -105,22 +79,18 @@ enters_to_fault L b most x path f g start ticks old new computed least entered n
     (λ before. found.2 path g before least.0) in
     (path, (rw same at found.1, rw same at found.2), omega (arith, entered, none, added))
 
--- The same as far as memory lasts.
-pub enters_while : {V T : Type 0} (takes : Type 0) (told : V → List Step → V → Type 0) (buffer : Buffer) (x : Place)
-    (v w : V) (start ticks old new : ℕ) (r : Result T ReadFault)
-    → IfErr r (λ f. MemoryLasts takes f → (visit_in buffer x 0 0 ≡ Err f)
-    × ComesFrom told buffer (Some x) 0 0 v w start ticks) → start ≡ 0 → new ≡ old + ticks
-    → IfErr r (λ f. MemoryLasts takes f
-    → EntersToFault buffer.layout.now buffer.bytes.now (limits_of buffer) x f old new)
-enters_while takes told buffer x v w start ticks old new (Ok y) ends none added = tt
-enters_while takes told buffer x v w start ticks old new (Err f) ends none added = λ lasts.
-    (let L = buffer.layout.now in
+pub enters_refused : {H T : Type 0} (told : H → List Step → H → Type 0) (buffer : Buffer) (x : Place) (v w : H)
+    (start ticks old new : ℕ) (r : Result T ReadFault)
+    → IfErr r (λ f. (visit_in buffer x 0 0 ≡ Err f) × ComesFrom told buffer (Some x) 0 0 v w start ticks)
+    → start ≡ 0 → new ≡ old + ticks
+    → IfErr r (λ f. EntersToFault buffer.layout.now buffer.bytes.now (limits_of buffer) x f old new)
+enters_refused told buffer x v w start ticks old new (Ok y) ends none added = tt
+enters_refused told buffer x v w start ticks old new (Err f) ends none added =
+    let L = buffer.layout.now in
     let b = buffer.bytes.now in
     let most = limits_of buffer in
-    let known = ends lasts in
-    let comes = known.1 in
-    enters_to_fault L b most x (map number_of comes.steps) f comes.fault start ticks old new
-    (visit_fault_is L b most x 0 0 f known.0) comes.leads.0 comes.entered none added)
+    enters_to_fault L b most x (map number_of ends.1.steps) f ends.1.fault start ticks old new
+    (visit_fault_is L b most x 0 0 f ends.0) ends.1.leads.0 ends.1.entered none added
 
 module _ (p : ℕ) (front : Option ReadFault) (L : LaidSchema) (most : Bounds) (b : Bytes) (made : IsWellMade L) where
   -- refused behind a front that keeps its rules
@@ -155,8 +125,8 @@ enters_along L b most x path f g old new enters least =
     rw same at enters.2
 
 -- What was heard of a buffer's root, by the bytes.
-pub leads_in_bytes : {V : Type 0} (told : V → List Step → V → Type 0) (L : LaidSchema) (b : Bytes) (most : Bounds)
-    (buffer : Buffer) (p : ℕ) (v w : V) → IsBufferOf L b most buffer
+pub leads_in_bytes : {H : Type 0} (told : H → List Step → H → Type 0) (L : LaidSchema) (b : Bytes) (most : Bounds)
+    (buffer : Buffer) (p : ℕ) (v w : H) → IsBufferOf L b most buffer
     → HearsFrom told buffer (Some (root_at buffer.layout.now p)) 0 0 v w
     → (steps : List Step) × (f : ReadFault) × told v steps w × LeadsToLeast L b most (Some (root_at L p)) 0 0 steps f
 leads_in_bytes told L b most buffer p v w same hears = (

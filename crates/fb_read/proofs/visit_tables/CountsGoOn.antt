@@ -1,6 +1,5 @@
 -- What a walk has counted, one step on.
-use Rattle.std.proofs.Common.{◌≡◌, ℕ, ◌+◌, ◌<◌, ◌≤◌, List, length, drop, arith}
-use Rattle.std.proofs.Common.{length-drop}
+use Rattle.std.proofs.Common.{◌≡◌, ℕ, ◌+◌, ◌<◌, ◌≤◌, arith}
 
 -- at a part that isn't entered yet, and at one that is
 pub not_entered : (ticks spent most : ℕ) → spent ≤ most → ticks + spent ≤ ticks + (most + 1)
@@ -32,15 +31,8 @@ pub table_refused_then : (old mid spent new most : ℕ) → mid ≡ old + 1 → 
     → new + spent ≤ old + (most + 1)
 table_refused_then old mid spent new most is here = omega arith
 
--- Nothing is left.
-pub none_left : (n left all : ℕ) → left ≡ 0 → n + left ≡ all → n ≡ all
-none_left n left all none is = omega arith
-
 pub at_end : (i n : ℕ) → i ≤ n → n ≤ i → i ≡ n
 at_end i n few most = omega arith
 
 pub below : (i n m : ℕ) → i < n → n ≤ m → i < m
 below i n m less few = omega arith
-
-pub rest_long : {A : Type 0} (xs : List A) (i n : ℕ) → i ≡ n → n ≤ length xs → i + length (drop n xs) ≡ length xs
-rest_long xs i n is few = omega (arith, length-drop n xs)

@@ -1,4 +1,4 @@
--- What a visitor hears and a walk enters at a place, by what they do at those that the place names.
+-- What a hearer hears and a walk enters at a place, by what they do at those that the place names.
 use Rattle.std.proofs.Common.{◌≡◌, ℕ, ◌+◌, ◌<◌, ◌≤◌, List, [], ◌∷◌, map, None, Some, Ok, Err}
 use Rattle.std.proofs.Common.{refl, sym, ap, ◌∙◌, arith, add-zero}
 use Rattle.fb_schema.specs.declared.kinds.TypeId.{TypeId}
@@ -26,22 +26,22 @@ no_limits : first_failing [] ≡ None
 unfolding first_failing
 no_limits = refl
 
-module _ {V : Type 0} (told : V → List Step → V → Type 0) (silent : (v : V) → told v [] v) (buffer : Buffer) where
+module _ {H : Type 0} (told : H → List Step → H → Type 0) (silent : (h : H) → told h [] h) (buffer : Buffer) where
   -- ---- a place's own fault
 
-  own : (x : Place) (tables spent : ℕ) (v : V) (m n : ℕ) → IsFaulty buffer x tables spent → n ≡ m + own_parts x.sort
+  own : (x : Place) (tables spent : ℕ) (v : H) (m n : ℕ) → IsFaulty buffer x tables spent → n ≡ m + own_parts x.sort
       → ComesFrom told buffer (Some x) tables spent v v m n
   own x tables spent v m n faulty counted =
       let end = own_end buffer x tables spent faulty in
       record { steps = []; fault = end.0; heard = silent v; leads = end.1; entered = counted }
 
-  pub rule_heard : (x : Place) (tables spent : ℕ) (v : V) (m n : ℕ) (f : ReadFault)
+  pub rule_heard : (x : Place) (tables spent : ℕ) (v : H) (m n : ℕ) (f : ReadFault)
       → fault_at buffer.layout.now buffer.bytes.now x.sort x.at ≡ Some f → n ≡ m + own_parts x.sort
       → ComesFrom told buffer (Some x) tables spent v v m n
   rule_heard x tables spent v m n f fails counted =
       own x tables spent v m n (rule_fails buffer x tables spent f fails) counted
 
-  pub limit_heard : (x : Place) (tables spent : ℕ) (v : V) (m n : ℕ) (f : ReadFault)
+  pub limit_heard : (x : Place) (tables spent : ℕ) (v : H) (m n : ℕ) (f : ReadFault)
       → Keeps buffer.layout.now buffer.bytes.now x.sort x.at
       → first_failing (limit_rules (limits_of buffer) x.sort x.at (tables + own_tables x.sort) (spent
       + own_cells buffer.bytes.now x.sort x.at)) ≡ Some f → n ≡ m + own_parts x.sort
@@ -50,7 +50,7 @@ module _ {V : Type 0} (told : V → List Step → V → Type 0) (silent : (v : V
       own x tables spent v m n (limit_fails buffer x tables spent f keeps fails) counted
 
   -- of what names nothing
-  pub leaf_heard : (x : Place) (tables spent : ℕ) (f : ReadFault) (v : V) (m n : ℕ)
+  pub leaf_heard : (x : Place) (tables spent : ℕ) (f : ReadFault) (v : H) (m n : ℕ)
       → named buffer.layout.now buffer.bytes.now x.sort x.at ≡ [] → visit_in buffer x tables spent ≡ Err f
       → n ≡ m + own_parts x.sort → ComesFrom told buffer (Some x) tables spent v v m n
   leaf_heard x tables spent f v m n none fails counted =
@@ -58,10 +58,10 @@ module _ {V : Type 0} (told : V → List Step → V → Type 0) (silent : (v : V
 
   -- ---- references
 
-  pub ref_heard : (X : Target) (p q tables spent : ℕ) (v w z : V) (m n : ℕ)
+  pub ref_heard : (X : Target) (p q tables spent : ℕ) (v w z : H) (m n : ℕ)
       → Keeps buffer.layout.now buffer.bytes.now (ref_place X) p → q ≡ p + num buffer.bytes.now p 4
       → ComesFrom told buffer (Some (place (part_place X) q)) tables spent v w m n
-      → ((first : V) (steps : List Step) → told first steps w → told first (Reference ∷ steps) z)
+      → ((first : H) (steps : List Step) → told first steps w → told first (Reference ∷ steps) z)
       → ComesFrom told buffer (Some (place (ref_place X) p)) tables spent v z m n
   ref_heard X p q tables spent v w z m n keeps is heard tells =
       let L = buffer.layout.now in
@@ -84,7 +84,7 @@ module _ {V : Type 0} (told : V → List Step → V → Type 0) (silent : (v : V
 
   -- ---- tables
 
-  pub table_heard : (table : TypeId) (p tables spent : ℕ) (v w : V) (k m n : ℕ)
+  pub table_heard : (table : TypeId) (p tables spent : ℕ) (v w : H) (k m n : ℕ)
       → Keeps buffer.layout.now buffer.bytes.now (part_place (table_part table.0)) p → tables < buffer.most_depth
       → spent < buffer.most_cells → m ≡ k + 1
       → ComesAmong told (λ k. Slot table k) buffer
@@ -109,7 +109,7 @@ module _ {V : Type 0} (told : V → List Step → V → Type 0) (silent : (v : V
 
   -- ---- vectors
 
-  pub vector_heard : (kind : StoredKind) (X : Target) (p tables spent n : ℕ) (v w : V) (before here after : ℕ)
+  pub vector_heard : (kind : StoredKind) (X : Target) (p tables spent n : ℕ) (v w : H) (before here after : ℕ)
       → target_of kind ≡ Some X
       → Keeps buffer.layout.now buffer.bytes.now (part_place (vector_part kind)) p → n ≡ num buffer.bytes.now p 4
       → spent + (1 + n) ≤ buffer.most_cells → here ≡ before + 1
@@ -134,7 +134,7 @@ module _ {V : Type 0} (told : V → List Step → V → Type 0) (silent : (v : V
 
   -- ---- a union's member
 
-  pub member_heard : (c t p tables spent : ℕ) (v w : V) (m n : ℕ)
+  pub member_heard : (c t p tables spent : ℕ) (v w : H) (m n : ℕ)
       → ComesFrom told buffer (Some (place (ref_place (table_part t)) p)) tables spent v w m n
       → ComesFrom told buffer (Some (place (ref_place (member_part c t)) p)) tables spent v w m n
   member_heard c t p tables spent v w m n hears = record {

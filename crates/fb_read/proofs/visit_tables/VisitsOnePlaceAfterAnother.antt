@@ -1,6 +1,6 @@
 -- A visit of several places is one of each, place after place.
 use Rattle.std.proofs.Common.{◌==◌, ◌≡◌, ℕ, ◌+◌, ◌<◌, ◌≤◌, List, [], ◌∷◌, Bool, true, false, Option}
-use Rattle.std.proofs.Common.{None, Some, Result, Ok, Err, nat_le, cond, refl, sym, ap, ◌∙◌, arith}
+use Rattle.std.proofs.Common.{None, Some, Result, Ok, Err, MatchResult, nat_le, cond, refl, sym, ap, ◌∙◌, arith}
 use Rattle.std.proofs.Common.{add-zero, add_assoc}
 use Rattle.std.proofs.lemmas.Bool.{le-leb}
 use Rattle.std.proofs.lemmas.Bool.Decides.{nat_tests}
@@ -17,7 +17,7 @@ use Rattle.fb_value.specs.Faults.{own_cells, own_tables, sum_over, all, or_else,
 use Rattle.fb_value.specs.Faults.{first_among, fault_from}
 use Rattle.fb_value.proofs.rules.ComputedFaultIsTheLeast.{all_is}
 use Rattle.fb_value.proofs.rules.FaultOfAPlaceByOneStep.{fault_from_is}
-use Rattle.fb_read.specs.Visits.{outcome, visit, visit_each, visit_entry, union_place}
+use Rattle.fb_read.specs.Visits.{Visits, outcome, visit, visit_each, visit_entry, union_place}
 use Rattle.fb_read.proofs.visit_tables.PartsAddUp.{parts_text}
 
 module _ (L : LaidSchema) (b : Bytes) (most : Bounds) where
@@ -64,6 +64,14 @@ module _ (L : LaidSchema) (b : Bytes) (most : Bounds) where
       → visit L b most x tables spent ≡ Err f
   unfolding visit limited_fault
   visit_fault x tables spent f fails = rw (fault_from_is L b most x tables spent, fails) refl
+
+  -- What the rules of a place say is what a visit gives, where a place that keeps them has no fault.
+  pub visits_by_rules : {T : Type 0} (x : Place) (tables spent : ℕ) (r : Result T ReadFault)
+      → (Keeps L b x.sort x.at → visit L b most x tables spent ≡ Ok spent)
+      → MatchResult r (λ _. Keeps L b x.sort x.at) (λ f. fault_at L b x.sort x.at ≡ Some f)
+      → Visits r spent (visit L b most x tables spent)
+  visits_by_rules x tables spent (Ok y) fine keeps = fine keeps
+  visits_by_rules x tables spent (Err f) fine fails = visit_fault x tables spent f fails
 
   -- a limit that is passed, where the rules hold
   pub visit_over : (x : Place) (tables spent : ℕ) (f : ReadFault) → Keeps L b x.sort x.at
@@ -230,9 +238,5 @@ module _ (L : LaidSchema) (b : Bytes) (most : Bounds) where
   pub no_references : (p : ℕ) (tables spent : ℕ) → visit_each L b most (named_vector b p None) tables spent ≡ Ok spent
   no_references p tables spent = each_nil tables spent
 
--- what a visit gives of a text, and of what names nothing
+-- what a visit gives of a text
 pub ruleset text_visits = (visit_fault, visit_text, parts_text)
-
-pub ruleset inline_visits = (visit_fault, visit_inline)
-
-pub ruleset code_visits = (visit_fault, visit_code)

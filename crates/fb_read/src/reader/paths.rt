@@ -10,10 +10,9 @@ ghost use Rattle.fb_read.specs.FaultPaths.{number_of, IsFaultPathFramed};
 
 use crate::buffer::Buffer;
 use crate::entries::Entries;
-use crate::reader::ticks::walk_root;
+use crate::reader::ticks::visit_buffer;
 use crate::step::Step;
 use crate::trail::Trail;
-use crate::verdict::Verdict;
 use fb_layout::Layout;
 use fb_value::Limits;
 use std::alloc::{AllocError, Global};
@@ -51,12 +50,9 @@ pub fn fault_path(
     let Ok(buffer) = Buffer::checked(layout, bytes, limits, raw, prefixed) else {
         return Ok(None);
     };
-    let trail = Verdict {
-        hearer: Trail::new(alloc),
-    };
-    let (verdict, visited) = walk_root(&buffer, trail, prefixed, entries);
+    let (trail, visited) = visit_buffer(&buffer, Trail::new(alloc), prefixed, entries);
     match visited {
         Ok(()) => Ok(None),
-        Err(_) => Ok(Some(verdict.hearer.into_steps()?)),
+        Err(_) => Ok(Some(trail.into_steps()?)),
     }
 }

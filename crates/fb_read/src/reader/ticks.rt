@@ -1,63 +1,60 @@
 //! The counter that one reading begins and its walk can't forge.
 //!
 //! What a walk enters is counted by the counter that it borrows. A walk that made a counter of its own
-//! could enter each table twice and count it once. So only `walk_root` makes one. It can't be dropped: what it has
+//! could enter each table twice and count it once. So only `visit_buffer` makes one. It can't be dropped: what it has
 //! counted is added to the caller's part count, once, there.
-ghost use Rattle.std.specs.Prelude.{◌≡◌, ◌+◌, ◌-◌, ◌≤◌, OnOk, IfOk, IfErr, Some, Err};
+ghost use Rattle.std.specs.Prelude.{◌≡◌, ◌+◌, ◌-◌, ◌≤◌, OnOk, IfErr, Some};
 ghost use Rattle.fb_value.specs.Holds.{root_at, front_of};
 ghost use Rattle.fb_value.specs.Faults.{fault_from};
 ghost use Rattle.fb_read.specs.Entered.{EntersToFault};
 ghost use Rattle.fb_read.specs.FaultPaths.{Hears};
-ghost use Rattle.fb_read.specs.Values.{FindsWhile, KeepsAt, IsOpenBehind, MemoryLasts};
+ghost use Rattle.fb_read.specs.Values.{Finds};
 ghost use Rattle.fb_read.specs.Walks.{limits_of, EntersAt};
 
 use crate::buffer::Buffer;
 use crate::entries::Entries;
+use crate::hearer::Hearer;
 use crate::visit_tables::visit_table_behind;
-use crate::visitor::Visitor;
 use crate::walk::Walk;
 use fb_value::{ReadFault, front_of};
 use std::marker::Model;
 
-/// Walks over all that is reached from the root of a buffer, which may be `prefixed`. Returns the visitor, and what it
-/// keeps of the root. `entries` rises by one for each table, vector and text that is entered.
+/// Walks over all that is reached from the root of a buffer, which may be `prefixed`, and returns the hearer.
+/// `entries` rises by one for each table, vector and text that is entered.
 #[inline(always)]
-pub(super) fn walk_root<V: Visitor>(
+pub fn visit_buffer<H: Hearer>(
     buffer: &Buffer,
-    visitor: V,
+    hearer: H,
     prefixed: bool,
     entries: &mut Entries,
-) -> (V, Result<V::Kept, ReadFault>)
-    requires knows { V.knows visitor buffer.now }
-    ensures finds { FindsWhile V.takes_memory result.1 (fault_from buffer.now.layout.now buffer.now.bytes.now
-        (limits_of buffer.now) (root_at buffer.now.layout.now (front_of prefixed)) 0 0) }
-    ensures kept { IfOk result.1 (KeepsAt V.keeps buffer.now (root_at buffer.now.layout.now (front_of prefixed))) }
-    ensures hears { Hears V.takes_memory V.told buffer.now (Some (root_at buffer.now.layout.now (front_of prefixed)))
-        0 0 visitor result.0 result.1 }
-    ensures open { result.1 ≡ Err ReadFault.Memory → IsOpenBehind buffer.now buffer.now.layout.now.schema.root
-        (front_of prefixed) 0 0 }
+) -> (H, Result<(), ReadFault>)
+    requires knows { H.knows hearer buffer.now }
+    ensures finds { Finds result.1 (fault_from buffer.now.layout.now buffer.now.bytes.now (limits_of buffer.now)
+        (root_at buffer.now.layout.now (front_of prefixed)) 0 0) }
+    ensures hears { Hears H.told buffer.now (Some (root_at buffer.now.layout.now (front_of prefixed))) 0 0 hearer
+        result.0 result.1 }
     ensures rises { entries.old.count ≤ entries.new.count }
     ensures counted { entries.new.count ≤ entries.old.count + (buffer.now.most_cells + 1) }
     ensures each { OnOk result.1 (EntersAt buffer.now (root_at buffer.now.layout.now (front_of prefixed))
         entries.old.count entries.new.count) }
-    ensures refused { IfErr result.1 (λ f. MemoryLasts V.takes_memory f → EntersToFault buffer.now.layout.now
-        buffer.now.bytes.now (limits_of buffer.now) (root_at buffer.now.layout.now (front_of prefixed)) f
-        entries.old.count entries.new.count) }
+    ensures refused { IfErr result.1 (λ f. EntersToFault buffer.now.layout.now buffer.now.bytes.now
+        (limits_of buffer.now) (root_at buffer.now.layout.now (front_of prefixed)) f entries.old.count
+        entries.new.count) }
 {
     let mut walk = Walk {
         spent: 0,
         ticks: Ticks::new(),
-        visitor,
+        hearer,
     };
     let root = buffer.layout.schema().root();
-    let kept = visit_table_behind(buffer, &mut walk, root, front_of(prefixed), 0);
+    let visited = visit_table_behind(buffer, &mut walk, root, front_of(prefixed), 0);
     let Walk {
         spent: _,
         ticks,
-        visitor,
+        hearer,
     } = walk;
     ticks.add_to(entries);
-    (visitor, kept)
+    (hearer, visited)
 }
 
 /// How many tables, vectors and texts a walk has entered. It takes no bytes at run time, and can't be dropped.

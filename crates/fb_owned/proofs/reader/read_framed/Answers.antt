@@ -1,71 +1,80 @@
-use Rattle.std.proofs.Common.{◌≡◌, ◌<◌, All, arith}
+use Rattle.std.proofs.Common.{◌≡◌, ◌<◌, All, refl, sym, arith}
 use Rattle.std.proofs.lemmas.List.Elements.{All-from_get_or}
+use Rattle.std.proofs.lemmas.Result.{err_from_is_err_and}
+use Rattle.fb_value.specs.declared.faults.ReadFault.TheVariants.{Memory}
 use Rattle.fb_value.specs.Holds.{front_of, front_fault, checked_identifier}
 use Rattle.fb_value.specs.View.{view}
-use Rattle.fb_owned.proofs.reader.RootValueIsHeld.{answer_held, answer_fits, answer_deep, answer_nests, answer_refused}
-use Rattle.fb_owned.proofs.reader.RootValueIsHeld.{answer_entered, root_reached, kept_of_bytes}
-use Rattle.fb_owned.proofs.reader.RootValueIsHeld.{answer_entered_to_fault}
+use Rattle.fb_value.proofs.held.HeldValueFitsTheRoot.{fits_where_held_shown}
+use Rattle.fb_value.proofs.types.NestingIsBoundedByDepth.{nesting_of_depth_shown}
+use Rattle.fb_owned.proofs.reader.FaultsAreNoMemory.{refusal_no_memory}
+use Rattle.fb_owned.proofs.reader.RootValueIsHeld.{root_kept, root_reached}
 use Rattle.fb_owned.proofs.reader.read_framed.Goals as goal
+
+pub returns-in_err-root : goal.returns-in_err-root
+returns-in_err-root c =
+    let p = err_from_is_err_and c.from_residual.result c.from_residual.ensures.1 in
+    let refuses = c.in_err-root.ensures.fault in
+    let rule : c.in_err-root.field-0.0 ≡ Memory → ⊥ = refusal_no_memory (front_of c.args.prefixed) c.args.prefixed
+    (checked_identifier c.args.layout.now c.args.raw) c.args.layout.now c.args.limits c.args.bytes.now _ refuses in
+    rw (p.1, p.2) (record {
+      value = tt;
+      fits = tt;
+      deep = tt;
+      nests = tt;
+      fault = λ other. refuses;
+      memory = λ memory. absurd (rule cc);
+      reached = λ memory. absurd (rule cc);
+      rises = c.in_err-root.ensures.rises;
+      counted = c.in_err-root.ensures.counted;
+      each = tt;
+      refused = λ other. c.in_err-root.ensures.refused;
+    })
+
+pub returns-in_err-value_of_view : goal.returns-in_err-value_of_view
+returns-in_err-value_of_view c =
+    let p = err_from_is_err_and c.from_residual-in_err-value_of_view.result
+    c.from_residual-in_err-value_of_view.ensures.1 in
+    let held = c.in_ok-root.ensures.held in
+    let kept = root_kept (front_of c.args.prefixed)
+    (front_fault c.args.prefixed c.args.bytes.now (checked_identifier c.args.layout.now c.args.raw)) c.args.layout.now
+    c.args.limits c.args.bytes.now held.0 held.1 in
+    rw (p.1, p.2) (record {
+      value = tt;
+      fits = tt;
+      deep = tt;
+      nests = tt;
+      fault = λ other. absurd (other refl);
+      memory = λ memory. kept;
+      reached = λ memory. root_reached (front_of c.args.prefixed) _ c.args.layout.now c.args.limits c.args.bytes.now kept;
+      rises = c.in_ok-root.ensures.rises;
+      counted = c.in_ok-root.ensures.counted;
+      each = tt;
+      refused = λ other. absurd (other refl);
+    })
 
 pub returns-clause-value : goal.returns-clause-value
 returns-clause-value c =
-    let L = c.args.layout.now in
-    let same = c.in_ok-buffer.ensures.buffer in
-    let found = rw (same.layout, same.bytes, same.depth, same.cells) at c.visit_root.ensures.finds in
-    answer_held (front_of c.args.prefixed) _ L c.args.limits c.args.bytes.now c.layout_is_well_made.ensures
-    c.visit_root.result c.in_ok-buffer.ensures.front found (kept_of_bytes (λ v d. view v ≡ d) L c.args.bytes.now
-    c.args.limits c.in_ok-buffer.buffer (front_of c.args.prefixed) same c.visit_root.result c.visit_root.ensures.kept)
+    let held = c.in_ok-root.ensures.held in
+    rw (c.in_ok-value_of_view.ensures held.0 (c.in_ok-root.ensures.stands held.0 held.1)) held.1
 
 pub returns-clause-fits : goal.returns-clause-fits
 returns-clause-fits c =
     let small : All (λ x. x < 256) c.args.bytes.now = All-from_get_or (λ x. x < 256) c.args.bytes.now 0
     (λ i less. (let fits = c.type_inv.bytes i in omega arith)) in
-    answer_fits (front_of c.args.prefixed) _ c.args.layout.now c.args.limits c.args.bytes.now
-    c.layout_is_well_made.ensures small c.visit_root.result (returns-clause-value c)
+    fits_where_held_shown (front_of c.args.prefixed) _ c.args.layout.now c.args.limits c.args.bytes.now _
+    c.layout_is_well_made.ensures small (returns-clause-value c)
 
 pub returns-clause-deep : goal.returns-clause-deep
 returns-clause-deep c =
-    let few = c.in_ok-buffer.buffer.flat in
-    let exact = c.in_ok-buffer.ensures.buffer.depth in
-    answer_deep (front_of c.args.prefixed) _ c.args.layout.now c.args.limits c.args.bytes.now (omega arith)
-    c.visit_root.result (returns-clause-value c)
+    let held = returns-clause-value c in
+    let deep = held.deep in
+    let few = c.type_inv.limits in
+    omega arith
 
 pub returns-clause-nests : goal.returns-clause-nests
 returns-clause-nests c =
-    answer_nests (front_of c.args.prefixed)
-    (front_fault c.args.prefixed c.args.bytes.now (checked_identifier c.args.layout.now c.args.raw)) c.args.layout.now
-    c.args.limits c.args.bytes.now c.layout_is_well_made.ensures
-    c.visit_root.result (returns-clause-fits c) (returns-clause-deep c)
-
-pub returns-clause-fault : goal.returns-clause-fault
-returns-clause-fault c =
-    let same = c.in_ok-buffer.ensures.buffer in
-    let found = rw (same.layout, same.bytes, same.depth, same.cells) at c.visit_root.ensures.finds in
-    answer_refused (front_of c.args.prefixed) _ c.args.layout.now c.args.limits c.args.bytes.now
-    c.layout_is_well_made.ensures c.visit_root.result c.in_ok-buffer.ensures.front found
-
-pub returns-clause-reached : goal.returns-clause-reached
-returns-clause-reached c memory =
-    let same = c.in_ok-buffer.ensures.buffer in
-    let opened = rw (same.layout, same.bytes) at (c.visit_root.ensures.open memory) in
-    root_reached (front_of c.args.prefixed) _ c.args.layout.now c.args.limits c.args.bytes.now (record {
-      header = c.in_ok-buffer.ensures.front;
-      reference = opened.0;
-      table = opened.1.0;
-      deep = omega (arith, opened.1.1, same.depth);
-      small = omega (arith, opened.1.2, same.cells);
-    })
+    nesting_of_depth_shown c.args.layout.now _ c.layout_is_well_made.ensures (returns-clause-fits c)
+    (returns-clause-deep c)
 
 pub returns-clause-each : goal.returns-clause-each
-returns-clause-each c =
-    let same = c.in_ok-buffer.ensures.buffer in
-    let each = rw (same.layout, same.bytes) at c.visit_root.ensures.each in
-    answer_entered (front_of c.args.prefixed) _ c.args.layout.now c.args.limits c.args.bytes.now
-    c.visit_root.result _ _ (returns-clause-value c) each
-
-pub returns-clause-refused : goal.returns-clause-refused
-returns-clause-refused c =
-    let same = c.in_ok-buffer.ensures.buffer in
-    let refused = rw (same.layout, same.bytes, same.depth, same.cells) at c.visit_root.ensures.refused in
-    answer_entered_to_fault c.args.prefixed c.args.raw c.args.layout.now c.args.limits c.args.bytes.now
-    c.visit_root.result _ _ c.in_ok-buffer.ensures.front refused
+returns-clause-each c = c.in_ok-root.ensures.each _ (returns-clause-value c)

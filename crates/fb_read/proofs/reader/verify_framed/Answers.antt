@@ -39,22 +39,22 @@ returns-in_err-buffer c =
       refused = inl (c.in_err-buffer.ensures.front, refl);
     })
 
-pub returns-in_err-visit_root : goal.returns-in_err-visit_root
-returns-in_err-visit_root c =
-    let p = err_from_is_err_and c.from_residual-in_err-visit_root.result c.from_residual-in_err-visit_root.ensures.1 in
+pub returns-in_err-visited : goal.returns-in_err-visited
+returns-in_err-visited c =
+    let p = err_from_is_err_and c.from_residual-in_err-visited.result c.from_residual-in_err-visited.ensures.1 in
     let same = c.in_ok-buffer.ensures.buffer in
     let fails = rw (same.layout, same.bytes, same.depth, same.cells) at
-    (c.in_err-visit_root.ensures.finds (λ never. absurd never)) in
+    (rw c.in_err-visited.was at c.visit_buffer-visited.ensures.finds) in
     let entered = rw (same.layout, same.bytes, same.depth, same.cells) at
-    (c.in_err-visit_root.ensures.refused (λ never. absurd never)) in
+    (rw c.in_err-visited.was at c.visit_buffer-visited.ensures.refused) in
     rw (p.1, p.2) (record {
       held = tt;
       root = tt;
       stands = tt;
       fault = refused_root (front_of c.args.prefixed) _ c.args.layout.now c.args.limits c.args.bytes.now
           c.schema.ensures.made _ c.in_ok-buffer.ensures.front fails;
-      rises = c.in_err-visit_root.ensures.rises;
-      counted = rw same.cells at c.in_err-visit_root.ensures.counted;
+      rises = c.visit_buffer-visited.ensures.rises;
+      counted = rw same.cells at c.visit_buffer-visited.ensures.counted;
       each = tt;
       refused = inr (c.in_ok-buffer.ensures.front, entered);
     })
@@ -71,24 +71,24 @@ returns-clause-stands c v holds =
     holds.lies.1
 
 pub returns-clause-counted : goal.returns-clause-counted
-returns-clause-counted c = rw c.in_ok-buffer.ensures.buffer.cells at c.in_ok-visit_root.ensures.counted
+returns-clause-counted c = rw c.in_ok-buffer.ensures.buffer.cells at c.visit_buffer-visited.ensures.counted
 
 pub returns-clause-each : goal.returns-clause-each
 returns-clause-each c v holds =
     let same = c.in_ok-buffer.ensures.buffer in
-    c.in_ok-visit_root.ensures.each v (rw (same.layout, same.bytes) holds.lies)
+    (rw c.in_ok-visited.was at c.visit_buffer-visited.ensures.each) v (rw (same.layout, same.bytes) holds.lies)
 
 pub returns-clause-held : goal.returns-clause-held
 returns-clause-held c =
     let same = c.in_ok-buffer.ensures.buffer in
-    let fine = rw (same.layout, same.bytes, same.depth, same.cells) at c.in_ok-visit_root.ensures.finds in
+    let fine = rw (same.layout, same.bytes, same.depth, same.cells) at (rw c.in_ok-visited.was at c.visit_buffer-visited.ensures.finds) in
     held_root (front_of c.args.prefixed) _ c.args.layout.now c.args.limits c.args.bytes.now
     c.schema.ensures.made c.in_ok-buffer.ensures.front fine
 
 pub invariant_of-result : goal.invariant_of-result
 invariant_of-result c =
     let same = c.in_ok-buffer.ensures.buffer in
-    let fine = rw (same.layout, same.bytes, same.depth, same.cells) at c.in_ok-visit_root.ensures.finds in
+    let fine = rw (same.layout, same.bytes, same.depth, same.cells) at (rw c.in_ok-visited.was at c.visit_buffer-visited.ensures.finds) in
     let root = rw c.schema.ensures.schema at c.root-root.ensures in
     let from = c.front_of-front.ensures.exact in
     let there = rw from at c.u32_at.ensures in

@@ -13,23 +13,21 @@ pub returns-in_err-text : goal.returns-in_err-text
 returns-in_err-text g c tables =
     let p = err_from_is_err_and c.from_residual.result c.from_residual.ensures.1 in
     let x = place (part_place text_part) c.args.at in
-    let counted = ticked c.args.walk.now c.tick.new.self in
-    place_refused g.V.Visitor.takes_memory g.V.Visitor.told g.V.Visitor.keeps c.args.buffer.now x tables c.args.walk.now
-    counted c.in_err-text.field-0.0 p.0 c.from_residual.result p.1 p.2
-    (rule_refused g.V.Visitor.takes_memory g.V.Visitor.told g.met.V.Visitor.silent c.args.buffer.now x tables
-    c.args.walk.now counted c.in_err-text.field-0.0
-    (c.in_err-text.ensures.rules c.args.buffer.now.layout.now) (just_entered c.args.walk.now.ticks c.tick.new.self
-    c.args.walk.now.spent c.args.buffer.now.most_cells
-    c.tick.ensures c.requires.few) c.tick.ensures refl)
+    let walk = c.args.walk.now in
+    let counted = ticked walk c.tick.new.self in
+    place_refused g.H.Hearer.told c.args.buffer.now x tables walk counted c.in_err-text.field-0.0 p.0
+    c.from_residual.result p.1 p.2
+    (rule_refused g.H.Hearer.told g.met.H.Hearer.silent c.args.buffer.now x tables walk counted
+    c.in_err-text.field-0.0
+    (just_entered walk.ticks c.tick.new.self walk.spent c.args.buffer.now.most_cells c.tick.ensures c.requires.few)
+    c.tick.ensures refl (c.in_err-text.ensures.rules c.args.buffer.now.layout.now))
 
 pub returns-then-after-most : goal.returns-then-after-most
 returns-then-after-most g c tables =
-    limit_refused g.V.Visitor.takes_memory g.V.Visitor.told g.met.V.Visitor.silent c.args.buffer.now
-    (place (part_place text_part) c.args.at) tables c.args.walk.now
-    (ticked c.args.walk.now c.tick.new.self) (TooManyCells c.args.at)
-    (c.in_ok-text.ensures.rules c.args.buffer.now.layout.now)
+    let walk = c.args.walk.now in
+    limit_refused g.H.Hearer.told g.met.H.Hearer.silent c.args.buffer.now
+    (place (part_place text_part) c.args.at) tables walk (ticked walk c.tick.new.self) (TooManyCells c.args.at)
+    (just_entered walk.ticks c.tick.new.self walk.spent c.args.buffer.now.most_cells c.tick.ensures c.requires.few)
+    c.tick.ensures refl (c.in_ok-text.ensures.rules c.args.buffer.now.layout.now)
     (small_no c.args.buffer.now.layout.now c.args.buffer.now.bytes.now (limits_of c.args.buffer.now) c.args.at
-    (c.args.walk.now.spent + (1 + num c.args.buffer.now.bytes.now c.args.at 4))
-    (omega (arith, c.in_ok-text.ensures.long))) (just_entered c.args.walk.now.ticks c.tick.new.self
-    c.args.walk.now.spent c.args.buffer.now.most_cells
-    c.tick.ensures c.requires.few) c.tick.ensures refl
+    (walk.spent + (1 + num c.args.buffer.now.bytes.now c.args.at 4)) (omega (arith, c.in_ok-text.ensures.long)))

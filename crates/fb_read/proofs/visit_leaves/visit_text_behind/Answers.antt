@@ -11,34 +11,33 @@ pub returns-in_err-target : goal.returns-in_err-target
 returns-in_err-target g c =
     let p = err_from_is_err_and c.from_residual.result c.from_residual.ensures.1 in
     let x = place (ref_place text_part) c.args.at in
-    place_refused g.V.Visitor.takes_memory g.V.Visitor.told g.V.Visitor.keeps c.args.buffer.now x c.args.tables
-    c.args.walk.now c.args.walk.now c.in_err-target.field-0.0 p.0 c.from_residual.result p.1 p.2
-    (rule_refused g.V.Visitor.takes_memory g.V.Visitor.told g.met.V.Visitor.silent c.args.buffer.now x c.args.tables
-    c.args.walk.now c.args.walk.now c.in_err-target.field-0.0
-    (c.in_err-target.ensures.rules c.args.buffer.now.layout.now text_part) (not_entered c.args.walk.now.ticks
-    c.args.walk.now.spent c.args.buffer.now.most_cells c.requires.limits.few) (sym (add-zero c.args.walk.now.ticks))
-    refl)
+    let walk = c.args.walk.now in
+    place_refused g.H.Hearer.told c.args.buffer.now x c.args.tables walk walk c.in_err-target.field-0.0 p.0
+    c.from_residual.result p.1 p.2
+    (rule_refused g.H.Hearer.told g.met.H.Hearer.silent c.args.buffer.now x c.args.tables walk walk
+    c.in_err-target.field-0.0 (not_entered walk.ticks walk.spent c.args.buffer.now.most_cells c.requires.limits.few)
+    (sym (add-zero walk.ticks)) refl (c.in_err-target.ensures.rules c.args.buffer.now.layout.now text_part))
 
-pub returns-in-Some : goal.returns-in-Some
-returns-in-Some g c =
+pub returns-then-pass_over : goal.returns-then-pass_over
+returns-then-pass_over g c =
     let rules = c.in_ok-target.ensures.rules c.args.buffer.now.layout.now text_part in
-    passes_behind g.V.Visitor.keeps c.args.buffer.now text_part c.args.at c.in_ok-target.target c.args.tables
-    c.args.walk.now c.pass_over.new.walk c.in-Some.kept rules.0 rules.1 c.in-Some.ensures.known
+    passes_behind c.args.buffer.now text_part c.args.at c.in_ok-target.target c.args.tables
+    c.args.walk.now c.pass_over.new.walk rules.0 rules.1 (c.pass_over.ensures.known c.if-pass_over.true)
 
 pub leave-requires : goal.leave-requires
 leave-requires g c =
-    has_visited g.V.Visitor.takes_memory g.V.Visitor.told g.met.V.Visitor.silent g.V.Visitor.keeps c.args.buffer.now
-    g.V.Visitor.knows (place (part_place text_part) c.in_ok-target.target) c.args.tables c.mark-mark.result
+    has_visited g.H.Hearer.told g.met.H.Hearer.silent c.args.buffer.now
+    g.H.Hearer.knows (place (part_place text_part) c.in_ok-target.target) c.args.tables c.mark-mark.result
     c.pass_over.new.walk c.visit_text-visited.new.walk
     c.visit_text-visited.result c.mark-mark.ensures.spent c.mark-mark.ensures.parts
-    (rw (c.pass_over.ensures.before c.in_default.is) c.requires.limits.known)
+    (rw (c.pass_over.ensures.before c.if-pass_over.false) c.requires.limits.known)
     (c.visit_text-visited.ensures c.args.tables)
 
 pub returns : goal.returns
 returns g c =
     let rules = c.in_ok-target.ensures.rules c.args.buffer.now.layout.now text_part in
-    let ends = rw (c.pass_over.ensures.before c.in_default.is) at (c.visit_text-visited.ensures c.args.tables) in
-    ends_behind g.V.Visitor.takes_memory g.V.Visitor.told g.met.V.Visitor.silent g.V.Visitor.keeps c.args.buffer.now
+    let ends = rw (c.pass_over.ensures.before c.if-pass_over.false) at (c.visit_text-visited.ensures c.args.tables) in
+    ends_behind g.H.Hearer.told g.met.H.Hearer.silent c.args.buffer.now
     text_part c.args.at c.in_ok-target.target c.args.tables c.args.walk.now c.visit_text-visited.new.walk
     c.leave.new.walk c.visit_text-visited.result rules.0
     rules.1 ends c.leave.ensures.spent c.leave.ensures.ticks c.leave.ensures.told

@@ -1,11 +1,6 @@
-use Rattle.std.proofs.Common.{◌≡◌, ◌+◌, ◌*◌, ◌-◌, ◌≤◌, Some, Ok, take}
-use Rattle.fb_layout.specs.Laid.{StoredKind}
-use Rattle.fb_value.specs.Places.{target_of, named_slots, named_elements}
-use Rattle.fb_value.specs.Datum.{Parts, SlotEntries, count}
-use Rattle.fb_value.specs.Counts.{parts_entered, entries_entered}
-use Rattle.fb_value.specs.Lies.{LiesItems, LiesSlots}
-use Rattle.fb_read.specs.Tails.{entries_from, parts_from}
-use Rattle.fb_read.specs.Values.{led_to, KeepsSlots}
+use Rattle.std.proofs.Common.{◌≡◌, ◌+◌, ◌*◌, ◌-◌, ◌≤◌, Ok, take}
+use Rattle.fb_value.specs.Places.{named_slots, named_elements}
+use Rattle.fb_read.specs.Values.{led_to}
 use Rattle.fb_read.specs.Visits.{slots_seen}
 use Rattle.fb_read.specs.Ends.{parts_in_each}
 use Rattle.fb_read.specs.Walks.{visit_each_in}
@@ -43,32 +38,20 @@ abbrev pub invariant-visit_slots-loop-slot : goal.invariant-visit_slots-loop-slo
 invariant-visit_slots-loop-slot g l = record {
   before : visit_each_in l.buffer (take l.slot (named_slots l.buffer.layout.now l.buffer.bytes.now l.table.at 0
       (slots_seen l.buffer.layout.now l.slots))) l.tables l.fn.walk.spent ≡ Ok l.walk.spent;
-  silent : l.walk.visitor ≡ l.fn.walk.visitor;
+  silent : l.walk.hearer ≡ l.fn.walk.hearer;
   few : l.walk.spent ≤ l.buffer.most_cells;
   ticked : l.walk.ticks + l.fn.walk.spent ≤ l.fn.walk.ticks + l.walk.spent;
   exact : l.walk.ticks ≡ l.fn.walk.ticks + parts_in_each l.buffer (take l.slot (named_slots l.buffer.layout.now
       l.buffer.bytes.now l.table.at 0 (slots_seen l.buffer.layout.now l.slots)));
-  entered : (es : SlotEntries) → LiesSlots l.buffer.layout.now l.buffer.bytes.now
-      (slots_seen l.buffer.layout.now l.slots) (named_slots l.buffer.layout.now l.buffer.bytes.now l.table.at 0
-      (slots_seen l.buffer.layout.now l.slots)) es
-      → l.walk.ticks + entries_entered (entries_from l.slot es) ≡ l.fn.walk.ticks + entries_entered es;
-  kept : KeepsSlots g.V.Visitor.has_entries l.buffer (slots_seen l.buffer.layout.now l.slots)
-      (named_slots l.buffer.layout.now l.buffer.bytes.now l.table.at 0 (slots_seen l.buffer.layout.now l.slots)) l.slot
-      l.entries;
 }
 
 abbrev pub invariant-visit_elements-loop-i : goal.invariant-visit_elements-loop-i
 invariant-visit_elements-loop-i g l = record {
   before : visit_each_in l.buffer (take l.i (named_elements (led_to l.reference) l.at l.count)) l.tables
       l.fn.walk.spent ≡ Ok l.walk.spent;
-  silent : l.walk.visitor ≡ l.fn.walk.visitor;
+  silent : l.walk.hearer ≡ l.fn.walk.hearer;
   few : l.walk.spent ≤ l.buffer.most_cells;
   ticked : l.walk.ticks + l.fn.walk.spent ≤ l.fn.walk.ticks + l.walk.spent;
   exact : l.walk.ticks ≡ l.fn.walk.ticks + parts_in_each l.buffer (take l.i (named_elements (led_to l.reference) l.at
       l.count));
-  entered : (kind : StoredKind) → target_of kind ≡ Some (led_to l.reference) → (ds : Parts) → count ds ≡ l.count
-      → LiesItems l.buffer.layout.now l.buffer.bytes.now kind l.at ds
-      → l.walk.ticks + parts_entered (parts_from l.i ds) ≡ l.fn.walk.ticks + parts_entered ds;
-  kept : (kind : StoredKind) → target_of kind ≡ Some (led_to l.reference) → (ds : Parts) → count ds ≡ l.count
-      → LiesItems l.buffer.layout.now l.buffer.bytes.now kind l.at ds → g.V.Visitor.has_elements l.elements l.i ds;
 }

@@ -28,6 +28,5 @@ leave-requires-clause-visited g c =
       counted = record {
         few = omega (arith, c.counted_since.ensures, visited.ticks, rises);
         exact = omega (arith, c.counted_since.ensures, visited.exact);
-        each = λ d lies. omega (arith, c.counted_since.ensures, visited.each d lies);
       };
     }

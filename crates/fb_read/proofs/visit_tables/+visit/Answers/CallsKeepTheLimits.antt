@@ -35,30 +35,21 @@ one_deeper tables most less = omega arith
 pub table_behind_element : goal.visit_behind-visit_table_behind-requires
 table_behind_element g t c κs lives = (
   lower _ 1 0 t c.decreases,
-  (lives.0, (lives.1.0, (lives.1.1.0, (lives.1.1.1, (c.requires.low, c.requires.limits))))),
+  (lives, (c.requires.low, c.requires.limits)),
 )
 
 pub element_behind : goal.visit_elements-visit_behind-visited-requires
 element_behind g t c κs lives = (
   lower _ 2 0 t c.decreases,
   (
-    lives.0,
+    lives,
     (
-      lives.1.0,
-      (
-        lives.1.1.0,
-        (
-          lives.1.1.1,
-          (
-            element_low _ _ _ _ c.loop-i-test.true c.requires.within c.args.buffer.now.short,
-            record {
-              flat = c.requires.limits.flat;
-              few = c.loop-i.invariant.few;
-              known = rw c.loop-i.invariant.silent c.requires.limits.known;
-            },
-          ),
-        ),
-      ),
+      element_low _ _ _ _ c.loop-i-test.true c.requires.within c.args.buffer.now.short,
+      record {
+        flat = c.requires.limits.flat;
+        few = c.loop-i.invariant.few;
+        known = rw c.loop-i.invariant.silent c.requires.limits.known;
+      },
     ),
   ),
 )
@@ -67,19 +58,10 @@ pub vector_behind : goal.visit_slot-visit_vector_behind-requires
 vector_behind g t c κs lives = (
   lower _ 5 1 t c.decreases,
   (
-    lives.0,
+    lives,
     (
-      lives.1.0,
-      (
-        lives.1.1.0,
-        (
-          lives.1.1.1,
-          (
-            field_low _ _ c.requires.vtable.low c.held_slot-offset.ensures.small,
-            c.requires.limits,
-          ),
-        ),
-      ),
+      field_low _ _ c.requires.vtable.low c.held_slot-offset.ensures.small,
+      c.requires.limits,
     ),
   ),
 )
@@ -88,19 +70,10 @@ pub table_behind : goal.visit_slot-visit_table_behind-requires
 table_behind g t c κs lives = (
   lower _ 1 5 t c.decreases,
   (
-    lives.0,
+    lives,
     (
-      lives.1.0,
-      (
-        lives.1.1.0,
-        (
-          lives.1.1.1,
-          (
-            field_low _ _ c.requires.vtable.low c.held_slot-offset.ensures.small,
-            c.requires.limits,
-          ),
-        ),
-      ),
+      field_low _ _ c.requires.vtable.low c.held_slot-offset.ensures.small,
+      c.requires.limits,
     ),
   ),
 )
@@ -109,19 +82,10 @@ pub union_behind : goal.visit_slot-visit_union-requires
 union_behind g t c κs lives = (
   lower _ 6 0 t c.decreases,
   (
-    lives.0,
+    lives,
     (
-      lives.1.0,
-      (
-        lives.1.1.0,
-        (
-          lives.1.1.1,
-          (
-            field_low _ _ c.requires.vtable.low c.held_slot-offset.ensures.small,
-            c.requires.limits,
-          ),
-        ),
-      ),
+      field_low _ _ c.requires.vtable.low c.held_slot-offset.ensures.small,
+      c.requires.limits,
     ),
   ),
 )
@@ -129,34 +93,25 @@ union_behind g t c κs lives = (
 pub member_behind : goal.visit_union-visit_table_behind-requires
 member_behind g t c κs lives = (
   lower _ 1 4 t c.decreases,
-  (lives.0, (lives.1.0, (lives.1.1.0, (lives.1.1.1, (c.requires.low, c.requires.limits))))),
+  (lives, (c.requires.low, c.requires.limits)),
 )
 
 pub slot_in_turn : goal.visit_slots-visit_slot-visited-requires
 slot_in_turn g t c κs lives = (
   lower _ 7 0 t c.decreases,
   (
-    lives.0,
+    lives,
     (
-      lives.1.0,
+      c.requires.vtable,
       (
-        lives.1.1.0,
+        c.stored_slots-present.ensures.held c.loop-slot.slot c.loop-slot-test.true,
         (
-          lives.1.1.1,
-          (
-            c.requires.vtable,
-            (
-              c.stored_slots-present.ensures.held c.loop-slot.slot c.loop-slot-test.true,
-              (
-                slot_below _ _ c.loop-slot-test.true c.stored_slots-present.ensures.small,
-                record {
-                  flat = c.requires.limits.flat;
-                  few = c.loop-slot.invariant.few;
-                  known = rw c.loop-slot.invariant.silent c.requires.limits.known;
-                },
-              ),
-            ),
-          ),
+          slot_below _ _ c.loop-slot-test.true c.stored_slots-present.ensures.small,
+          record {
+            flat = c.requires.limits.flat;
+            few = c.loop-slot.invariant.few;
+            known = rw c.loop-slot.invariant.silent c.requires.limits.known;
+          },
         ),
       ),
     ),
@@ -168,25 +123,16 @@ slots_entered g t c κs lives =
     let small : c.args.walk.now.spent < c.args.buffer.now.most_cells = rw (← c.from.ensures) c.if-walk-from.false in (
       deeper _ _ t c.if-tables-buffer.false c.decreases,
       (
-        lives.0,
+        lives,
         (
-          lives.1.0,
+          search rules,
           (
-            lives.1.1.0,
-            (
-              lives.1.1.1,
-              (
-                search rules,
-                (
-                  omega (arith, c.slots_of-slots.ensures),
-                  record {
-                    flat = one_deeper _ _ c.if-tables-buffer.false;
-                    few = one_deeper _ _ small;
-                    known = c.requires.limits.known;
-                  },
-                ),
-              ),
-            ),
+            omega (arith, c.slots_of-slots.ensures),
+            record {
+              flat = one_deeper _ _ c.if-tables-buffer.false;
+              few = one_deeper _ _ small;
+              known = c.requires.limits.known;
+            },
           ),
         ),
       ),
@@ -196,19 +142,10 @@ pub table_entered : goal.visit_table_behind-visit_table-visited-requires
 table_entered g t c κs lives = (
   lowest _ t c.decreases,
   (
-    lives.0,
+    lives,
     (
-      lives.1.0,
-      (
-        lives.1.1.0,
-        (
-          lives.1.1.1,
-          (
-            target_low _ _ c.in_ok-target.ensures.near c.args.buffer.now.short,
-            rw (c.pass_over.ensures.before c.in_default.is) c.requires.limits,
-          ),
-        ),
-      ),
+      target_low _ _ c.in_ok-target.ensures.near c.args.buffer.now.short,
+      rw (c.pass_over.ensures.before c.if-pass_over.false) c.requires.limits,
     ),
   ),
 )
@@ -217,19 +154,10 @@ pub elements_entered : goal.visit_vector-visit_elements-requires
 elements_entered g t c κs lives = (
   lower _ 3 0 t c.decreases,
   (
-    lives.0,
+    lives,
     (
-      lives.1.0,
-      (
-        lives.1.1.0,
-        (
-          lives.1.1.1,
-          (
-            search rules,
-            record { flat = c.requires.limits.flat; few = omega arith; known = c.requires.limits.known },
-          ),
-        ),
-      ),
+      search rules,
+      record { flat = c.requires.limits.flat; few = omega arith; known = c.requires.limits.known },
     ),
   ),
 )
@@ -238,19 +166,10 @@ pub vector_entered : goal.visit_vector_behind-visit_vector-visited-requires
 vector_entered g t c κs lives = (
   lower _ 4 0 t c.decreases,
   (
-    lives.0,
+    lives,
     (
-      lives.1.0,
-      (
-        lives.1.1.0,
-        (
-          lives.1.1.1,
-          (
-            target_low _ _ c.in_ok-target.ensures.near c.args.buffer.now.short,
-            rw (c.pass_over.ensures.before c.in_default.is) c.requires.limits,
-          ),
-        ),
-      ),
+      target_low _ _ c.in_ok-target.ensures.near c.args.buffer.now.short,
+      rw (c.pass_over.ensures.before c.if-pass_over.false) c.requires.limits,
     ),
   ),
 )

@@ -1,148 +1,146 @@
 -- How a walk ends at a table, and behind a reference to one.
-use Rattle.std.proofs.Common.{◌≡◌, ◌+◌, ◌<◌, length, refl, sym, arith, add-zero}
+use Rattle.std.proofs.Common.{◌≡◌, ◌∙◌, ℕ, ◌+◌, ◌<◌, List, [], Result, Ok, Err, map, refl, sym, ap, arith, add-zero}
 use Rattle.std.proofs.lemmas.Result.{err_from_is_err_and}
-use Rattle.fb_layout.specs.Laid.{slots_of}
+use Rattle.fb_schema.specs.declared.kinds.TypeId.{TypeId}
+use Rattle.fb_schema.specs.declared.types.FieldInfo.{FieldInfo}
+use Rattle.fb_schema.specs.Schema.{body_at, slots_in}
+use Rattle.fb_schema.specs.Seen.{field_seen}
+use Rattle.fb_layout.specs.Laid.{LaidSchema, slot_of, slots_of}
+use Rattle.fb_value.specs.declared.faults.ReadFault.{ReadFault}
 use Rattle.fb_value.specs.declared.faults.ReadFault.TheVariants.{TooDeep, TooManyCells}
 use Rattle.fb_value.specs.Places.{table_part, ref_place, part_place}
+use Rattle.fb_value.specs.Rules.{Keeps}
+use Rattle.fb_read.specs.declared.buffer.Buffer.{Buffer}
+use Rattle.fb_read.specs.declared.step.Step.{Step}
+use Rattle.fb_read.specs.declared.step.Step.TheVariants.{Slot as SlotStep}
+use Rattle.fb_read.specs.declared.walk.Walk.{Walk}
+use Rattle.fb_read.specs.Ends.{EndsAt, EndsAtEach, slots_at}
+use Rattle.fb_read.specs.Visits.{slots_seen}
 use Rattle.fb_read.specs.Walks.{place, limits_of}
 use Rattle.fb_read.proofs.visit_tables.EndsAtAPlace.{ticked, place_refused, rule_refused, limit_refused, passes_behind}
 use Rattle.fb_read.proofs.visit_tables.EndsAtAPlace.{ends_behind, has_visited}
 use Rattle.fb_read.proofs.visit_tables.CountsGoOn.{not_entered, just_entered, table_then, table_refused_then}
-use Rattle.fb_read.proofs.visit_tables.EnteredPartsAreCounted.{table_entered}
 use Rattle.fb_read.proofs.visit_tables.HearsTheWayBack.{table_heard}
-use Rattle.fb_read.proofs.visit_tables.KeepsWhatLies.{slots_are_seen, table_kept, seen_count}
 use Rattle.fb_read.proofs.visit_tables.PartsAddUp.{parts_table}
 use Rattle.fb_read.proofs.visit_tables.VisitsOnePlaceAfterAnother.{visit_table, deep_no, both_no}
 use Rattle.fb_read.proofs.visit_tables.+visit.Goals as goal
 
-pub table_reference_refused : goal.visit_table_behind-returns-in_err-target-clause-visit
+pub table_reference_refused : goal.visit_table_behind-returns-in_err-target
 table_reference_refused g t c =
     let p = err_from_is_err_and c.from_residual.result c.from_residual.ensures.1 in
     let X = table_part c.args.table.0 in
     let x = place (ref_place X) c.args.at in
-    place_refused g.V.Visitor.takes_memory g.V.Visitor.told g.V.Visitor.keeps c.args.buffer.now x c.args.tables
-    c.args.walk.now c.args.walk.now c.in_err-target.field-0.0 p.0 c.from_residual.result p.1 p.2
-    (rule_refused g.V.Visitor.takes_memory g.V.Visitor.told g.met.V.Visitor.silent c.args.buffer.now x c.args.tables
-    c.args.walk.now c.args.walk.now c.in_err-target.field-0.0
-    (c.in_err-target.ensures.rules c.args.buffer.now.layout.now X) (not_entered c.args.walk.now.ticks
-    c.args.walk.now.spent c.args.buffer.now.most_cells c.requires.limits.few) (sym (add-zero c.args.walk.now.ticks))
-    refl)
+    let walk = c.args.walk.now in
+    place_refused g.H.Hearer.told c.args.buffer.now x c.args.tables walk walk c.in_err-target.field-0.0 p.0
+    c.from_residual.result p.1 p.2
+    (rule_refused g.H.Hearer.told g.met.H.Hearer.silent c.args.buffer.now x c.args.tables walk walk
+    c.in_err-target.field-0.0 (not_entered walk.ticks walk.spent c.args.buffer.now.most_cells c.requires.limits.few)
+    (sym (add-zero walk.ticks)) refl (c.in_err-target.ensures.rules c.args.buffer.now.layout.now X))
 
-pub table_passed_over : goal.visit_table_behind-returns-in-Some-clause-visit
+pub table_passed_over : goal.visit_table_behind-returns-then-pass_over
 table_passed_over g t c =
     let X = table_part c.args.table.0 in
     let rules = c.in_ok-target.ensures.rules c.args.buffer.now.layout.now X in
-    passes_behind g.V.Visitor.keeps c.args.buffer.now X c.args.at c.in_ok-target.target c.args.tables c.args.walk.now
-    c.pass_over.new.walk c.in-Some.kept rules.0 rules.1 c.in-Some.ensures.known
+    passes_behind c.args.buffer.now X c.args.at c.in_ok-target.target c.args.tables c.args.walk.now
+    c.pass_over.new.walk rules.0 rules.1 (c.pass_over.ensures.known c.if-pass_over.true)
 
 pub table_left : goal.visit_table_behind-leave-requires
 table_left g t c =
-    has_visited g.V.Visitor.takes_memory g.V.Visitor.told g.met.V.Visitor.silent g.V.Visitor.keeps c.args.buffer.now
-    g.V.Visitor.knows (place (part_place (table_part c.args.table.0)) c.in_ok-target.target) c.args.tables
+    has_visited g.H.Hearer.told g.met.H.Hearer.silent c.args.buffer.now
+    g.H.Hearer.knows (place (part_place (table_part c.args.table.0)) c.in_ok-target.target) c.args.tables
     c.mark-mark.result c.pass_over.new.walk c.visit_table-visited.new.walk c.visit_table-visited.result
     c.mark-mark.ensures.spent c.mark-mark.ensures.parts
-    (rw (c.pass_over.ensures.before c.in_default.is) c.requires.limits.known) c.visit_table-visited.ensures.visit
+    (rw (c.pass_over.ensures.before c.if-pass_over.false) c.requires.limits.known) c.visit_table-visited.ensures
 
-pub table_behind_ends : goal.visit_table_behind-returns-clause-visit
+pub table_behind_ends : goal.visit_table_behind-returns
 table_behind_ends g t c =
     let X = table_part c.args.table.0 in
     let rules = c.in_ok-target.ensures.rules c.args.buffer.now.layout.now X in
-    let ends = rw (c.pass_over.ensures.before c.in_default.is) at c.visit_table-visited.ensures.visit in
-    ends_behind g.V.Visitor.takes_memory g.V.Visitor.told g.met.V.Visitor.silent g.V.Visitor.keeps c.args.buffer.now X
+    let ends = rw (c.pass_over.ensures.before c.if-pass_over.false) at c.visit_table-visited.ensures in
+    ends_behind g.H.Hearer.told g.met.H.Hearer.silent c.args.buffer.now X
     c.args.at c.in_ok-target.target c.args.tables c.args.walk.now c.visit_table-visited.new.walk c.leave.new.walk
     c.visit_table-visited.result rules.0 rules.1 ends c.leave.ensures.spent c.leave.ensures.ticks c.leave.ensures.told
 
-pub table_behind_open : goal.visit_table_behind-returns-clause-open
-table_behind_open g t c memory =
-    let rules = c.in_ok-target.ensures.rules c.args.buffer.now.layout.now (table_part c.args.table.0) in
-    (rules.0, rw (c.pass_over.ensures.before c.in_default.is, rules.1) at (c.visit_table-visited.ensures.open memory))
-
-pub table_refused : goal.visit_table-returns-in_err-vtable_at-clause-visit
+pub table_refused : goal.visit_table-returns-in_err-vtable_at
 table_refused g t c =
     let p = err_from_is_err_and c.from_residual.result c.from_residual.ensures.1 in
     let x = place (part_place (table_part c.args.table.0)) c.args.at in
-    let counted = ticked c.args.walk.now c.tick.new.self in
-    place_refused g.V.Visitor.takes_memory g.V.Visitor.told g.V.Visitor.keeps c.args.buffer.now x c.args.tables
-    c.args.walk.now counted c.in_err-vtable_at.field-0.0 p.0 c.from_residual.result p.1 p.2
-    (rule_refused g.V.Visitor.takes_memory g.V.Visitor.told g.met.V.Visitor.silent c.args.buffer.now x c.args.tables
-    c.args.walk.now counted c.in_err-vtable_at.field-0.0 c.in_err-vtable_at.ensures.rules
-    (just_entered c.args.walk.now.ticks c.tick.new.self c.args.walk.now.spent c.args.buffer.now.most_cells
-    c.tick.ensures c.requires.limits.few) c.tick.ensures refl)
+    let walk = c.args.walk.now in
+    let counted = ticked walk c.tick.new.self in
+    place_refused g.H.Hearer.told c.args.buffer.now x c.args.tables walk counted c.in_err-vtable_at.field-0.0 p.0
+    c.from_residual.result p.1 p.2
+    (rule_refused g.H.Hearer.told g.met.H.Hearer.silent c.args.buffer.now x c.args.tables walk counted
+    c.in_err-vtable_at.field-0.0
+    (just_entered walk.ticks c.tick.new.self walk.spent c.args.buffer.now.most_cells c.tick.ensures
+    c.requires.limits.few) c.tick.ensures refl c.in_err-vtable_at.ensures.rules)
 
-pub deep_table_refused : goal.visit_table-returns-then-tables-buffer-clause-visit
+pub deep_table_refused : goal.visit_table-returns-then-tables-buffer
 deep_table_refused g t c =
-    limit_refused g.V.Visitor.takes_memory g.V.Visitor.told g.met.V.Visitor.silent c.args.buffer.now
-    (place (part_place (table_part c.args.table.0)) c.args.at) c.args.tables c.args.walk.now
-    (ticked c.args.walk.now c.tick.new.self) (TooDeep
-    c.args.at)
+    let walk = c.args.walk.now in
+    limit_refused g.H.Hearer.told g.met.H.Hearer.silent c.args.buffer.now
+    (place (part_place (table_part c.args.table.0)) c.args.at) c.args.tables walk (ticked walk c.tick.new.self)
+    (TooDeep c.args.at)
+    (just_entered walk.ticks c.tick.new.self walk.spent c.args.buffer.now.most_cells c.tick.ensures
+    c.requires.limits.few) c.tick.ensures refl
     c.in_ok-vtable_at.ensures.rules (deep_no c.args.buffer.now.layout.now c.args.buffer.now.bytes.now
-    (limits_of c.args.buffer.now) c.args.at (c.args.tables + 1) (c.args.walk.now.spent + 1) (omega arith))
-    (just_entered c.args.walk.now.ticks c.tick.new.self c.args.walk.now.spent c.args.buffer.now.most_cells
-    c.tick.ensures c.requires.limits.few) c.tick.ensures refl
+    (limits_of c.args.buffer.now) c.args.at (c.args.tables + 1) (walk.spent + 1) (omega arith))
 
-pub last_table_refused : goal.visit_table-returns-then-walk-from-clause-visit
+pub last_table_refused : goal.visit_table-returns-then-walk-from
 last_table_refused g t c =
-    limit_refused g.V.Visitor.takes_memory g.V.Visitor.told g.met.V.Visitor.silent c.args.buffer.now
-    (place (part_place (table_part c.args.table.0)) c.args.at) c.args.tables c.args.walk.now
-    (ticked c.args.walk.now c.tick.new.self) (TooManyCells
-    c.args.at)
+    let walk = c.args.walk.now in
+    limit_refused g.H.Hearer.told g.met.H.Hearer.silent c.args.buffer.now
+    (place (part_place (table_part c.args.table.0)) c.args.at) c.args.tables walk (ticked walk c.tick.new.self)
+    (TooManyCells c.args.at)
+    (just_entered walk.ticks c.tick.new.self walk.spent c.args.buffer.now.most_cells c.tick.ensures
+    c.requires.limits.few) c.tick.ensures refl
     c.in_ok-vtable_at.ensures.rules (both_no c.args.buffer.now.layout.now c.args.buffer.now.bytes.now
-    (limits_of c.args.buffer.now) c.args.at (c.args.tables + 1) (c.args.walk.now.spent + 1) (omega arith)
-    (omega arith))
-    (just_entered c.args.walk.now.ticks c.tick.new.self c.args.walk.now.spent c.args.buffer.now.most_cells
-    c.tick.ensures c.requires.limits.few) c.tick.ensures refl
+    (limits_of c.args.buffer.now) c.args.at (c.args.tables + 1) (walk.spent + 1) (omega arith) (omega arith))
 
-pub entries_refused : goal.visit_table-returns-in_err-entries-clause-visit
-entries_refused g t c =
-    let p = err_from_is_err_and c.from_residual-in_err-entries.result c.from_residual-in_err-entries.ensures.1 in
-    let buffer = c.args.buffer.now in
+-- a table's slots, where its fields are seen
+slots_are_seen : (L : LaidSchema) (t : ℕ) (fs : List FieldInfo)
+    → map field_seen fs ≡ slots_in (body_at L.schema t) → slots_of L t ≡ slots_seen L fs
+slots_are_seen L t fs seen = ap (λ gs. map (slot_of L.schema) gs) (sym seen)
+
+-- at a table, by how it ends at its slots
+slots_end : {H T : Type 0} (told : H → List Step → H → Type 0) (silent : (h : H) → told h [] h) (buffer : Buffer)
+    (table : TypeId) (p tables : ℕ) (slots : List FieldInfo) (old mid new : Walk H) (r : Result T ReadFault)
+    → slots_of buffer.layout.now table.0 ≡ slots_seen buffer.layout.now slots
+    → Keeps buffer.layout.now buffer.bytes.now (part_place (table_part table.0)) p → tables < buffer.most_depth
+    → old.spent < buffer.most_cells → mid.spent ≡ old.spent + 1 → mid.ticks ≡ old.ticks + 1
+    → mid.hearer ≡ old.hearer
+    → EndsAtEach told (λ k. SlotStep table k) buffer (slots_at buffer p slots) (tables + 1) mid new r
+    → EndsAt told buffer (place (part_place (table_part table.0)) p) tables old new r
+slots_end told silent buffer table p tables slots old mid new (Ok y) seen rules deep small spent ticks same passes =
     let L = buffer.layout.now in
     let b = buffer.bytes.now in
-    let slots = slots_are_seen L c.args.table.0 c.slots_of-slots.result.now c.slots_of-slots.ensures.slots in
-    let deep = c.if-tables-buffer.false in
-    let small : c.args.walk.now.spent < buffer.most_cells = rw (← c.from.ensures) c.if-walk-from.false in
-    let rules = c.in_ok-vtable_at.ensures.rules in
-    let ends = c.in_err-entries.ensures in
-    rw (p.1, p.2) (record {
-      visit = λ lasts. rw (
-        visit_table L b (limits_of buffer) c.args.table.0 c.args.at c.args.tables c.args.walk.now.spent rules deep
-            small,
-        slots,
-      ) (ends.visit lasts);
-      ticks = table_refused_then c.args.walk.now.ticks c.tick.new.self c.args.walk.now.spent
-          c.visit_slots.new.walk.ticks buffer.most_cells c.tick.ensures ends.ticks;
-      comes = λ lasts. table_heard g.V.Visitor.told g.met.V.Visitor.silent buffer c.args.table c.args.at c.args.tables
-          c.args.walk.now.spent c.args.walk.now.visitor c.visit_slots.new.walk.visitor c.args.walk.now.ticks
-          c.tick.new.self c.visit_slots.new.walk.ticks rules deep small c.tick.ensures (rw slots (ends.comes lasts));
-    })
-
-pub table_passed : goal.visit_table-returns-clause-visit
-table_passed g t c =
-    let buffer = c.args.buffer.now in
-    let L = buffer.layout.now in
-    let b = buffer.bytes.now in
-    let slots = slots_are_seen L c.args.table.0 c.slots_of-slots.result.now c.slots_of-slots.ensures.slots in
-    let deep = c.if-tables-buffer.false in
-    let small : c.args.walk.now.spent < buffer.most_cells = rw (← c.from.ensures) c.if-walk-from.false in
-    let ends = c.in_ok-entries.ensures in
-    let long : length c.slots_of-slots.result.now ≡ length (slots_of L c.args.table.0) =
-    rw slots (sym (seen_count L b c.slots_of-slots.result.now)) in
     record {
-      visit = rw (
-        visit_table L b (limits_of buffer) c.args.table.0 c.args.at c.args.tables c.args.walk.now.spent
-            c.in_ok-vtable_at.ensures.rules deep small,
-        slots,
-      ) ends.visit;
-      few = ends.few;
-      ticks = table_then c.args.walk.now.ticks c.tick.new.self c.args.walk.now.spent c.visit_slots.new.walk.ticks
-          c.visit_slots.new.walk.spent c.tick.ensures ends.ticks;
-      exact = rw (parts_table L b c.args.table.0 c.args.at c.in_ok-vtable_at.ensures.rules, slots)
-          (omega (arith, c.tick.ensures, ends.exact));
-      each = table_entered L b c.args.table.0 c.args.at c.args.walk.now.ticks
-          c.visit_slots.new.walk.ticks (rw (slots, ← c.tick.ensures)
-          ends.each);
-      silent = ends.silent;
-      kept = table_kept g.V.Visitor.keeps L b g.V.Visitor.has_entries c.args.table.0 c.args.at
-          (length c.slots_of-slots.result.now) c.in_ok-entries.entries c.table.result long (rw slots ends.kept)
-          c.table.ensures;
+      visit = rw (visit_table L b (limits_of buffer) table.0 p tables old.spent rules deep small, seen, ← spent)
+          passes.visit;
+      few = passes.few;
+      ticks = table_then old.ticks mid.ticks old.spent new.ticks new.spent ticks (rw spent at passes.ticks);
+      exact = rw (parts_table L b table.0 p rules, seen) (omega (arith, ticks, passes.exact));
+      silent = passes.silent ∙ same;
     }
+slots_end told silent buffer table p tables slots old mid new (Err f) seen rules deep small spent ticks same ends =
+    let L = buffer.layout.now in
+    let b = buffer.bytes.now in
+    record {
+      visit = rw (visit_table L b (limits_of buffer) table.0 p tables old.spent rules deep small, seen, ← spent)
+          ends.visit;
+      ticks = table_refused_then old.ticks mid.ticks old.spent new.ticks buffer.most_cells ticks
+          (rw spent at ends.ticks);
+      comes = table_heard told silent buffer table p tables old.spent old.hearer new.hearer old.ticks mid.ticks
+          new.ticks rules deep small ticks (rw seen (rw (spent, same) at ends.comes));
+    }
+
+pub table_ends : goal.visit_table-returns
+table_ends g t c =
+    let buffer = c.args.buffer.now in
+    let walk = c.args.walk.now in
+    slots_end g.H.Hearer.told g.met.H.Hearer.silent buffer c.args.table c.args.at c.args.tables
+    c.slots_of-slots.result.now walk
+    (record { spent = walk.spent + 1; ticks = c.tick.new.self; hearer = walk.hearer }) c.visit_slots.new.walk
+    c.visit_slots.result
+    (slots_are_seen buffer.layout.now c.args.table.0 c.slots_of-slots.result.now c.slots_of-slots.ensures.slots)
+    c.in_ok-vtable_at.ensures.rules c.if-tables-buffer.false (rw (← c.from.ensures) c.if-walk-from.false) refl
+    c.tick.ensures refl c.visit_slots.ensures
