@@ -24,7 +24,6 @@ takes_known buffer known part at tables spent left v is same_part same_at cells 
       counted = record {
         few = rw (parts, cells) is.counted.few;
         exact = rw parts is.counted.exact;
-        each = λ d h. rw parts (is.counted.each d h);
       };
     })
 
