@@ -1,8 +1,7 @@
 -- The slots of some fields, by position.
-use Rattle.std.proofs.Math.Seq.{drop-cons}
 use Rattle.fb_schema.specs.declared.types.FieldInfo.{FieldInfo}
 use Rattle.std.proofs.Common.{slice_index_or, slice_get, drop, length, ◌≡◌, ℕ, zero, suc, ◌+◌, ◌<◌, ◌≤◌, List, []}
-use Rattle.std.proofs.Common.{◌∷◌, false, None, Some, refl, sym, ap, ◌∙◌, arith}
+use Rattle.std.proofs.Common.{◌∷◌, false, None, Some, refl, arith}
 use Rattle.fb_layout.specs.Laid.{LaidSchema, Slot}
 use Rattle.fb_value.specs.Places.{named_slots}
 use Rattle.fb_value.specs.Num.{Bytes}
@@ -38,11 +37,6 @@ seen_drop L [] zero = refl
 seen_drop L [] (suc n) = refl
 seen_drop L (x ∷ xs) zero = refl
 seen_drop L (x ∷ xs) (suc n) = seen_drop L xs n
-
--- a list from one of its elements on
-pub drop_here : {A : Type 0} (xs : List A) (k : ℕ) (x : A) → k < length xs → x ≡ slice_index_or xs k x
-    → drop k xs ≡ x ∷ drop (suc k) xs
-drop_here xs k x less is = drop-cons xs k x less ∙ ap (λ y. y ∷ drop (suc k) xs) (sym is)
 
 -- nothing stands past a list's end
 pub drop_past : {A : Type 0} (xs : List A) (k : ℕ) → length xs ≤ k → drop k xs ≡ []
