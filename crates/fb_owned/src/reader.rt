@@ -79,6 +79,7 @@ pub fn read_framed<'a>(
         entries.old.count entries.new.count) }
 {
     layout_is_well_made(layout);
+    limits.most_depth(); // at most 127
     let root = verify_framed(layout, bytes, limits, raw, prefixed, entries)?;
     Ok(value_of_view(alloc, root)?)
 }

@@ -1,5 +1,5 @@
 -- No rule's fault is that memory ran out.
-use Rattle.std.proofs.Common.{◌≡◌, ◌≢◌, ◌&&◌, ℕ, ◌+◌, List, [], ◌∷◌, Bool, true, false, Option, None, Some}
+use Rattle.std.proofs.Common.{◌≡◌, ◌≢◌, ◌&&◌, ℕ, List, [], ◌∷◌, Bool, true, false, Option, None, Some}
 use Rattle.std.proofs.Common.{refl, inl, inr}
 use Rattle.fb_layout.specs.Laid.{LaidSchema}
 use Rattle.fb_value.specs.declared.faults.ReadFault.{ReadFault}
@@ -66,7 +66,7 @@ module _ (L : LaidSchema) (b : Bytes) where
   unfolding limited_fault
   path_no_memory most x tables spent [] fails =
       or_no_memory _ _ (place_no_memory x.sort x.at) (limits_no_memory most x.sort x.at _ _) fails
-  path_no_memory most x tables spent (k ∷ path) fails = path_no_memory most fails.1 _ _ path fails.2.1
+  path_no_memory most x tables spent (k ∷ path) fails = path_no_memory most fails.1 _ _ path fails.3
 
 front_no_memory : (prefixed : Bool) (b : Bytes) (id : Option (List ℕ)) → front_fault prefixed b id ≡ Some Memory → ⊥
 unfolding header_fault prefixed_fault
@@ -81,4 +81,4 @@ pub refusal_no_memory : (p : ℕ) (prefixed : Bool) (id : Option (List ℕ)) (L 
 refusal_no_memory p prefixed id L most b f (inl fails, none) memory =
     front_no_memory prefixed b id (rw memory at fails)
 refusal_no_memory p prefixed id L most b f (inr least, none) memory =
-    path_no_memory L b most _ 0 0 least.1.0 (rw memory at least.1.1.0)
+    path_no_memory L b most _ 0 0 least.1.0 (rw memory at least.1.1)

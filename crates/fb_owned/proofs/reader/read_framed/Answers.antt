@@ -1,9 +1,8 @@
-use Rattle.std.proofs.Common.{◌≡◌, ◌<◌, All, refl, sym, arith}
+use Rattle.std.proofs.Common.{◌≡◌, ◌<◌, All, refl, arith}
 use Rattle.std.proofs.lemmas.List.Elements.{All-from_get_or}
 use Rattle.std.proofs.lemmas.Result.{err_from_is_err_and}
 use Rattle.fb_value.specs.declared.faults.ReadFault.TheVariants.{Memory}
 use Rattle.fb_value.specs.Holds.{front_of, front_fault, checked_identifier}
-use Rattle.fb_value.specs.View.{view}
 use Rattle.fb_value.proofs.held.HeldValueFitsTheRoot.{fits_where_held_shown}
 use Rattle.fb_value.proofs.types.NestingIsBoundedByDepth.{nesting_of_depth_shown}
 use Rattle.fb_owned.proofs.reader.FaultsAreNoMemory.{refusal_no_memory}
@@ -68,8 +67,7 @@ pub returns-clause-deep : goal.returns-clause-deep
 returns-clause-deep c =
     let held = returns-clause-value c in
     let deep = held.deep in
-    let few = c.type_inv.limits in
-    omega arith
+    omega (arith, deep, c.most_depth.ensures.exact, c.most_depth.ensures.few)
 
 pub returns-clause-nests : goal.returns-clause-nests
 returns-clause-nests c =

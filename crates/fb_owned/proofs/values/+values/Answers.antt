@@ -1,4 +1,4 @@
-use Rattle.std.proofs.Common.{◌≡◌, ◌<◌, ◌∙◌, ℕ, List, length, map, Option, refl, sym, ap, arith}
+use Rattle.std.proofs.Common.{◌≡◌, ◌∙◌, ℕ, List, length, map, Option, refl, sym, ap, arith}
 use Rattle.std.proofs.lemmas.List.{length-map}
 use Rattle.fb_schema.specs.declared.types.FieldInfo.{FieldInfo}
 use Rattle.fb_schema.specs.Schema.{body_at, slots_in, parts_in as fields_in}
@@ -8,10 +8,10 @@ use Rattle.fb_value.specs.Datum.{Datum, Parts, SlotEntries, a_table, count}
 use Rattle.fb_value.specs.Num.{Bytes}
 use Rattle.fb_value.specs.Lies.{Lies, LiesParts}
 use Rattle.fb_value.specs.Places.{table_part, part_place, named_slots}
-use Rattle.fb_value.specs.View.{view, entries_view}
+use Rattle.fb_value.specs.View.{entries_view}
 use Rattle.fb_value.specs.declared.values.Value.{Value}
 use Rattle.fb_value.proofs.held.EachPartLiesInItsPlace.{parts_long}
-use Rattle.fb_value.proofs.types.EachVariantHasItsView.{view-Fields, view-Fixed, view-Items}
+use Rattle.fb_value.proofs.types.EachVariantHasItsView.{view-Fields}
 use Rattle.fb_read.proofs.placed.PartsLieInTheirPlaces.{kinds_long}
 use Rattle.fb_owned.proofs.values.FrontsGrow.{entry_more, entries_whole, value_more, none_missed, values_all}
 use Rattle.fb_owned.proofs.values.+values.Goals.{values_of_fields-in-Some+in_ok-push, values_of_fields-in_default}
@@ -35,7 +35,7 @@ pub values_of_fields-loop-field-preserved : goal.values_of_fields-loop-field-pre
 values_of_fields-loop-field-preserved t c =
     let fixed = c.args.fixed in
     let i = c.loop-field.field in
-    let found = c.in_ok-value_of_entry.field-0 in
+    let found = c.in_ok-value.field-0 in
     elim c.match-branch-3.branch [
       | values_of_fields-in-Some+in_ok-push w ↦ λ ds shows.
           (let long = fields_long fixed.layout.now fixed.bytes.now fixed.structure.0 fixed.at
@@ -43,13 +43,13 @@ values_of_fields-loop-field-preserved t c =
           shows in
           rw (w.values-is, w.in_ok-push.ensures.items)
           (value_more c.loop-field.values.items ds i found w.in-Some.value (c.loop-field.invariant ds shows)
-          (omega (arith, long)) (c.in_ok-value_of_entry.ensures _ _ (c.part.ensures.shows ds shows)) w.in-Some.is))
+          (omega (arith, long)) (c.in_ok-value.ensures _ _ (c.part.ensures.shows ds shows)) w.in-Some.is))
       | values_of_fields-in_default w ↦ λ ds shows.
           (let long = fields_long fixed.layout.now fixed.bytes.now fixed.structure.0 fixed.at
           c.parts_of-fields.result.now ds (rw (c.layout.ensures, c.type_id.ensures) at c.parts_of-fields.ensures.parts)
           shows in
           absurd (none_missed ds i found (omega (arith, long))
-          (c.in_ok-value_of_entry.ensures _ _ (c.part.ensures.shows ds shows)) w.in_default.is))
+          (c.in_ok-value.ensures _ _ (c.part.ensures.shows ds shows)) w.in_default.is))
     ]
 
 pub values_of_fields-returns : goal.values_of_fields-returns
@@ -62,14 +62,14 @@ values_of_fields-returns t c ds shows =
 
 pub values_of_items-loop-i-preserved : goal.values_of_items-loop-i-preserved
 values_of_items-loop-i-preserved t c =
-    let found = c.in_ok-value_of_entry.field-0 in
+    let found = c.in_ok-value.field-0 in
     elim c.match-branch-3.branch [
       | values_of_items-in-Some+in_ok-push w ↦ λ ds shows. rw (w.values-is, w.in_ok-push.ensures.items)
           (value_more c.loop-i.values.items ds c.loop-i.i found w.in-Some.value (c.loop-i.invariant ds shows)
-          (omega (arith, shows.0)) (c.in_ok-value_of_entry.ensures _ _ (c.item.ensures.shows ds shows)) w.in-Some.is)
+          (omega (arith, shows.0)) (c.in_ok-value.ensures _ _ (c.item.ensures.shows ds shows)) w.in-Some.is)
       | values_of_items-in_default w ↦ λ ds shows.
           absurd (none_missed ds c.loop-i.i found (omega (arith, shows.0))
-          (c.in_ok-value_of_entry.ensures _ _ (c.item.ensures.shows ds shows)) w.in_default.is)
+          (c.in_ok-value.ensures _ _ (c.item.ensures.shows ds shows)) w.in_default.is)
     ]
 
 pub values_of_items-returns : goal.values_of_items-returns
