@@ -20,8 +20,8 @@ use std::alloc::Global;
 /// and text that is entered. The bytes are read as the FlatBuffers documentation lays them out
 /// ("FlatBuffer Internals").
 ///
-/// The bytes are verified before memory is allocated. `Memory` is returned only where a table, vector or text is reached
-/// that keeps its rules and is within the limits, with no fault at or before it.
+/// The bytes are verified before memory is allocated. `Memory` is returned only where a table, vector or text is
+/// reached that keeps its rules and is within the limits, with no fault at or before it.
 ///
 /// A struct takes stack for each level of its nesting, and so does its drop.
 pub fn read<'a>(

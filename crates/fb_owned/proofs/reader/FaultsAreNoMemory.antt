@@ -44,7 +44,8 @@ module _ (L : LaidSchema) (b : Bytes) where
       first_no_memory (rules_by from_start L b (part_place text_part) p) refl fails
   place_no_memory (part_place (vector_part kind)) p fails =
       first_no_memory (rules_by from_start L b (part_place (vector_part kind)) p) refl fails
-  place_no_memory (inline_place kind) p fails = first_no_memory (rules_by from_start L b (inline_place kind) p) refl fails
+  place_no_memory (inline_place kind) p fails =
+      first_no_memory (rules_by from_start L b (inline_place kind) p) refl fails
   place_no_memory (code_place u k required here) p fails =
       first_no_memory (rules_by from_start L b (code_place u k required here) p) refl fails
   place_no_memory (unknown_place c) p fails = first_no_memory [] refl fails

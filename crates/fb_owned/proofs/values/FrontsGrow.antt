@@ -81,7 +81,8 @@ pub value_more : (vs : List Value) (ds : Parts) (i : ℕ) (found : Option Value)
     → map view (vs ++ v ∷ []) ≡ first_parts (i + 1) ds
 value_more vs ds i found v before less known is =
     let here : nth_part ds i ≡ Some (view v) = sym known ∙ ap (option_map view) is in
-    rw add-one (map-append view vs (v ∷ []) ∙ (ap (λ os. os ++ view v ∷ []) before ∙ sym (part_more ds i (view v) here)))
+    rw add-one (map-append view vs (v ∷ []) ∙ (ap (λ os. os ++ view v ∷ []) before
+    ∙ sym (part_more ds i (view v) here)))
 
 -- A value was found there.
 pub none_missed : (ds : Parts) (i : ℕ) (found : Option Value) → i < count ds

@@ -44,7 +44,8 @@ returns-in_err-value_of_view c =
       nests = tt;
       fault = λ other. absurd (other refl);
       memory = λ memory. kept;
-      reached = λ memory. root_reached (front_of c.args.prefixed) _ c.args.layout.now c.args.limits c.args.bytes.now kept;
+      reached = λ memory. root_reached (front_of c.args.prefixed) _ c.args.layout.now c.args.limits c.args.bytes.now
+          kept;
       rises = c.in_ok-root.ensures.rises;
       counted = c.in_ok-root.ensures.counted;
       each = tt;
