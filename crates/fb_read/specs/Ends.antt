@@ -46,7 +46,7 @@ pub record ComesAmong {H : Type 0} (told : H → List Step → H → Type 0) (st
   pub entered : after ≡ before + (parts_in_each buffer (take index xs)
       + parts_to buffer.layout.now buffer.bytes.now there (map number_of steps))
 
--- A visit that gives this found no fault: what it has spent and entered is counted, and its hearer has heard of nothing.
+-- A visit that gives this found no fault: what it has spent and entered is counted, and its hearer has heard nothing.
 pub record Passes {H : Type 0} (buffer : Buffer) (old new : Walk H) (given : Result ℕ ReadFault) (parts : ℕ)
     : Type 0 where
   pub visit : given ≡ Ok new.spent

@@ -45,7 +45,8 @@ visit_finds L b most x tables spent after (Err f) gives = err_told (fault_from L
 pub entered_more : {T : Type 0} (buffer : Buffer) (x : Place) (start ticks old new : ℕ) (r : Result T ReadFault)
     → start ≡ 0 → new ≡ old + ticks → OnOk r (ticks ≡ start + parts_in buffer x) → OnOk r (EntersAt buffer x old new)
 entered_more buffer x start ticks old new (Ok y) none is counted = λ d lies.
-    (let all = parts_of_value_shown buffer.layout.now buffer.bytes.now x d lies in omega (arith, none, is, all, counted))
+    (let all = parts_of_value_shown buffer.layout.now buffer.bytes.now x d lies in
+    omega (arith, none, is, all, counted))
 entered_more buffer x start ticks old new (Err f) none is counted = tt
 
 -- A visit that is refused gives the fault that is computed.

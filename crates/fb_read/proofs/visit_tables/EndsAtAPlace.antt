@@ -66,8 +66,8 @@ module _ {H T : Type 0} (told : H → List Step → H → Type 0) (buffer : Buff
 
 module _ {H : Type 0} (told : H → List Step → H → Type 0) (silent : (h : H) → told h [] h) (buffer : Buffer)
     (x : Place) (tables : ℕ) (old new : Walk H) (f : ReadFault)
-    (few : new.ticks + old.spent ≤ old.ticks + (buffer.most_cells + 1)) (counted : new.ticks ≡ old.ticks + own_parts x.sort)
-    (same : new.hearer ≡ old.hearer) where
+    (few : new.ticks + old.spent ≤ old.ticks + (buffer.most_cells + 1))
+    (counted : new.ticks ≡ old.ticks + own_parts x.sort) (same : new.hearer ≡ old.hearer) where
   -- refused by a rule of the place
   pub rule_refused : fault_at buffer.layout.now buffer.bytes.now x.sort x.at ≡ Some f
       → IsRefused buffer old new (visit_in buffer x tables old.spent)

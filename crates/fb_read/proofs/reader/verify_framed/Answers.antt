@@ -81,14 +81,16 @@ returns-clause-each c v holds =
 pub returns-clause-held : goal.returns-clause-held
 returns-clause-held c =
     let same = c.in_ok-buffer.ensures.buffer in
-    let fine = rw (same.layout, same.bytes, same.depth, same.cells) at (rw c.in_ok-visited.was at c.visit_buffer-visited.ensures.finds) in
+    let fine = rw (same.layout, same.bytes, same.depth, same.cells) at
+    (rw c.in_ok-visited.was at c.visit_buffer-visited.ensures.finds) in
     held_root (front_of c.args.prefixed) _ c.args.layout.now c.args.limits c.args.bytes.now
     c.schema.ensures.made c.in_ok-buffer.ensures.front fine
 
 pub invariant_of-result : goal.invariant_of-result
 invariant_of-result c =
     let same = c.in_ok-buffer.ensures.buffer in
-    let fine = rw (same.layout, same.bytes, same.depth, same.cells) at (rw c.in_ok-visited.was at c.visit_buffer-visited.ensures.finds) in
+    let fine = rw (same.layout, same.bytes, same.depth, same.cells) at
+    (rw c.in_ok-visited.was at c.visit_buffer-visited.ensures.finds) in
     let root = rw c.schema.ensures.schema at c.root-root.ensures in
     let from = c.front_of-front.ensures.exact in
     let there = rw from at c.u32_at.ensures in
