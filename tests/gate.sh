@@ -1,14 +1,15 @@
 #!/usr/bin/env bash
-# The gate: all that rt ci proves and runs; whether each mutation can still be applied and each edit in not-compiled/
-# is refused; whether copies of the version and of figures are right, the libraries are used that have to be, and the
-# time of make run is estimated well. Then the built program: with words and files, on the examples of README and
-# docs/, as a git hook, with texts that are cut off, long or no texts at all, with what is done to OUT, with standard
-# streams for paths, with many files in one call, with streams of messages, what it lists of buffers, at a terminal,
-# where memory, pipes and stack run out, what it explains, that explaining changes nothing else, its usage under another
-# name, its lines beside those of Google's flatc, its man page and completions, its hooks for pre-commit and CI, how
-# costs grow, and how much memory it takes, also for long texts that are refused; the calls with growths refused, some
-# thousand damaged buffers, some thousand JSON texts in pieces, the library for C with its examples, the package for
-# Python, the crates for Rust, and what a release has. The last line counts all of it: 'N passed, M failed'.
+# The gate: all that rt ci proves and runs; whether each mutation can still be applied and each edit in not-compiled/ is
+# refused; whether copies of the version and of figures are right, the libraries are used that have to be, each fault
+# has its page and its number in each language, and the time of make run is estimated well. Then the built program: with
+# words and files, on the examples of README and docs/, as a git hook, with texts that are cut off, long or no texts at
+# all, with what is done to OUT, with standard streams for paths, with many files in one call, with streams of messages,
+# what it lists of buffers, at a terminal, where memory, pipes and stack run out, what it explains, that explaining
+# changes nothing else, its usage under another name, its lines beside those of Google's flatc, its man page and
+# completions, its hooks for pre-commit and CI, how costs grow, and how much memory it takes, also for long texts that
+# are refused; the calls with growths refused, some thousand damaged buffers, some thousand JSON texts in pieces, the
+# library for C with its examples, the package for Python, the crates for Rust, and what a release has. The last line
+# counts all of it: 'N passed, M failed'.
 set -uo pipefail
 cd "$(dirname "$0")/.."
 program=crates/flatc/out/flatc
@@ -31,6 +32,7 @@ python3 tools/build.py flatc test_hostile bench_json_parse --over-gate || status
 python3 tools/mutations.py --applies | tee "$logs/mutations" || status=1
 python3 tools/version.py --check | tee "$logs/version" || status=1
 python3 tools/dependencies.py | tee "$logs/dependencies" || status=1
+python3 tools/faults.py --check | tee "$logs/faults" || status=1
 python3 tests/estimate.py tests/make_run | tee "$logs/estimate" || status=1
 python3 bench/picture.py --check | tee "$logs/picture" || status=1
 python3 tools/mutations.py --not-compiled | tee "$logs/not-compiled" || status=1

@@ -119,7 +119,8 @@ def replaced_schema(tests):
 
     feeder = threading.Thread(target=feed)
     feeder.start()
-    err = b"95 SlotGone in type 0 slot 1\nT.b: is gone (old.fbs:2); a field is never removed, but marked (deprecated)\n"
+    err = b"95 SlotGone in type 0 slot 1\nT.b: is gone (old.fbs:2); a field is never removed, but marked (deprecated) "
+    err += b"[95 SlotGone]\n"
     tests.expect("a schema that was replaced", ["conform", "--explain", "old.fbs", "new.fbs"], 1, err=err)
     feeder.join(SECONDS)
 

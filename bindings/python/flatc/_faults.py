@@ -1,4 +1,4 @@
-"""The numbers of faults. Made by generate_faults.py from docs/FAULTS.md."""
+"""The numbers of faults. Made by tools/faults.py."""
 from enum import IntEnum
 
 
@@ -73,9 +73,9 @@ class Fault(IntEnum):
     BAD_UTF8 = 59
     #: A union has a type and no value.
     BUFFER_UNION_MISMATCH = 60
-    #: Tables are nested deeper than 64 levels.
+    #: Tables are nested deeper than `max_depth`.
     BUFFER_TOO_DEEP = 62
-    #: A buffer has more than 100,000,000 tables, strings, vectors, elements and bytes of strings.
+    #: A buffer has more cells than `max_cells`. What is reached twice counts twice.
     BUFFER_TOO_MANY_CELLS = 63
     #: A JSON value is of another kind than the field.
     WRONG_SHAPE = 70
@@ -93,9 +93,9 @@ class Fault(IntEnum):
     JSON_MISSING_REQUIRED = 76
     #: A union has a value without a type, or a type without a value.
     JSON_UNION_MISMATCH = 77
-    #: Tables are nested deeper than 64 levels.
+    #: Tables are nested deeper than `max_depth`.
     JSON_TOO_DEEP = 78
-    #: The text has more than 100,000,000 tables, strings, vectors, elements and bytes of strings.
+    #: The text has more cells than `max_cells`.
     JSON_TOO_MANY_CELLS = 79
     #: A union in the buffer has a type that the schema has no member for, so it has no JSON.
     NO_MEMBER_NAME = 81

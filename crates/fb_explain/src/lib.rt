@@ -1,8 +1,13 @@
-//! What is wrong and where, in sentences for people.
+//! What is wrong with a job, as findings and in lines for people.
 #![tactic(auto)]
 
 mod explanations;
 mod memory;
+mod refusals;
 
-pub use explanations::{explain, warnings};
-pub use fb_explain_pages::{COLUMNS, FileFailure, Position, Source, Sources, fault_page};
+pub use explanations::explain;
+pub use fb_explain_pages::{COLUMNS, fault_page, page_of};
+pub use fb_findings::{
+    Excerpt, FileFailure, Finding, Location, Position, Severity, Source, Sources,
+};
+pub use refusals::{findings, warnings};

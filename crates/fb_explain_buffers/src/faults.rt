@@ -1,133 +1,139 @@
 //! What is wrong with a buffer.
+ghost use Rattle.std.specs.Prelude.{◌≡◌, None, IfOk, IfSome};
+ghost use Rattle.fb_value.specs.FaultTable.{offset_of};
+ghost use Rattle.fb_findings.specs.Findings.{offset_in};
+ghost use Rattle.fb_faults.specs.declared.faults.ToolFault.{ToolFault};
+
 use crate::paths::push_path;
-use crate::prefixes::{push_count, push_other_framing};
-use fb_explain_pages::{Page, Sources, push_dump};
+use crate::prefixes::{other_framing, push_count};
 use fb_explain_schemas::{FileKind, kind_of_file};
+use fb_faults::ToolFault;
+use fb_findings::{Excerpt, Finding, Note, Sources};
 use fb_layout::Layout;
 use fb_read::{Entries, Step, fault_path};
 use fb_value::{Limits, ReadFault, front_of};
+use std::alloc::{AllocError, Global};
 
 /// The bytes of a number at an offset.
 fn word_at(bytes: &[u8], offset: usize) -> Option<[u8; 4]> {
     bytes.get(offset..)?.first_chunk::<4>().copied()
 }
 
-/// Adds a text and a number behind it.
-fn push_part(page: &mut Page, text: &str, number: u64) {
-    page.push_str(text);
-    page.push_number(number);
+/// Adds a text and a number after it.
+fn push_part(note: &mut Note, text: &str, number: u64) {
+    note.push_str(text);
+    note.push_number(number);
 }
 
 /// Adds what is wrong with a table's vtable.
-fn push_vtable(page: &mut Page, bytes: &[u8], offset: u64) {
-    push_part(page, "the vtable of the table at ", offset);
+fn push_vtable(note: &mut Note, bytes: &[u8], offset: u64) {
+    push_part(note, "the vtable of the table at ", offset);
     let Some(word) = word_at(bytes, offset as usize) else {
-        page.push_line(" can't be found: the table ends past the buffer");
+        note.push_str(" can't be found: the table ends past the buffer");
         return;
     };
     let place = i128::from(offset) - i128::from(i32::from_le_bytes(word));
     let Ok(start) = u64::try_from(place) else {
-        page.push_line(" would be before the buffer");
+        note.push_str(" would be before the buffer");
         return;
     };
-    push_part(page, " would be at ", start);
+    push_part(note, " would be at ", start);
     if start % 2 != 0 {
-        page.push_line(", which isn't even");
+        note.push_str(", which isn't even");
         return;
     }
     if let Some([low, high, ..]) = bytes.get(start as usize..) {
         let size = u16::from_le_bytes([*low, *high]);
-        push_part(page, " and have a size of ", u64::from(size));
+        push_part(note, " and have a size of ", u64::from(size));
         if size % 2 != 0 || size < 4 {
-            page.push_line(", where an even number from 4 on is right");
+            note.push_str(", where an even number from 4 on is right");
             return;
         }
     }
-    push_part(page, ", and the buffer ends at ", bytes.len() as u64);
-    page.end_line();
+    push_part(note, ", and the buffer ends at ", bytes.len() as u64);
 }
 
-fn push_identifiers(page: &mut Page, layout: &Layout, bytes: &[u8], offset: u64) {
+fn push_identifiers(note: &mut Note, layout: &Layout, bytes: &[u8], offset: u64) {
     let start = offset.min(8) as usize;
-    page.push_str("the file identifier is ");
-    page.push_name(bytes.get(start..start + 4).unwrap_or(&[]));
+    note.push_str("the file identifier is ");
+    note.push_name(bytes.get(start..start + 4).unwrap_or(&[]));
     if let Some(identifier) = layout.schema().identifier() {
-        page.push_str(", the schema's is ");
-        page.push_name(&identifier);
+        note.push_str(", the schema's is ");
+        note.push_name(&identifier);
     }
-    page.push_line(" (--raw-binary skips this check)");
+    note.push_str(" (--raw-binary skips this check)");
 }
 
-fn push_byte(page: &mut Page, bytes: &[u8], offset: u64) {
+fn push_byte(note: &mut Note, bytes: &[u8], offset: u64) {
     match bytes.get(offset as usize) {
         Some(byte) => {
-            push_part(page, "the byte at ", offset);
-            push_part(page, " is ", u64::from(*byte));
+            push_part(note, "the byte at ", offset);
+            push_part(note, " is ", u64::from(*byte));
         }
-        None => push_part(page, "there is no byte at ", offset),
+        None => push_part(note, "there is no byte at ", offset),
     }
 }
 
 /// Adds a sentence on the rule that a buffer breaks, with the numbers that break it.
-fn push_rule(page: &mut Page, layout: &Layout, limits: Limits, bytes: &[u8], fault: ReadFault) {
+fn push_rule(note: &mut Note, layout: &Layout, limits: Limits, bytes: &[u8], fault: ReadFault) {
     let rest = match fault {
         ReadFault::Short(len) => {
-            push_part(page, "the buffer's length is ", len);
+            push_part(note, "the buffer's length is ", len);
             ": too short for the root's offset and the file identifier"
         }
         ReadFault::TooLong(most) => {
-            push_part(page, "the buffer is longer than ", most);
+            push_part(note, "the buffer is longer than ", most);
             " bytes"
         }
-        ReadFault::WrongIdentifier(at) => return push_identifiers(page, layout, bytes, at),
+        ReadFault::WrongIdentifier(at) => return push_identifiers(note, layout, bytes, at),
         ReadFault::Misaligned(at) => {
-            push_part(page, "what is stored at ", at);
+            push_part(note, "what is stored at ", at);
             " must be at a multiple of its alignment, and isn't"
         }
         ReadFault::OutOfBounds(at) => {
-            push_part(page, "what is stored at ", at);
+            push_part(note, "what is stored at ", at);
             push_part(
-                page,
+                note,
                 " ends past the buffer, which ends at ",
                 bytes.len() as u64,
             );
             ""
         }
         ReadFault::ZeroOffset(at) => {
-            push_part(page, "the offset at ", at);
+            push_part(note, "the offset at ", at);
             " is 0: it must lead on to a table, string or vector"
         }
-        ReadFault::BadVtable(at) => return push_vtable(page, bytes, at),
+        ReadFault::BadVtable(at) => return push_vtable(note, bytes, at),
         ReadFault::MissingRequired(at, slot) => {
-            push_part(page, "the table at ", at);
-            push_part(page, " has nothing in slot ", u64::from(slot));
+            push_part(note, "the table at ", at);
+            push_part(note, " has nothing in slot ", u64::from(slot));
             ", which is required"
         }
         ReadFault::NoTerminator(at) => {
-            push_byte(page, bytes, at);
+            push_byte(note, bytes, at);
             ", where a string's final 0 must be"
         }
         ReadFault::BadUtf8(at) => {
-            push_byte(page, bytes, at);
+            push_byte(note, bytes, at);
             ": the string isn't UTF-8 from here on"
         }
         ReadFault::UnionMismatch(at) => {
-            push_byte(page, bytes, at);
+            push_byte(note, bytes, at);
             ": the union's type says that it has a value, and it has none"
         }
         ReadFault::TooDeep(at) => {
-            push_part(page, "the table at ", at);
+            push_part(note, "the table at ", at);
             push_part(
-                page,
+                note,
                 " is nested deeper than ",
                 u64::from(limits.most_depth()),
             );
             " levels"
         }
         ReadFault::TooManyCells(at) => {
-            push_part(page, "at ", at);
+            push_part(note, "at ", at);
             push_part(
-                page,
+                note,
                 " the buffer has more than ",
                 u64::from(limits.most_cells()),
             );
@@ -135,30 +141,11 @@ fn push_rule(page: &mut Page, layout: &Layout, limits: Limits, bytes: &[u8], fau
         }
         ReadFault::Memory => return,
     };
-    page.push_line(rest);
+    note.push_str(rest);
 }
 
-/// Adds the path to what is wrong behind a buffer's header; returns whether that is the root.
-fn push_fault_path(page: &mut Page, layout: &Layout, sources: &Sources<'_>) -> bool {
-    let steps = fault_path(
-        page.alloc(),
-        layout,
-        sources.input.bytes,
-        sources.limits,
-        sources.raw_binary,
-        sources.size_prefixed,
-        &mut Entries::new(),
-    );
-    let Some(Some(steps)) = page.keep(steps) else {
-        return false;
-    };
-    push_path(page, layout, steps.as_slice());
-    page.push_str(": ");
-    steps.iter().all(|step| matches!(step, Step::Reference))
-}
-
-/// Adds what is wrong with the offset of the root, which a buffer's first bytes have behind their count.
-fn push_root_offset(page: &mut Page, bytes: &[u8], prefixed: bool, fault: ReadFault) -> bool {
+/// Adds what is wrong with the offset of the root, which a buffer has after its count.
+fn push_root_offset(note: &mut Note, bytes: &[u8], prefixed: bool, fault: ReadFault) -> bool {
     let len = bytes.len() as u64;
     let says = if prefixed {
         "bytes 4 to 7 say that it is at "
@@ -167,53 +154,115 @@ fn push_root_offset(page: &mut Page, bytes: &[u8], prefixed: bool, fault: ReadFa
     };
     match fault {
         ReadFault::Misaligned(at) if at < len => {
-            push_part(page, says, at);
-            page.push_line(", which isn't a multiple of 4");
+            push_part(note, says, at);
+            note.push_str(", which isn't a multiple of 4");
         }
         ReadFault::OutOfBounds(at) | ReadFault::Misaligned(at) => {
-            push_part(page, says, at);
-            push_part(page, ", and the buffer has ", len);
-            page.push_line(" bytes");
+            push_part(note, says, at);
+            push_part(note, ", and the buffer has ", len);
+            note.push_str(" bytes");
         }
         _ => return false,
     }
     true
 }
 
-/// Adds what a file is that isn't a buffer at all; returns whether it is clear.
-fn push_another_kind(page: &mut Page, bytes: &[u8]) -> bool {
-    page.push_line(match kind_of_file(bytes) {
-        Some(FileKind::Json) => "this looks like JSON: 'flatc binary' makes a buffer of it",
-        Some(FileKind::Schema) => "this looks like a schema: SCHEMA comes first, then BIN",
-        _ => return false,
-    });
-    true
+/// What a file is that isn't a buffer at all.
+fn another_kind(bytes: &[u8]) -> Option<&'static str> {
+    match kind_of_file(bytes)? {
+        FileKind::Json => Some("this looks like JSON: 'flatc binary' makes a buffer of it"),
+        FileKind::Schema => Some("this looks like a schema: SCHEMA comes first, then BIN"),
+        FileKind::Buffer => None,
+    }
 }
 
-/// Adds what is wrong with a buffer.
-pub fn push_buffer_fault(
-    page: &mut Page,
+/// The steps to what is wrong after a buffer's header.
+fn steps_to(
+    alloc: Global,
     layout: &Layout,
     sources: &Sources<'_>,
+) -> Result<Option<Vec<Step>>, AllocError> {
+    fault_path(
+        alloc,
+        layout,
+        sources.input.bytes,
+        sources.limits,
+        sources.raw_binary,
+        sources.size_prefixed,
+        &mut Entries::new(),
+    )
+}
+
+/// Adds what is wrong with a buffer. Returns the bytes to show with it.
+fn push_fault<'s>(
+    note: &mut Note,
+    layout: &Layout,
+    sources: &Sources<'s>,
     fault: ReadFault,
-) {
-    let source = &sources.input;
-    page.push_str(source.path);
-    page.push_str(": ");
-    if push_another_kind(page, source.bytes) {
-        return;
-    }
+    is_at_root: bool,
+) -> Excerpt<'s> {
+    let bytes = sources.input.bytes;
     let prefixed = sources.size_prefixed;
-    let is_root = push_fault_path(page, layout, sources);
-    if is_root && push_root_offset(page, source.bytes, prefixed, fault) {
-        push_dump(page, source.bytes, front_of(prefixed));
-    } else {
-        if !(prefixed && push_count(page, source.bytes, fault)) {
-            push_rule(page, layout, sources.limits, source.bytes, fault);
-        }
-        if let Some(offset) = fault.offset() {
-            push_dump(page, source.bytes, offset as usize);
+    if is_at_root && push_root_offset(note, bytes, prefixed, fault) {
+        return Excerpt::Bytes(bytes, front_of(prefixed));
+    }
+    if !(prefixed && push_count(note, bytes, fault)) {
+        push_rule(note, layout, sources.limits, bytes, fault);
+    }
+    match fault.offset() {
+        Some(offset) => Excerpt::Bytes(bytes, offset as usize),
+        None => Excerpt::Nothing,
+    }
+}
+
+/// What is wrong with a buffer that isn't a file of another kind.
+fn finding_in<'s>(
+    alloc: Global,
+    layout: &Layout,
+    sources: &Sources<'s>,
+    fault: ReadFault,
+) -> Result<Finding<'s>, AllocError>
+    ensures fault { IfOk result (λ f. f.fault ≡ ToolFault.Read fault) }
+    ensures place { IfOk result (λ f. offset_in f.place ≡ offset_of fault) }
+    ensures line { IfOk result (λ f. IfSome f.place (λ l. l.position ≡ None)) }
+{
+    let mut note = Note::new(alloc);
+    let mut path = Note::new(alloc);
+    let mut is_at_root = false;
+    if let Some(steps) = steps_to(alloc, layout, sources)? {
+        push_path(&mut path, layout, steps.as_slice());
+        is_at_root = path.is_empty();
+        if is_at_root {
+            note.push_str("the root: ");
         }
     }
-    push_other_framing(page, layout, sources);
+    let excerpt = push_fault(&mut note, layout, sources, fault, is_at_root);
+    let refusal = ToolFault::Read(fault);
+    let mut finding = Finding::in_file(refusal, sources.input.path, fault.offset(), note)?;
+    finding.path = path.into_text()?;
+    finding.excerpt = excerpt;
+    finding.advice = other_framing(alloc, layout, sources)?;
+    Ok(finding)
+}
+
+/// What is wrong with a buffer.
+pub fn buffer_finding<'s>(
+    alloc: Global,
+    layout: &Layout,
+    sources: &Sources<'s>,
+    fault: ReadFault,
+) -> Result<Finding<'s>, AllocError>
+    ensures fault { IfOk result (λ f. f.fault ≡ ToolFault.Read fault) }
+    ensures place { IfOk result (λ f. offset_in f.place ≡ offset_of fault) }
+    ensures line { IfOk result (λ f. IfSome f.place (λ l. l.position ≡ None)) }
+{
+    match another_kind(sources.input.bytes) {
+        Some(what) => {
+            let mut note = Note::new(alloc);
+            note.push_str(what);
+            let refusal = ToolFault::Read(fault);
+            Finding::in_file(refusal, sources.input.path, fault.offset(), note)
+        }
+        None => finding_in(alloc, layout, sources, fault),
+    }
 }

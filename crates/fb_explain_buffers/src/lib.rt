@@ -1,4 +1,4 @@
-//! Why a buffer is refused under a schema, in sentences for people.
+//! Why a buffer is refused under a schema, as findings.
 #![tactic(auto)]
 
 mod faults;
@@ -7,5 +7,5 @@ mod prefixes;
 mod union_codes;
 mod union_paths;
 
-pub use faults::push_buffer_fault;
-pub use union_codes::push_unnamed_member;
+pub use faults::buffer_finding;
+pub use union_codes::unnamed_finding;

@@ -1,11 +1,12 @@
 //! The count in front of a buffer: what is wrong with it, and whether there is one.
-use fb_explain_pages::{Page, Sources};
+use fb_findings::{Note, Sources};
 use fb_layout::Layout;
 use fb_read::{Entries, split_prefixed, verify_framed};
 use fb_value::ReadFault;
+use std::alloc::{AllocError, Global};
 
 /// Adds what is wrong with a count; returns whether that is the fault.
-pub(crate) fn push_count(page: &mut Page, bytes: &[u8], fault: ReadFault) -> bool {
+pub(crate) fn push_count(note: &mut Note, bytes: &[u8], fault: ReadFault) -> bool {
     let [a, b, c, d, rest @ ..] = bytes else {
         return false;
     };
@@ -16,18 +17,18 @@ pub(crate) fn push_count(page: &mut Page, bytes: &[u8], fault: ReadFault) -> boo
         ReadFault::OutOfBounds(at) if at == count + 4 && count < left => {}
         _ => return false,
     }
-    page.push_str("bytes 0 to 3 say that ");
-    page.push_number(count);
-    page.push_str(" bytes follow, and ");
-    page.push_number(left);
-    page.push_line(" do");
+    note.push_str("bytes 0 to 3 say that ");
+    note.push_number(count);
+    note.push_str(" bytes follow, and ");
+    note.push_number(left);
+    note.push_str(" do");
     true
 }
 
-// A header, a vtable without slots, and a table, behind a count.
+// A header, a vtable without slots, and a table, after a count.
 const SHORTEST_MESSAGE: usize = 16;
 
-/// How many size-prefixed buffers the bytes are, one behind the other; none where one is cut, or shorter than a
+/// How many size-prefixed buffers the bytes are, one after the other; none where one is cut, or shorter than a
 /// buffer can be.
 fn count_messages(bytes: &[u8]) -> Option<u64> {
     let mut left = bytes;
@@ -45,8 +46,8 @@ fn count_messages(bytes: &[u8]) -> Option<u64> {
     left.is_empty().then_some(count)
 }
 
-/// Adds that the bytes may be framed in another way than they were read.
-pub(crate) fn push_other_framing(page: &mut Page, layout: &Layout, sources: &Sources<'_>) {
+/// Adds a hint that the bytes are framed differently than they were read, if there is one.
+fn push_other_framing(note: &mut Note, layout: &Layout, sources: &Sources<'_>) {
     let bytes = sources.input.bytes;
     let is_bare = sources.size_prefixed
         && verify_framed(
@@ -59,21 +60,32 @@ pub(crate) fn push_other_framing(page: &mut Page, layout: &Layout, sources: &Sou
         )
         .is_ok();
     if is_bare {
-        page.push_line("without a size prefix it is sound: leave out --size-prefixed");
+        note.push_str("without a size prefix it is sound: leave out --size-prefixed");
         return;
     }
     match count_messages(bytes) {
-        Some(1) if !sources.size_prefixed => page.push_line(
+        Some(1) if !sources.size_prefixed => note.push_str(
             "the first four bytes are the length of what follows: a size-prefixed buffer? add \
              --size-prefixed",
         ),
         Some(count) if count > 1 => {
-            page.push_str("these may be ");
-            page.push_number(count);
-            page.push_line(
+            note.push_str("these may be ");
+            note.push_number(count);
+            note.push_str(
                 " size-prefixed buffers, one after the other: --lines reads a stream of them",
             );
         }
         _ => {}
     }
+}
+
+/// A hint that the bytes are framed differently than they were read; empty if there is none.
+pub(crate) fn other_framing(
+    alloc: Global,
+    layout: &Layout,
+    sources: &Sources<'_>,
+) -> Result<String, AllocError> {
+    let mut note = Note::new(alloc);
+    push_other_framing(&mut note, layout, sources);
+    note.into_text()
 }

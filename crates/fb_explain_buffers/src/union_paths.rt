@@ -12,7 +12,7 @@ pub(crate) struct Unnamed {
 }
 
 impl Unnamed {
-    fn behind(self, step: Step) -> Result<Option<Unnamed>, AllocError> {
+    fn after(self, step: Step) -> Result<Option<Unnamed>, AllocError> {
         let Unnamed { mut steps, code } = self;
         steps.push(step)?;
         Ok(Some(Unnamed { steps, code }))
@@ -23,7 +23,7 @@ impl Unnamed {
 fn first_in_items(alloc: Global, items: Items<'_>) -> Result<Option<Unnamed>, AllocError> {
     for i in 0..items.count() {
         if let Some(found) = first_in_entry(alloc, items.item(i))? {
-            return found.behind(Step::Element(i));
+            return found.after(Step::Element(i));
         }
     }
     Ok(None)
@@ -32,10 +32,10 @@ fn first_in_items(alloc: Global, items: Items<'_>) -> Result<Option<Unnamed>, Al
 /// The first union, in the order of slots and elements, whose code no member has.
 #[cycle(unnamed)]
 pub(crate) fn first_unnamed(alloc: Global, view: View<'_>) -> Result<Option<Unnamed>, AllocError> {
-    // behind the stored slots there are only defaults
+    // after the stored slots there are only defaults
     for slot in 0..view.stored_slots() {
         if let Some(found) = first_in_entry(alloc, view.slot(slot))? {
-            return found.behind(Step::Slot(view.type_id(), slot));
+            return found.after(Step::Slot(view.type_id(), slot));
         }
     }
     Ok(None)

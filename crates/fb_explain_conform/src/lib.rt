@@ -1,12 +1,12 @@
-//! What two schemas differ in, in sentences for people.
+//! What two schemas differ in, as findings.
 #![tactic(auto)]
 
 mod breach_fields;
-mod breach_lines;
+mod breach_types;
 mod comparisons;
 mod moved_names;
 mod places;
 mod shifts;
 mod sides;
 
-pub use comparisons::{Asked, push_comparison};
+pub use comparisons::{breach_findings, moved_findings};

@@ -1,23 +1,23 @@
 //! A field that was removed or inserted before others: each later slot breaks with the old one, and the mistake is one.
 use crate::sides::{Sides, Twin};
 use fb_conform::Breach;
-use fb_explain_pages::Page;
+use fb_findings::Note;
 use fb_schema::{FieldInfo, Kind, Shape, TypeId, fields_of, type_name};
 
 // How many slots that are removed or inserted side by side are looked for.
 const MOST: usize = 16;
 
 #[derive(Clone, Copy)]
-enum Change {
+pub(crate) enum Change {
     /// Old slots that the new table hasn't got there.
     Removed,
     /// New slots before old ones.
     Inserted,
 }
 
-/// Slots of a table that were removed or inserted, with those behind them as they were.
+/// Slots of a table that were removed or inserted, with those after them as they were.
 #[derive(Clone, Copy)]
-struct Shift {
+pub(crate) struct Shift {
     change: Change,
     first: usize,
     count: usize,
@@ -46,10 +46,10 @@ fn rest_of(fields: &[FieldInfo], from: usize) -> &[FieldInfo] {
     fields.get(from..).unwrap_or(&[])
 }
 
-/// Which so many slots were removed or inserted, from the first that has another name on.
+/// The shift of `count` slots from `first` on, which is the first that has another name.
 fn shift_by(old: &[FieldInfo], new: &[FieldInfo], first: usize, count: usize) -> Option<Shift> {
-    let behind = first.saturating_add(count);
-    if behind < old.len() && begin_alike(rest_of(old, behind), rest_of(new, first)) {
+    let next = first.saturating_add(count);
+    if next < old.len() && begin_alike(rest_of(old, next), rest_of(new, first)) {
         let end = old.len();
         return Some(Shift {
             change: Change::Removed,
@@ -58,7 +58,7 @@ fn shift_by(old: &[FieldInfo], new: &[FieldInfo], first: usize, count: usize) ->
             end,
         });
     }
-    if begin_alike(rest_of(old, first), rest_of(new, behind)) {
+    if begin_alike(rest_of(old, first), rest_of(new, next)) {
         let end = old.len().saturating_add(count);
         return Some(Shift {
             change: Change::Inserted,
@@ -79,23 +79,33 @@ fn shift_of(old: &[FieldInfo], new: &[FieldInfo]) -> Option<Shift> {
     (1..=MOST).find_map(|count| shift_by(old, new, first, count))
 }
 
-/// The shift of the table that breaches are listed of, which is told once.
+/// What a breach is to a shift.
+#[derive(Clone, Copy)]
+pub(crate) enum PartOfShift {
+    Nothing,
+    /// The first breach of the shift of an old table, which stands for all of them.
+    First(TypeId, Shift),
+    Further,
+}
+
+/// The shift of the table that breaches are listed of.
 #[derive(Clone, Copy)]
 pub(crate) struct Shifts {
     found: Option<(TypeId, Option<Shift>)>,
-    is_told: bool,
+    /// Whether a breach of it was met.
+    is_met: bool,
 }
 
 impl Shifts {
     pub(crate) fn new() -> Shifts {
         Shifts {
             found: None,
-            is_told: false,
+            is_met: false,
         }
     }
 
     /// The shift of an old table, which is looked for once.
-    fn of(&mut self, sides: &Sides<'_>, old: TypeId) -> Option<Shift> {
+    fn of(&mut self, sides: &Sides<'_, '_>, old: TypeId) -> Option<Shift> {
         if let Some((known, shift)) = self.found
             && known == old
         {
@@ -103,24 +113,26 @@ impl Shifts {
         }
         let shift = sides.twin(old).and_then(|twin| sides.shift(twin));
         self.found = Some((old, shift));
-        self.is_told = false;
+        self.is_met = false;
         shift
     }
 
-    /// Adds the shift that a breach is of, if there is one and it isn't told yet; whether there is one.
-    pub(crate) fn tell(&mut self, sides: &Sides<'_>, page: &mut Page, breach: Breach) -> bool {
+    /// The part that a breach has in a shift.
+    pub(crate) fn part_of(&mut self, sides: &Sides<'_, '_>, breach: Breach) -> PartOfShift {
         let (Some(old), Some(slot)) = (breach.type_id(), breach.slot()) else {
-            return false;
+            return PartOfShift::Nothing;
         };
         let Some(shift) = self.of(sides, old) else {
-            return false;
+            return PartOfShift::Nothing;
         };
-        let is_of_it = (shift.first..shift.end).contains(&usize::from(slot));
-        if is_of_it && !self.is_told {
-            sides.push_shift(page, old, shift);
-            self.is_told = true;
+        if !(shift.first..shift.end).contains(&usize::from(slot)) {
+            return PartOfShift::Nothing;
         }
-        is_of_it
+        if self.is_met {
+            return PartOfShift::Further;
+        }
+        self.is_met = true;
+        PartOfShift::First(old, shift)
     }
 }
 
@@ -136,7 +148,7 @@ fn only_name(fields: &[FieldInfo]) -> Option<&str> {
     }
 }
 
-impl<'s> Sides<'s> {
+impl<'l, 's> Sides<'l, 's> {
     fn shift(&self, twin: Twin) -> Option<Shift> {
         let old = fields_of(self.old.schema(), twin.old);
         let new = fields_of(self.new.schema(), twin.new);
@@ -144,59 +156,59 @@ impl<'s> Sides<'s> {
     }
 
     /// Adds which fields they are; whether it is one.
-    fn push_shifted(&self, page: &mut Page, old: TypeId, fields: &[FieldInfo]) -> bool {
-        page.push_cut(type_name(self.old.schema(), old).as_bytes());
-        page.push_str(".");
+    fn push_shifted(&self, note: &mut Note, old: TypeId, fields: &[FieldInfo]) -> bool {
+        note.push_cut(type_name(self.old.schema(), old).as_bytes());
+        note.push_str(".");
         if let Some(name) = only_name(fields) {
-            page.push_cut(name.as_bytes());
+            note.push_cut(name.as_bytes());
             return true;
         }
         if let (Some(first), Some(last)) = (fields.first(), fields.last()) {
-            page.push_cut(first.name.as_bytes());
-            page.push_str(" to ");
-            page.push_cut(last.name.as_bytes());
+            note.push_cut(first.name.as_bytes());
+            note.push_str(" to ");
+            note.push_cut(last.name.as_bytes());
         }
         false
     }
 
-    fn push_removed(&self, page: &mut Page, twin: Twin, shift: Shift) {
+    fn push_removed(&self, note: &mut Note, twin: Twin, shift: Shift) {
         let fields = shift.of(fields_of(self.old.schema(), twin.old));
-        let is_one = self.push_shifted(page, twin.old, fields);
-        page.push_str(if is_one {
+        let is_one = self.push_shifted(note, twin.old, fields);
+        note.push_str(if is_one {
             " was removed"
         } else {
             " were removed"
         });
-        self.old.push_field_line(page, twin.old, shift.first as u64);
-        page.push_str(if is_one {
+        self.old.push_field_line(note, twin.old, shift.first as u64);
+        note.push_str(if is_one {
             ": later fields take its place"
         } else {
             ": later fields take their places"
         });
-        page.push_line("; a field is never removed, but marked (deprecated)");
+        note.push_str("; a field is never removed, but marked (deprecated)");
     }
 
-    fn push_inserted(&self, page: &mut Page, twin: Twin, shift: Shift) {
+    fn push_inserted(&self, note: &mut Note, twin: Twin, shift: Shift) {
         let fields = shift.of(fields_of(self.new.schema(), twin.new));
-        let is_one = self.push_shifted(page, twin.old, fields);
-        page.push_str(if is_one {
+        let is_one = self.push_shifted(note, twin.old, fields);
+        note.push_str(if is_one {
             " was inserted"
         } else {
             " were inserted"
         });
-        self.new.push_field_line(page, twin.new, shift.first as u64);
-        page.push_str(": later fields lose their places; ");
-        page.push_line("new fields go after the others, or each field has an (id: ..)");
+        self.new.push_field_line(note, twin.new, shift.first as u64);
+        note.push_str(": later fields lose their places; ");
+        note.push_str("new fields go after the others, or each field has an (id: ..)");
     }
 
     /// Adds what was removed or inserted, and where.
-    fn push_shift(&self, page: &mut Page, old: TypeId, shift: Shift) {
+    pub(crate) fn push_shift(&self, note: &mut Note, old: TypeId, shift: Shift) {
         let Some(twin) = self.twin(old) else {
             return;
         };
         match shift.change {
-            Change::Removed => self.push_removed(page, twin, shift),
-            Change::Inserted => self.push_inserted(page, twin, shift),
+            Change::Removed => self.push_removed(note, twin, shift),
+            Change::Inserted => self.push_inserted(note, twin, shift),
         }
     }
 }

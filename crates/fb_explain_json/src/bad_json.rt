@@ -1,8 +1,14 @@
 //! What is wrong with a text that isn't JSON.
+ghost use Rattle.std.specs.Prelude.{◌≡◌, IfOk, IfSome};
+ghost use Rattle.fb_findings.specs.Findings.{IsLineOf};
+ghost use Rattle.fb_faults.specs.declared.faults.ToolFault.TheVariants.{BadJson};
+
 use crate::syntax::flaw_of;
 use crate::tokens::Flaw;
-use fb_explain_pages::{Page, Source, push_excerpt, push_place};
 use fb_explain_schemas::{FileKind, kind_of_file};
+use fb_faults::ToolFault;
+use fb_findings::{Finding, Note, Source};
+use std::alloc::{AllocError, Global};
 use std::str;
 
 /// Where bytes stop being JSON.
@@ -13,36 +19,30 @@ fn flaw_in(bytes: &[u8]) -> Option<Flaw> {
     }
 }
 
-/// Adds that a file isn't what it was taken for.
-fn push_another(page: &mut Page, source: &Source<'_>, what: &str) {
-    page.push_str(source.path);
-    page.push_line(what);
+/// What a file is that isn't JSON at all.
+fn another_kind(bytes: &[u8]) -> Option<&'static str> {
+    match kind_of_file(bytes)? {
+        FileKind::Buffer => Some("this looks like a buffer: 'flatc json' makes JSON of it"),
+        FileKind::Schema => Some("this looks like a schema: SCHEMA comes first, then JSON"),
+        FileKind::Json => None,
+    }
 }
 
-/// Adds where a text isn't JSON, and why.
-pub fn push_bad_json(page: &mut Page, source: &Source<'_>) {
-    match kind_of_file(source.bytes) {
-        Some(FileKind::Buffer) => {
-            push_another(
-                page,
-                source,
-                ": this looks like a buffer: 'flatc json' makes JSON of it",
-            );
-            return;
-        }
-        Some(FileKind::Schema) => {
-            push_another(
-                page,
-                source,
-                ": this looks like a schema: SCHEMA comes first, then JSON",
-            );
-            return;
-        }
-        _ => {}
+/// Where a text isn't JSON, and why.
+pub fn bad_json_finding<'s>(alloc: Global, source: Source<'s>) -> Result<Finding<'s>, AllocError>
+    ensures fault { IfOk result (λ f. f.fault ≡ BadJson) }
+    ensures line { IfOk result (λ f. IfSome f.place (IsLineOf source.entry.bytes.now)) }
+{
+    let mut note = Note::new(alloc);
+    if let Some(what) = another_kind(source.bytes) {
+        note.push_str(what);
+        return Finding::in_file(ToolFault::BadJson, source.path, None, note);
     }
-    if let Some(flaw) = flaw_in(source.bytes) {
-        push_place(page, source, flaw.offset);
-        page.push_line(flaw.sentence);
-        push_excerpt(page, source.bytes, flaw.offset);
+    match flaw_in(source.bytes) {
+        Some(flaw) => {
+            note.push_str(flaw.sentence);
+            Finding::in_text(ToolFault::BadJson, source, flaw.offset as u64, note)
+        }
+        None => Ok(Finding::of(alloc, ToolFault::BadJson)),
     }
 }

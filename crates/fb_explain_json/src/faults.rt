@@ -1,8 +1,13 @@
 //! What is wrong with a JSON text under a schema.
+ghost use Rattle.std.specs.Prelude.{◌≡◌, IfOk, IfSome};
+ghost use Rattle.fb_findings.specs.Findings.{IsLineOf};
+ghost use Rattle.fb_faults.specs.declared.faults.ToolFault.{ToolFault};
+
 use crate::places::{Name, element_offset, member_offset, rest_of, unknown_member};
-use crate::rules::{BrokenValue, Found, push_rule};
+use crate::rules::{BrokenValue, push_rule};
 use fb_encode::{PIECE, text_fault_path};
-use fb_explain_pages::{Page, Sources, push_excerpt, push_place};
+use fb_faults::ToolFault;
+use fb_findings::{Finding, Note, Sources};
 use fb_json::{JsonFault, Source as JsonSource, Step};
 use fb_layout::Layout;
 use fb_schema::field_at;
@@ -20,20 +25,20 @@ fn field_name(layout: &Layout, step: Step) -> Option<&str> {
 }
 
 /// Adds a path from the root, as `weapons[2].damage`.
-fn push_path(page: &mut Page, layout: &Layout, steps: &[Step]) {
+fn push_path(note: &mut Note, layout: &Layout, steps: &[Step]) {
     let mut is_first = true;
     for step in steps {
         match step {
             Step::Element(index) => {
-                page.push_str("[");
-                page.push_number(*index as u64);
-                page.push_str("]");
+                note.push_str("[");
+                note.push_number(*index as u64);
+                note.push_str("]");
             }
             _ => {
                 if !is_first {
-                    page.push_str(".");
+                    note.push_str(".");
                 }
-                page.push_cut(field_name(layout, *step).unwrap_or("?").as_bytes());
+                note.push_cut(field_name(layout, *step).unwrap_or("?").as_bytes());
             }
         }
         is_first = false;
@@ -54,6 +59,13 @@ fn step_offset(
             None => Ok(None),
         },
     }
+}
+
+/// An offset in a JSON text, and whether the value at a path's end is there, or the object that lacks it.
+#[derive(Clone, Copy)]
+struct Found {
+    offset: usize,
+    is_there: bool,
 }
 
 /// The offset of the value at a path's end, and whether it is there; else of the last object on the way.
@@ -102,47 +114,62 @@ fn found_at(
     Ok((unknown, found))
 }
 
-fn push_at_path(
-    page: &mut Page,
-    layout: &Layout,
-    sources: &Sources<'_>,
+/// What is wrong at the end of a path.
+fn finding_at<'s>(
+    source: JsonSource<'_>,
+    sources: &Sources<'s>,
+    text: &str,
     fault: JsonFault,
     steps: &[Step],
-) {
-    let Ok(text) = str::from_utf8(sources.input.bytes) else {
-        return;
-    };
-    let found = found_at(page.alloc(), layout, text, fault, steps);
-    let Some((unknown, found)) = page.keep(found) else {
-        return;
-    };
-    let offset = found
-        .offset
-        .saturating_add(unknown.as_ref().map_or(0, |name| name.at));
-    push_place(page, &sources.input, offset);
-    if !steps.is_empty() {
-        push_path(page, layout, steps);
-        page.push_str(": ");
-    }
+) -> Result<Finding<'s>, AllocError>
+    ensures fault { IfOk result (λ f. f.fault ≡ ToolFault.Json fault) }
+    ensures line { IfOk result (λ f. IfSome f.place (IsLineOf sources.now.input.bytes.now)) }
+{
+    let JsonSource { alloc, layout, .. } = source;
+    let (unknown, found) = found_at(alloc, layout, text, fault, steps)?;
+    let unknown_at = unknown.as_ref().map_or(0, |name| name.at);
+    let unknown_name = unknown.as_ref().map(|name| name.text.as_str());
     let value = BrokenValue {
         text: rest_of(text, found.offset),
         is_there: found.is_there,
         is_element: matches!(steps.last(), Some(Step::Element(_))),
     };
-    let name = unknown.as_ref().map(|name| name.text.as_str());
-    push_rule(page, layout, sources.limits, fault, value, name);
-    push_excerpt(page, sources.input.bytes, offset);
+    let mut note = Note::new(alloc);
+    push_rule(
+        &mut note,
+        layout,
+        sources.limits,
+        fault,
+        value,
+        unknown_name,
+    );
+    let offset = found.offset.saturating_add(unknown_at) as u64;
+    let mut finding = Finding::in_text(ToolFault::Json(fault), sources.input, offset, note)?;
+    let mut path = Note::new(alloc);
+    push_path(&mut path, layout, steps);
+    finding.path = path.into_text()?;
+    finding.name_place(alloc, layout.schema())?;
+    Ok(finding)
 }
 
-/// Adds what is wrong with a JSON text under a schema.
-pub fn push_json_fault(page: &mut Page, layout: &Layout, sources: &Sources<'_>, fault: JsonFault) {
+/// What is wrong with a JSON text under a schema.
+pub fn json_finding<'s>(
+    alloc: Global,
+    layout: &Layout,
+    sources: &Sources<'s>,
+    fault: JsonFault,
+) -> Result<Finding<'s>, AllocError>
+    ensures fault { IfOk result (λ f. f.fault ≡ ToolFault.Json fault) }
+    ensures line { IfOk result (λ f. IfSome f.place (IsLineOf sources.now.input.bytes.now)) }
+{
     let source = JsonSource {
-        alloc: page.alloc(),
+        alloc,
         layout,
         unknown: sources.unknown_json,
     };
-    let steps = text_fault_path(source, sources.input.bytes, sources.limits, PIECE);
-    if let Some(Some(steps)) = page.keep(steps) {
-        push_at_path(page, layout, sources, fault, steps.as_slice());
+    let steps = text_fault_path(source, sources.input.bytes, sources.limits, PIECE)?;
+    match (str::from_utf8(sources.input.bytes), steps) {
+        (Ok(text), Some(steps)) => finding_at(source, sources, text, fault, steps.as_slice()),
+        _ => Ok(Finding::of(alloc, ToolFault::Json(fault))),
     }
 }

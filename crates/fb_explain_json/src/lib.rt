@@ -1,4 +1,4 @@
-//! Why a JSON text is refused under a schema, in sentences for people.
+//! Why a JSON text is refused under a schema, as findings.
 #![tactic(auto)]
 
 mod bad_json;
@@ -10,5 +10,5 @@ mod rules;
 mod syntax;
 mod tokens;
 
-pub use bad_json::push_bad_json;
-pub use faults::push_json_fault;
+pub use bad_json::bad_json_finding;
+pub use faults::json_finding;

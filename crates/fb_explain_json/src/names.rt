@@ -1,5 +1,5 @@
 //! Names in a JSON text that a schema doesn't have: of values, of unions' members and of fields.
-use fb_explain_pages::{Page, last_word, names_in, push_few, push_nearest};
+use fb_findings::{Note, last_word, names_in, push_few, push_nearest};
 use fb_json::{Place, has_flags};
 use fb_layout::kind_in;
 use fb_schema::{
@@ -20,20 +20,19 @@ fn field_names(alloc: Global, fields: &[FieldInfo]) -> Result<Vec<&str>, AllocEr
 
 /// Adds what no name is, and the nearest of those that there are.
 fn push_no_name(
-    page: &mut Page,
+    note: &mut Note,
     front: &str,
     owner: &str,
     wanted: &str,
     names: Result<Vec<&str>, AllocError>,
 ) {
-    page.push_str(front);
-    page.push_cut(owner.as_bytes());
-    page.push_str(" is called ");
-    page.push_name(wanted.as_bytes());
-    if let Some(names) = page.keep(names) {
-        push_nearest(page, "it has", names.as_slice(), last_word(wanted));
+    note.push_str(front);
+    note.push_cut(owner.as_bytes());
+    note.push_str(" is called ");
+    note.push_name(wanted.as_bytes());
+    if let Some(names) = note.keep(names) {
+        push_nearest(note, "it has", names.as_slice(), last_word(wanted));
     }
-    page.end_line();
 }
 
 /// The first of some flags that an enum doesn't have.
@@ -53,7 +52,7 @@ fn is_parted_wrongly(flag: &str) -> bool {
 }
 
 /// Adds that an enum has no value of a name, or which of several flags it doesn't have.
-fn push_unknown_value(page: &mut Page, schema: &Schema, number: TypeId, text: &str) {
+fn push_unknown_value(note: &mut Note, schema: &Schema, number: TypeId, text: &str) {
     let owner = type_name(schema, number);
     let flags = has_flags(schema, number);
     let wanted = if flags {
@@ -62,37 +61,37 @@ fn push_unknown_value(page: &mut Page, schema: &Schema, number: TypeId, text: &s
         text
     };
     if flags && is_parted_wrongly(wanted) {
-        page.push_str("no value of enum ");
-        page.push_cut(owner.as_bytes());
-        page.push_str(" is called ");
-        page.push_name(wanted.as_bytes());
-        page.push_line(": flags are separated by one space each");
+        note.push_str("no value of enum ");
+        note.push_cut(owner.as_bytes());
+        note.push_str(" is called ");
+        note.push_name(wanted.as_bytes());
+        note.push_str(": flags are separated by one space each");
         return;
     }
-    let names = names_in(page.alloc(), values_of(schema, number));
-    push_no_name(page, "no value of enum ", owner, wanted, names);
+    let names = names_in(note.alloc(), values_of(schema, number));
+    push_no_name(note, "no value of enum ", owner, wanted, names);
 }
 
 /// Adds that a text is no name of the field's enum or union.
 pub(crate) fn push_unknown_name(
-    page: &mut Page,
+    note: &mut Note,
     schema: &Schema,
     token: &str,
     field: Option<&FieldInfo>,
 ) {
     let text = token.trim_matches('"');
     let Some(field) = field else {
-        page.push_line("no such name");
+        note.push_str("no such name");
         return;
     };
     match kind_in(field.shape) {
-        Kind::Enum(number) => push_unknown_value(page, schema, number, text),
+        Kind::Enum(number) => push_unknown_value(note, schema, number, text),
         Kind::Code(number) | Kind::Union(number) => {
-            let names = names_in(page.alloc(), members_of(schema, number));
+            let names = names_in(note.alloc(), members_of(schema, number));
             let owner = type_name(schema, number);
-            push_no_name(page, "no member of union ", owner, text, names);
+            push_no_name(note, "no member of union ", owner, text, names);
         }
-        _ => page.push_line("no such name"),
+        _ => note.push_str("no such name"),
     }
 }
 
@@ -105,39 +104,38 @@ pub(crate) fn is_unknown(schema: &Schema, owner: TypeId, name: &str) -> bool {
 
 /// Adds that a type has no field of a name.
 pub(crate) fn push_unknown_member(
-    page: &mut Page,
+    note: &mut Note,
     schema: &Schema,
     owner: TypeId,
     name: Option<&str>,
 ) {
     let Some(name) = name else {
-        page.push_line("a member has a name that no field has");
+        note.push_str("a member has a name that no field has");
         return;
     };
     // the name is no field's that is in use
     if schema.field_by_name(owner, name).is_some() {
-        page.push_str("the field ");
-        page.push_name(name.as_bytes());
-        page.push_str(" of ");
-        page.push_cut(type_name(schema, owner).as_bytes());
-        page.push_line(" is deprecated, and isn't written any more");
+        note.push_str("the field ");
+        note.push_name(name.as_bytes());
+        note.push_str(" of ");
+        note.push_cut(type_name(schema, owner).as_bytes());
+        note.push_str(" is deprecated, and isn't written any more");
         return;
     }
-    page.push_cut(type_name(schema, owner).as_bytes());
-    page.push_str(" has no field called ");
-    page.push_name(name.as_bytes());
-    let names = field_names(page.alloc(), fields_of(schema, owner));
-    if let Some(names) = page.keep(names) {
-        push_nearest(page, "it has", names.as_slice(), name);
+    note.push_cut(type_name(schema, owner).as_bytes());
+    note.push_str(" has no field called ");
+    note.push_name(name.as_bytes());
+    let names = field_names(note.alloc(), fields_of(schema, owner));
+    if let Some(names) = note.keep(names) {
+        push_nearest(note, "it has", names.as_slice(), name);
     }
-    page.end_line();
 }
 
 /// Adds a member's name as JSON writes it.
-fn push_quoted(page: &mut Page, name: &str) {
-    page.push_str("\"");
-    page.push_cut(name.as_bytes());
-    page.push_str("\"");
+fn push_quoted(note: &mut Note, name: &str) {
+    note.push_str("\"");
+    note.push_cut(name.as_bytes());
+    note.push_str("\"");
 }
 
 /// The field of a place.
@@ -152,22 +150,21 @@ fn missing_half(schema: &Schema, place: Place, has_value: bool) -> Option<&Field
 }
 
 /// Adds which half of a union is missing, and the member that has it.
-pub(crate) fn push_half(page: &mut Page, schema: &Schema, place: Place, has_value: bool) {
+pub(crate) fn push_half(note: &mut Note, schema: &Schema, place: Place, has_value: bool) {
     let Some(field) = missing_half(schema, place, has_value) else {
-        page.push_line("a union needs both its type and its value");
+        note.push_str("a union needs both its type and its value");
         return;
     };
-    page.push_str(if has_value {
+    note.push_str(if has_value {
         "the union has a value, and its type is missing or NONE: add "
     } else {
         "the union has a type and no value: add "
     });
-    push_quoted(page, field.name.as_str());
+    push_quoted(note, field.name.as_str());
     if let Shape::One(Kind::Code(union)) = field.shape {
-        let names = names_in(page.alloc(), members_of(schema, union));
-        if let Some(names) = page.keep(names) {
-            push_few(page, "it is one of", names.as_slice());
+        let names = names_in(note.alloc(), members_of(schema, union));
+        if let Some(names) = note.keep(names) {
+            push_few(note, "it is one of", names.as_slice());
         }
     }
-    page.end_line();
 }

@@ -2,18 +2,11 @@
 use crate::names::{field_of, push_half, push_unknown_member, push_unknown_name};
 use crate::numbers::push_not_whole;
 use crate::tokens::number_of;
-use fb_explain_pages::{Page, push_shape, range_of_base};
+use fb_findings::{Note, push_shape, range_of_base};
 use fb_json::{JsonFault, Place};
 use fb_layout::{Layout, kind_in};
 use fb_schema::{Base, FieldInfo, Kind, Shape, kind_name, type_name};
 use fb_value::Limits;
-
-/// An offset in a JSON text, and whether the value at a path's end is there, or the object that lacks it.
-#[derive(Clone, Copy)]
-pub(crate) struct Found {
-    pub(crate) offset: usize,
-    pub(crate) is_there: bool,
-}
 
 /// What a JSON text has where a rule is broken.
 #[derive(Clone, Copy)]
@@ -61,26 +54,25 @@ fn written_as(kind: Kind) -> &'static str {
 }
 
 fn push_wrong_shape(
-    page: &mut Page,
+    note: &mut Note,
     layout: &Layout,
     text: &str,
     field: Option<&FieldInfo>,
     is_element: bool,
 ) {
-    page.push_str(kind_of(text));
+    note.push_str(kind_of(text));
     let Some(field) = field else {
-        page.push_line(" where the root's object must be");
+        note.push_str(" where the root's object must be");
         return;
     };
-    page.push_str(" where ");
+    note.push_str(" where ");
     match field.shape {
-        Shape::Many(_) if !is_element => page.push_str("an array"),
-        Shape::Many(kind) | Shape::One(kind) => page.push_str(written_as(kind)),
+        Shape::Many(_) if !is_element => note.push_str("an array"),
+        Shape::Many(kind) | Shape::One(kind) => note.push_str(written_as(kind)),
     }
-    page.push_str(" must be: the field's type is ");
+    note.push_str(" must be: the field's type is ");
     let name = kind_name(layout.schema(), kind_in(field.shape));
-    push_shape(page, field.shape, name);
-    page.end_line();
+    push_shape(note, field.shape, name);
 }
 
 /// The basic type of a field's numbers.
@@ -97,52 +89,51 @@ fn base_of(layout: &Layout, field: &FieldInfo) -> Option<Base> {
     }
 }
 
-fn push_out_of_range(page: &mut Page, layout: &Layout, text: &str, field: Option<&FieldInfo>) {
-    page.push_cut(token_of(text).as_bytes());
+fn push_out_of_range(note: &mut Note, layout: &Layout, text: &str, field: Option<&FieldInfo>) {
+    note.push_cut(token_of(text).as_bytes());
     let Some(field) = field else {
-        page.push_line(" is out of range");
+        note.push_str(" is out of range");
         return;
     };
     match base_of(layout, field) {
-        Some(Base::Bool) => page.push_line(" isn't true, false, 0 or 1"),
+        Some(Base::Bool) => note.push_str(" isn't true, false, 0 or 1"),
         Some(base) => {
-            page.push_str(" isn't in ");
-            page.push_str(range_of_base(base));
-            page.push_str(", the range of ");
-            page.push_str(kind_name(layout.schema(), kind_in(field.shape)));
-            page.end_line()
+            note.push_str(" isn't in ");
+            note.push_str(range_of_base(base));
+            note.push_str(", the range of ");
+            note.push_str(kind_name(layout.schema(), kind_in(field.shape)))
         }
-        None => page.push_line(" is out of range"),
+        None => note.push_str(" is out of range"),
     }
 }
 
 fn push_missing(
-    page: &mut Page,
+    note: &mut Note,
     layout: &Layout,
     place: Place,
     field: Option<&FieldInfo>,
     rest: &str,
 ) {
-    page.push_cut(type_name(layout.schema(), place.owner).as_bytes());
-    page.push_str(" needs the field ");
-    page.push_name(field.map_or("?", |field| field.name.as_str()).as_bytes());
-    page.push_line(rest);
+    note.push_cut(type_name(layout.schema(), place.owner).as_bytes());
+    note.push_str(" needs the field ");
+    note.push_name(field.map_or("?", |field| field.name.as_str()).as_bytes());
+    note.push_str(rest);
 }
 
-fn push_limit(page: &mut Page, front: &str, most: u64, rest: &str) {
-    page.push_str(front);
-    page.push_number(most);
-    page.push_line(rest);
+fn push_limit(note: &mut Note, front: &str, most: u64, rest: &str) {
+    note.push_str(front);
+    note.push_number(most);
+    note.push_str(rest);
 }
 
-/// Adds the rule that a value breaks, and ends the line. `name` is that of an unknown member.
+/// Adds the rule that a value breaks; `unknown` is the name of an unknown member.
 pub(crate) fn push_rule(
-    page: &mut Page,
+    note: &mut Note,
     layout: &Layout,
     limits: Limits,
     fault: JsonFault,
     value: BrokenValue<'_>,
-    name: Option<&str>,
+    unknown: Option<&str>,
 ) {
     let Some(place) = fault.place() else {
         return;
@@ -150,40 +141,40 @@ pub(crate) fn push_rule(
     let field = field_of(layout.schema(), place);
     let text = value.text;
     match fault {
-        JsonFault::WrongShape(_) => push_wrong_shape(page, layout, text, field, value.is_element),
-        JsonFault::NotWhole(_) => push_not_whole(page, token_of(text)),
-        JsonFault::OutOfRange(_) => push_out_of_range(page, layout, text, field),
+        JsonFault::WrongShape(_) => push_wrong_shape(note, layout, text, field, value.is_element),
+        JsonFault::NotWhole(_) => push_not_whole(note, token_of(text)),
+        JsonFault::OutOfRange(_) => push_out_of_range(note, layout, text, field),
         JsonFault::UnknownName(_) => push_unknown_name(
-            page,
+            note,
             layout.schema(),
             token_of(text),
             field,
         ),
         JsonFault::UnknownMember(_) => push_unknown_member(
-            page,
+            note,
             layout.schema(),
             place.owner,
-            name,
+            unknown,
         ),
         JsonFault::MissingMember(_) => {
-            push_missing(page, layout, place, field, ": a struct has all its fields")
+            push_missing(note, layout, place, field, ": a struct has all its fields")
         }
         JsonFault::MissingRequired(_) => push_missing(
-            page,
+            note,
             layout,
             place,
             field,
             ": it is required",
         ),
-        JsonFault::UnionMismatch(_) => push_half(page, layout.schema(), place, value.is_there),
+        JsonFault::UnionMismatch(_) => push_half(note, layout.schema(), place, value.is_there),
         JsonFault::TooDeep(_) => push_limit(
-            page,
+            note,
             "tables are nested deeper than ",
             u64::from(limits.most_depth()),
             " levels",
         ),
         JsonFault::TooManyCells(_) => push_limit(
-            page,
+            note,
             "more than ",
             u64::from(limits.most_cells()),
             " tables, strings, vectors, elements and bytes of strings",

@@ -1,6 +1,6 @@
 //! Where a text stops being JSON, and why.
 use crate::tokens::{Flaw, number_end, sentence_of, string_end, word_end};
-use fb_explain_pages::front_len;
+use fb_findings::front_len;
 
 // No text is JSON whose brackets are nested deeper.
 const DEEPEST: usize = 127;
@@ -11,13 +11,13 @@ enum Next {
     /// The whole value, or a member's.
     Value,
     FirstElement,
-    /// An element behind a comma.
+    /// An element after a comma.
     Element,
     FirstName,
-    /// A name behind a comma.
+    /// A name after a comma.
     Name,
     Colon,
-    /// What may be behind a value: a comma or a bracket, and nothing behind the whole one.
+    /// What may be after a value: a comma or a bracket, and nothing after the whole one.
     Rest,
 }
 
@@ -71,28 +71,28 @@ const COMMA_BEFORE_BRACKET: &str = "a comma may not be before a closing bracket"
 const NO_NAME: &str = "a name in double quotes is missing before this";
 
 /// What is wrong where a value must be.
-fn value_sentence(text: &str, at: usize, byte: u8, behind_comma: bool) -> &'static str {
+fn value_sentence(text: &str, at: usize, byte: u8, after_comma: bool) -> &'static str {
     match byte {
-        b']' | b'}' if behind_comma => COMMA_BEFORE_BRACKET,
+        b']' | b'}' if after_comma => COMMA_BEFORE_BRACKET,
         b']' | b'}' | b',' | b':' => "a value is missing before this",
         _ => sentence_of(text, at),
     }
 }
 
 /// Where the text, number or word ends that is at an offset.
-fn value_end(text: &str, at: usize, byte: u8, behind_comma: bool) -> Result<usize, Flaw> {
+fn value_end(text: &str, at: usize, byte: u8, after_comma: bool) -> Result<usize, Flaw> {
     match byte {
         b'"' => string_end(text, at),
         b'-' | b'0'..=b'9' => number_end(text, at),
         b'a'..=b'z' | b'A'..=b'Z' | b'_' => word_end(text, at),
-        _ => Err(Flaw::at(at, value_sentence(text, at, byte, behind_comma))),
+        _ => Err(Flaw::at(at, value_sentence(text, at, byte, after_comma))),
     }
 }
 
 /// What is wrong where a member's name must be.
-fn name_sentence(text: &str, at: usize, byte: u8, behind_comma: bool) -> &'static str {
+fn name_sentence(text: &str, at: usize, byte: u8, after_comma: bool) -> &'static str {
     match byte {
-        b']' | b'}' if behind_comma => COMMA_BEFORE_BRACKET,
+        b']' | b'}' if after_comma => COMMA_BEFORE_BRACKET,
         b']' | b',' | b':' => NO_NAME,
         _ if byte == b'_' || byte.is_ascii_alphabetic() => {
             "a name is written in double quotes, and so is a text"
@@ -107,12 +107,12 @@ impl Scan {
         Err(Flaw::at(self.at, sentence))
     }
 
-    fn behind(self, at: usize, next: Next) -> Result<Scan, Flaw> {
+    fn moved_to(self, at: usize, next: Next) -> Result<Scan, Flaw> {
         Ok(Scan { at, next, ..self })
     }
 
-    fn behind_sign(self, next: Next) -> Result<Scan, Flaw> {
-        self.behind(self.at.saturating_add(1), next)
+    fn after_sign(self, next: Next) -> Result<Scan, Flaw> {
+        self.moved_to(self.at.saturating_add(1), next)
     }
 
     fn opened(self, is_object: bool, next: Next) -> Result<Scan, Flaw> {
@@ -123,7 +123,7 @@ impl Scan {
             open: self.open.opened(is_object),
             ..self
         }
-        .behind_sign(next)
+        .after_sign(next)
     }
 
     fn closed(self) -> Result<Scan, Flaw> {
@@ -131,34 +131,34 @@ impl Scan {
             open: self.open.closed(),
             ..self
         }
-        .behind_sign(Next::Rest)
+        .after_sign(Next::Rest)
     }
 
     /// Passes a value, or the bracket that opens one.
-    fn value(self, text: &str, byte: u8, behind_comma: bool) -> Result<Scan, Flaw> {
+    fn value(self, text: &str, byte: u8, after_comma: bool) -> Result<Scan, Flaw> {
         match byte {
             b'{' => self.opened(true, Next::FirstName),
             b'[' => self.opened(false, Next::FirstElement),
-            _ => self.behind(value_end(text, self.at, byte, behind_comma)?, Next::Rest),
+            _ => self.moved_to(value_end(text, self.at, byte, after_comma)?, Next::Rest),
         }
     }
 
     /// Passes a member's name.
-    fn name(self, text: &str, byte: u8, behind_comma: bool) -> Result<Scan, Flaw> {
+    fn name(self, text: &str, byte: u8, after_comma: bool) -> Result<Scan, Flaw> {
         match byte {
-            b'"' => self.behind(string_end(text, self.at)?, Next::Colon),
-            _ => self.refused(name_sentence(text, self.at, byte, behind_comma)),
+            b'"' => self.moved_to(string_end(text, self.at)?, Next::Colon),
+            _ => self.refused(name_sentence(text, self.at, byte, after_comma)),
         }
     }
 
-    /// Passes what is behind an element or a member's value.
+    /// Passes what is after an element or a member's value.
     fn rest(self, text: &str, byte: u8) -> Result<Scan, Flaw> {
         let in_object = self.open.is_in_object();
         match byte {
             _ if self.open.depth == 0 => {
                 self.refused("a JSON text is one value, and this is after it")
             }
-            b',' => self.behind_sign(if in_object { Next::Name } else { Next::Element }),
+            b',' => self.after_sign(if in_object { Next::Name } else { Next::Element }),
             b'}' if in_object => self.closed(),
             b']' if !in_object => self.closed(),
             b'}' => self.refused("an array is open here, and ']' closes it"),
@@ -178,7 +178,7 @@ impl Scan {
             Next::Element => self.value(text, byte, true),
             Next::FirstName => self.name(text, byte, false),
             Next::Name => self.name(text, byte, true),
-            Next::Colon if byte == b':' => self.behind_sign(Next::Value),
+            Next::Colon if byte == b':' => self.after_sign(Next::Value),
             Next::Colon => self.refused("a colon is missing between a name and its value"),
             Next::Rest => self.rest(text, byte),
         }

@@ -1,6 +1,6 @@
 //! The texts, numbers and words of JSON, and what is wrong with one.
 use crate::places::rest_of;
-use fb_explain_pages::{WORD_BYTES, front_len};
+use fb_findings::{WORD_BYTES, front_len};
 
 const DIGITS: &[u8] = b"0123456789";
 
@@ -26,7 +26,7 @@ fn unit_at(text: &str, at: usize) -> Option<u32> {
     u32::from_str_radix(digits, 16).ok()
 }
 
-/// The length of an escape that begins with a `u` behind its backslash.
+/// The length of an escape that begins with a `u` after its backslash.
 fn unit_escape_len(text: &str, at: usize) -> Result<usize, Flaw> {
     let Some(unit) = unit_at(text, at.saturating_add(2)) else {
         return Err(Flaw::at(at, "the escape \\u has four hexadecimal digits after it"));
@@ -108,7 +108,7 @@ pub(crate) fn number_of(text: &str) -> &str {
     text.get(..end.unwrap_or(text.len())).unwrap_or(text)
 }
 
-/// What is wrong with a number behind its point and its exponent's sign.
+/// What is wrong with a number after its point and its exponent's sign.
 fn exponent_sentence(exponent: &str) -> Option<&'static str> {
     let mark = exponent.as_bytes().first();
     if !matches!(mark, Some(b'e' | b'E')) {
@@ -129,7 +129,7 @@ fn exponent_sentence(exponent: &str) -> Option<&'static str> {
     None
 }
 
-/// What is wrong with a number behind its whole digits.
+/// What is wrong with a number after its whole digits.
 fn fraction_sentence(rest: &str) -> Option<&'static str> {
     let Some(digits) = rest.strip_prefix('.') else {
         return if rest.is_empty() {

@@ -1,4 +1,3 @@
 pub mod Lines
-pub mod Positions
 pub mod Printed
 pub mod Titles

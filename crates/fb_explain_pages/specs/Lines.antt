@@ -13,7 +13,7 @@ pub record IsLine (line : List ℕ) : Type 0 where
   pub shown : All (λ character. 0 < columns_of character) line
   pub narrow : sum_by columns_of line ≤ 120
 
--- the text of lines, with a line feed behind each
+-- the text of lines, with a line feed after each
 abbrev pub ended : List (List ℕ) → List ℕ
 ended [] = []
 ended (line ∷ lines) = line ++ 10 ∷ ended lines
@@ -24,12 +24,12 @@ pub record IsPage (text : List ℕ) : Type 0 where
   pub are_lines : All IsLine lines
   pub spelled : text ≡ ended lines
 
--- a text, and how many columns are taken behind its last line feed
+-- a text, and how many columns are taken after its last line feed
 pub record Written : Type 0 where
   pub text : List ℕ
   pub columns : ℕ
 
--- Ended lines, and one behind them that goes on.
+-- Ended lines, and one after them that goes on.
 pub record IsWritten (written : Written) : Type 0 where
   pub lines : List (List ℕ)
   pub line : List ℕ

@@ -6,7 +6,7 @@ use Rattle.fb_explain_pages.specs.Printed.{is_printed}
 abbrev pub is_digit : ℕ → Bool
 is_digit byte = nat_le 48 byte && nat_le byte 57
 
--- a number with the decimal digits that a text begins with behind it
+-- a number with the decimal digits after it that a text begins with
 abbrev pub with_digits : ℕ → List ℕ → ℕ
 with_digits read [] = read
 with_digits read (byte ∷ bytes) = if is_digit byte then with_digits (10 * read + (byte - 48)) bytes else read

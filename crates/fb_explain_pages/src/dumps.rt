@@ -1,5 +1,5 @@
 //! Bytes of a buffer in hexadecimal, with a place marked.
-use crate::pages::Page;
+use crate::wrapping::Page;
 use itoa::Buffer;
 
 // How many bytes a row has, and where there are few columns.
@@ -18,8 +18,9 @@ const CELL: usize = 3;
 fn push_offset(page: &mut Page, offset: usize) {
     let mut buffer = Buffer::new();
     let digits = buffer.format(offset);
-    page.push_spaces(OFFSET_DIGITS.saturating_sub(digits.len()));
-    page.push_str(digits);
+    page.line
+        .push_spaces(OFFSET_DIGITS.saturating_sub(digits.len()));
+    page.line.push_str(digits);
 }
 
 fn row_len(page: &Page) -> usize {
@@ -34,26 +35,26 @@ fn row_len(page: &Page) -> usize {
 fn push_row(page: &mut Page, bytes: &[u8], start: usize) {
     let most = row_len(page);
     push_offset(page, start);
-    page.push_str(" ");
+    page.line.push_str(" ");
     let row = bytes.get(start..).unwrap_or(&[]);
     let row = row.get(..most).unwrap_or(row);
     for byte in row {
-        page.push_str(" ");
-        page.push_hex(*byte);
+        page.line.push_str(" ");
+        page.line.push_hex(*byte);
     }
-    page.push_spaces(
+    page.line.push_spaces(
         CELL.saturating_mul(most.saturating_sub(row.len()))
             .saturating_add(2),
     );
     for byte in row {
         let is_shown = byte.is_ascii_graphic() || *byte == b' ';
-        page.push_shown(&[if is_shown { *byte } else { b'.' }]);
+        page.line.push_shown(&[if is_shown { *byte } else { b'.' }]);
     }
     page.end_line();
 }
 
 /// Adds the bytes round an offset, with a mark below it.
-pub fn push_dump(page: &mut Page, bytes: &[u8], offset: usize) {
+pub(crate) fn push_dump(page: &mut Page, bytes: &[u8], offset: usize) {
     let marked = offset.min(bytes.len());
     let row = row_len(page);
     let column = marked.checked_rem(row).unwrap_or(0);
@@ -62,7 +63,7 @@ pub fn push_dump(page: &mut Page, bytes: &[u8], offset: usize) {
         push_row(page, bytes, row_before);
     }
     push_row(page, bytes, own);
-    page.push_spaces(
+    page.line.push_spaces(
         OFFSET_DIGITS
             .saturating_add(2)
             .saturating_add(CELL.saturating_mul(column)),

@@ -1,7 +1,7 @@
 //! A line of a text, with a caret under a place.
-use crate::pages::{Page, shown_width};
-use crate::positions::line_start;
+use crate::wrapping::{Page, shown_width};
 use bstr::{ByteSlice, decode_last_utf8, decode_utf8};
+use fb_findings::line_start;
 
 // Before the line, and for the dots where a part of it is left out.
 const INDENT: usize = 2;
@@ -18,7 +18,7 @@ struct Part<'t> {
     columns: usize,
 }
 
-/// The end of a line's front that is shown in so many columns.
+/// The end of a line's front that is shown in `most` columns.
 fn end_of(front: &[u8], most: usize) -> Part<'_> {
     let mut start = front.len();
     let mut columns = 0usize;
@@ -37,7 +37,7 @@ fn end_of(front: &[u8], most: usize) -> Part<'_> {
     }
 }
 
-/// The beginning of a line's rest that is shown in so many columns.
+/// The beginning of a line's rest that is shown in `most` columns.
 fn beginning_of(rest: &[u8], most: usize) -> Part<'_> {
     let mut end = 0usize;
     let mut columns = 0usize;
@@ -64,7 +64,7 @@ fn rest_of_line(text: &[u8]) -> &[u8] {
 }
 
 /// Adds the line of a place, cut round it where it is long, and a caret under the place.
-pub fn push_excerpt(page: &mut Page, text: &[u8], offset: usize) {
+pub(crate) fn push_excerpt(page: &mut Page, text: &[u8], offset: usize) {
     let before = text.get(..offset).unwrap_or(text);
     let start = line_start(before);
     let front = before.get(start..).unwrap_or(&[]);
@@ -78,17 +78,17 @@ pub fn push_excerpt(page: &mut Page, text: &[u8], offset: usize) {
     let left = end_of(front, half);
     let right = beginning_of(rest, half.saturating_sub(SPARED));
     let mut caret = INDENT.saturating_add(left.columns);
-    page.push_spaces(INDENT);
+    page.line.push_spaces(INDENT);
     if left.bytes.len() < front.len() {
-        page.push_str(DOTS);
+        page.line.push_str(DOTS);
         caret = caret.saturating_add(DOTS.len());
     }
-    page.push_shown(left.bytes);
-    page.push_shown(right.bytes);
+    page.line.push_shown(left.bytes);
+    page.line.push_shown(right.bytes);
     if right.bytes.len() < rest.len() {
-        page.push_str(DOTS);
+        page.line.push_str(DOTS);
     }
     page.end_line();
-    page.push_spaces(caret);
+    page.line.push_spaces(caret);
     page.push_line("^");
 }

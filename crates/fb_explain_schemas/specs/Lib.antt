@@ -1,1 +1,2 @@
 pub mod FoundInText
+pub mod Refusals

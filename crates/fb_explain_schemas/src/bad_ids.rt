@@ -1,13 +1,13 @@
 //! Ids of a table's fields that don't name each of its slots once.
-use fb_explain_pages::{Page, Source, push_excerpt, push_place};
+use fb_findings::Note;
 use fb_resolve::{
     ResolvedDecl, ResolvedField, ResolvedTable, ResolvedType, WrongIds, union_in, wrong_ids,
 };
 
 /// A field's name, and its offset.
-fn name_of<'s>(resolved: &ResolvedField<'_, 's>) -> (&'s str, usize) {
+fn name_of<'s>(resolved: &ResolvedField<'_, 's>) -> (&'s str, u64) {
     let field = resolved.field;
-    (field.name.text, field.name.at as usize)
+    (field.name.text, field.name.at)
 }
 
 /// The first and the last slot that a field takes by its id.
@@ -54,15 +54,15 @@ fn wrong_field<'f, 'd, 's>(
 }
 
 /// Adds why a field's id gives it no slot.
-fn push_no_slot(page: &mut Page, field: &ResolvedField<'_, '_>, table: &str) {
+fn push_no_slot(note: &mut Note, field: &ResolvedField<'_, '_>, table: &str) {
     if field.attributes.id.is_some() {
-        page.push_line(" is a union, and its type has the id before its own: so it is 1 at least");
+        note.push_str(" is a union, and its type has the id before its own: so it is 1 at least");
     } else if field.attributes.has_id {
-        page.push_line(" has an id that is no number from 0 on");
+        note.push_str(" has an id that is no number from 0 on");
     } else {
-        page.push_str(" has no id, and others of ");
-        page.push_name(table.as_bytes());
-        page.push_line(" have one: give it to each field, from 0 on");
+        note.push_str(" has no id, and others of ");
+        note.push_name(table.as_bytes());
+        note.push_str(" have one: give it to each field, from 0 on");
     }
 }
 
@@ -74,29 +74,29 @@ fn first_with<'s>(fields: &[ResolvedField<'_, 's>], slot: u64) -> &'s str {
 
 /// Adds that a field before has a slot of a field already.
 fn push_twice(
-    page: &mut Page,
+    note: &mut Note,
     fields: &[ResolvedField<'_, '_>],
     field: &ResolvedField<'_, '_>,
     slot: u64,
 ) {
-    page.push_str(if field.attributes.id == Some(slot) {
+    note.push_str(if field.attributes.id == Some(slot) {
         " has the id "
     } else {
         " has for its type the id "
     });
-    page.push_number(slot);
-    page.push_str(", which ");
-    page.push_name(first_with(fields, slot).as_bytes());
-    page.push_line(" has already");
+    note.push_number(slot);
+    note.push_str(", which ");
+    note.push_name(first_with(fields, slot).as_bytes());
+    note.push_str(" has already");
 }
 
 /// Adds that no field has a slot, and a field has one after it.
-fn push_missing(page: &mut Page, field: &ResolvedField<'_, '_>, slot: u64) {
-    page.push_str(" has the id ");
-    page.push_number(field.attributes.id.unwrap_or(0));
-    page.push_str(", and no field has ");
-    page.push_number(slot);
-    page.push_line(": ids go from 0 on without a gap");
+fn push_missing(note: &mut Note, field: &ResolvedField<'_, '_>, slot: u64) {
+    note.push_str(" has the id ");
+    note.push_number(field.attributes.id.unwrap_or(0));
+    note.push_str(", and no field has ");
+    note.push_number(slot);
+    note.push_str(": ids go from 0 on without a gap");
 }
 
 /// The table whose name is at an offset.
@@ -118,31 +118,23 @@ fn declared_at<'s>(table: &ResolvedTable<'_, 's>) -> (&'s str, u64) {
     (declared.name.text, declared.name.at)
 }
 
-/// Adds the field whose id is wrong in the table at an offset, and why.
+/// Adds which field's id is wrong in the table at an offset, and why. Returns the offset of the field.
 pub(crate) fn push_bad_ids(
-    page: &mut Page,
-    source: &Source<'_>,
+    note: &mut Note,
     types: &[ResolvedType<'_, '_, '_>],
     offset: u64,
-) {
-    let Some(table) = table_at(types, offset) else {
-        return;
-    };
+) -> Option<u64> {
+    let table = table_at(types, offset)?;
     let fields = table.fields.as_slice();
-    let Some(wrong) = wrong_ids(table) else {
-        return;
-    };
-    let Some(field) = wrong_field(fields, wrong) else {
-        return;
-    };
+    let wrong = wrong_ids(table)?;
+    let field = wrong_field(fields, wrong)?;
     let (name, at) = name_of(field);
-    push_place(page, source, at);
-    page.push_str("the field ");
-    page.push_name(name.as_bytes());
+    note.push_str("the field ");
+    note.push_name(name.as_bytes());
     match wrong {
-        WrongIds::NoSlot(_) => push_no_slot(page, field, declared_at(table).0),
-        WrongIds::Twice(slot) => push_twice(page, fields, field, slot),
-        WrongIds::Missing(slot) => push_missing(page, field, slot),
+        WrongIds::NoSlot(_) => push_no_slot(note, field, declared_at(table).0),
+        WrongIds::Twice(slot) => push_twice(note, fields, field, slot),
+        WrongIds::Missing(slot) => push_missing(note, field, slot),
     }
-    push_excerpt(page, source.bytes, at);
+    Some(at)
 }

@@ -1,5 +1,5 @@
 //! A value of an enum whose number isn't one that it can have.
-use fb_explain_pages::{Page, range_of_base};
+use fb_findings::{Note, range_of_base};
 use fb_resolve::{EnumValues, ResolvedDecl, ResolvedType, ResolvedValue, bits_of, may_be_written};
 use fb_schema::{Base, base_name};
 
@@ -48,71 +48,68 @@ fn first_name<'s>(values: &[ResolvedValue<'_, 's>], number: i128) -> &'s str {
 }
 
 /// Adds that a value's number isn't in the range of the enum's type.
-fn push_out_of_range(page: &mut Page, value: &ResolvedValue<'_, '_>, flags: bool, base: Base) {
-    page.push_str(if flags { " is bit " } else { " is " });
-    page.push_integer(value.number);
+fn push_out_of_range(note: &mut Note, value: &ResolvedValue<'_, '_>, flags: bool, base: Base) {
+    note.push_str(if flags { " is bit " } else { " is " });
+    note.push_integer(value.number);
     if !named(value).is_numbered {
-        page.push_str(", one more than the one before");
+        note.push_str(", one more than the one before");
     }
-    page.push_str(", and ");
-    page.push_str(base_name(base));
-    page.push_str(" has ");
+    note.push_str(", and ");
+    note.push_str(base_name(base));
+    note.push_str(" has ");
     if flags {
-        page.push_str("bits 0 to ");
-        page.push_number(u64::from(bits_of(base)).saturating_sub(1));
-        page.end_line();
+        note.push_str("bits 0 to ");
+        note.push_number(u64::from(bits_of(base)).saturating_sub(1));
     } else {
-        page.push_line(range_of_base(base));
+        note.push_str(range_of_base(base));
     }
 }
 
 /// Adds which value has the same number already.
-fn push_taken(page: &mut Page, value: &ResolvedValue<'_, '_>, flags: bool, first: &str) {
-    page.push_str(if flags {
+fn push_taken(note: &mut Note, value: &ResolvedValue<'_, '_>, flags: bool, first: &str) {
+    note.push_str(if flags {
         " is bit "
     } else {
         " has the number "
     });
-    page.push_integer(value.number);
-    page.push_str(if flags { ", as " } else { ", which " });
-    page.push_name(first.as_bytes());
-    page.push_line(if flags { " is already" } else { " has already" });
+    note.push_integer(value.number);
+    note.push_str(if flags { ", as " } else { ", which " });
+    note.push_name(first.as_bytes());
+    note.push_str(if flags { " is already" } else { " has already" });
 }
 
 /// Adds what is wrong with the number of a value among others.
 fn push_wrong_number(
-    page: &mut Page,
+    note: &mut Note,
     declared: &EnumValues<'_, '_>,
     at: usize,
     value: &ResolvedValue<'_, '_>,
 ) {
     let flags = declared.bit_flags;
-    page.push_str(if flags {
+    note.push_str(if flags {
         "with bit_flags the value "
     } else {
         "the value "
     });
-    page.push_name(named(value).name.as_bytes());
+    note.push_name(named(value).name.as_bytes());
     match declared.base {
         Some(base) if !may_be_written(base, flags, value.number) => {
-            push_out_of_range(page, value, flags, base)
+            push_out_of_range(note, value, flags, base)
         }
         _ => {
             let before = declared.values.get(..at).unwrap_or(&[]);
             let name = first_name(before, value.number);
-            push_taken(page, value, flags, name)
+            push_taken(note, value, flags, name)
         }
     }
 }
 
-/// Adds what is wrong with the number of an enum's value at an offset, and ends the line.
-pub(crate) fn push_bad_value(page: &mut Page, types: &[ResolvedType<'_, '_, '_>], offset: u64) {
+/// Adds what is wrong with the number of an enum's value at an offset.
+pub(crate) fn push_bad_value(note: &mut Note, types: &[ResolvedType<'_, '_, '_>], offset: u64) {
     let Some((declared, at)) = values_around(types, offset) else {
-        page.end_line();
         return;
     };
-    match declared.values.get(at) {
-        Some(value) => push_wrong_number(page, declared, at, value),
-        None => page.end_line(),
+    if let Some(value) = declared.values.get(at) {
+        push_wrong_number(note, declared, at, value)
     }
 }

@@ -1,4 +1,4 @@
-//! How a rule on declarations is broken, which what their names and numbers mean tells.
+//! How a rule on declarations is broken, by what their names and numbers mean.
 use crate::bad_ids::push_bad_ids;
 use crate::bad_values::push_bad_value;
 use crate::first_names::first_named;
@@ -6,7 +6,7 @@ use crate::schema_tokens::{name_at, token_at};
 use crate::struct_fields::{Misplaced, misplaced_at};
 use crate::type_names::is_base;
 use crate::unknown_types::push_unknown_type;
-use fb_explain_pages::{Page, Position, Source, value_of};
+use fb_findings::{Note, Position, value_of};
 use fb_resolve::{Outline, Resolved, ResolvedType};
 use fb_syntax::Decls;
 use std::str;
@@ -22,8 +22,6 @@ pub(crate) enum Rule {
     StructsInOrder,
     /// The numbers of an enum's values differ, and are of its type.
     EnumNumbers,
-    /// The ids of a table's fields name each of its slots once.
-    Ids,
 }
 
 /// A token as a text; empty where it isn't UTF-8.
@@ -49,42 +47,41 @@ fn reserved_sentence(name: &[u8]) -> Option<&'static str> {
 }
 
 /// Adds that a name is taken, and the line of its first declaration.
-fn push_first(page: &mut Page, text: &[u8], first: Option<u64>) {
-    page.push_str(" is taken: it is declared before");
+fn push_first(note: &mut Note, text: &[u8], first: Option<u64>) {
+    note.push_str(" is taken: it is declared before");
     match first {
         Some(first) => {
-            page.push_str(", in line ");
-            page.push_number(Position::of(text, first as usize).line as u64);
-            page.end_line();
+            note.push_str(", in line ");
+            note.push_number(Position::of(text, first as usize).line as u64);
         }
-        None => page.push_line(" (a union field 'x' takes 'x_type' too)"),
+        None => note.push_str(" (a union field 'x' takes 'x_type' too)"),
     }
 }
 
 fn push_duplicate(
-    page: &mut Page,
+    note: &mut Note,
     outline: &Outline<'_, '_>,
     text: &[u8],
     token: &[u8],
     offset: u64,
 ) {
-    page.push_str("the name ");
-    page.push_name(token);
+    note.push_str("the name ");
+    note.push_name(token);
     match reserved_sentence(token) {
-        Some(sentence) => page.push_line(sentence),
-        None => push_first(page, text, first_named(outline, text_of(token), offset)),
+        Some(sentence) => note.push_str(sentence),
+        None => push_first(note, text, first_named(outline, text_of(token), offset)),
     }
 }
 
 /// Adds why a struct may not have the struct that is named at an offset.
-fn push_incomplete(page: &mut Page, types: &[ResolvedType<'_, '_, '_>], name: &[u8], offset: u64) {
-    let misplaced = misplaced_at(page.alloc(), types, offset);
-    let Some(misplaced) = page.keep(misplaced) else {
+fn push_incomplete(note: &mut Note, types: &[ResolvedType<'_, '_, '_>], name: &[u8], offset: u64) {
+    let misplaced = misplaced_at(note.alloc(), types, offset);
+    let Some(misplaced) = note.keep(misplaced) else {
         return;
     };
-    page.push_str("the struct ");
-    page.push_name(name);
-    page.push_line(match misplaced {
+    note.push_str("the struct ");
+    note.push_name(name);
+    note.push_str(match misplaced {
         Misplaced::InItself =>
             " can't have itself as a field, since it would have no end: use a table",
         Misplaced::InACircle =>
@@ -93,68 +90,72 @@ fn push_incomplete(page: &mut Page, types: &[ResolvedType<'_, '_, '_>], name: &[
     });
 }
 
-/// Adds how a rule is broken that what types have in them tells.
+/// Adds how a rule is broken that needs to know what types have in them.
 fn push_by_types(
-    page: &mut Page,
-    source: &Source<'_>,
+    note: &mut Note,
+    text: &[u8],
     types: &[ResolvedType<'_, '_, '_>],
     offset: u64,
     rule: Rule,
 ) {
     match rule {
-        Rule::Ids => push_bad_ids(page, source, types, offset),
-        Rule::EnumNumbers => push_bad_value(page, types, offset),
-        _ => {
-            let name = name_at(source.bytes, offset as usize);
-            push_incomplete(page, types, name, offset)
-        }
+        Rule::EnumNumbers => push_bad_value(note, types, offset),
+        _ => push_incomplete(note, types, name_at(text, offset as usize), offset),
     }
 }
 
-fn push_resolved(
-    page: &mut Page,
-    source: &Source<'_>,
-    outline: &Outline<'_, '_>,
-    offset: u64,
-    rule: Rule,
-) {
-    match Resolved::of(page.alloc(), outline) {
-        Ok(resolved) => push_by_types(page, source, resolved.types.as_slice(), offset, rule),
-        Err(_) => page.run_out(),
+fn push_resolved(note: &mut Note, text: &[u8], outline: &Outline<'_, '_>, offset: u64, rule: Rule) {
+    match Resolved::of(note.alloc(), outline) {
+        Ok(resolved) => push_by_types(note, text, resolved.types.as_slice(), offset, rule),
+        Err(_) => note.run_out(),
     }
 }
 
-fn push_outlined(
-    page: &mut Page,
-    source: &Source<'_>,
-    outline: &Outline<'_, '_>,
-    offset: u64,
-    rule: Rule,
-) {
-    let text = source.bytes;
+fn push_outlined(note: &mut Note, text: &[u8], outline: &Outline<'_, '_>, offset: u64, rule: Rule) {
     match rule {
         Rule::NamesOnce => {
             let token = token_at(text, offset as usize);
-            push_duplicate(page, outline, text, token, offset)
+            push_duplicate(note, outline, text, token, offset)
         }
         Rule::TypesDeclared => {
             let name = name_at(text, offset as usize);
-            push_unknown_type(page, outline, text_of(name), offset)
+            push_unknown_type(note, outline, text_of(name), offset)
         }
-        _ => push_resolved(page, source, outline, offset, rule),
+        _ => push_resolved(note, text, outline, offset, rule),
     }
 }
 
-/// Adds how a rule is broken at an offset, and ends the line; of ids with the place and its line.
+/// Adds how a rule is broken at an offset.
 pub(crate) fn push_broken(
-    page: &mut Page,
-    source: &Source<'_>,
+    note: &mut Note,
+    text: &[u8],
     decls: &Decls<'_>,
     offset: u64,
     rule: Rule,
 ) {
-    match Outline::of(page.alloc(), decls) {
-        Ok(outline) => push_outlined(page, source, &outline, offset, rule),
-        Err(_) => page.run_out(),
+    match Outline::of(note.alloc(), decls) {
+        Ok(outline) => push_outlined(note, text, &outline, offset, rule),
+        Err(_) => note.run_out(),
+    }
+}
+
+fn push_outlined_ids(note: &mut Note, outline: &Outline<'_, '_>, offset: u64) -> Option<u64> {
+    match Resolved::of(note.alloc(), outline) {
+        Ok(resolved) => push_bad_ids(note, resolved.types.as_slice(), offset),
+        Err(_) => {
+            note.run_out();
+            None
+        }
+    }
+}
+
+/// Adds how the ids of the table at an offset are wrong. Returns the offset of the field that has a wrong one.
+pub(crate) fn push_broken_ids(note: &mut Note, decls: &Decls<'_>, offset: u64) -> Option<u64> {
+    match Outline::of(note.alloc(), decls) {
+        Ok(outline) => push_outlined_ids(note, &outline, offset),
+        Err(_) => {
+            note.run_out();
+            None
+        }
     }
 }

@@ -7,22 +7,19 @@ ghost use Rattle.fb_declare.specs.FaultRows.{default_at};
 ghost use Rattle.fb_explain_schemas.specs.FoundInText.{types_of, type_of, fields_of, has_default_at};
 ghost use Rattle.fb_explain_schemas.specs.FoundInText.{is_struct_with, is_member_at, is_union_with};
 
-use fb_explain_pages::{Page, last_word};
+use fb_findings::last_word;
 use fb_resolve::word_of;
 use fb_syntax::{
     Declaration, Decls, DefaultValue, Field, SyntaxFault, TypeDecl, UnionMember, parse,
 };
 use std::alloc::{AllocError, Global};
 
-/// The declarations of a text; `None` where it has none, or memory runs out, which the page notes.
-pub fn declarations_of<'t>(page: &mut Page, text: &'t [u8]) -> Option<Decls<'t>> {
-    match parse(page.alloc(), text) {
-        Ok(decls) => Some(decls),
-        Err(SyntaxFault::Memory) => {
-            page.run_out();
-            None
-        }
-        Err(_) => None,
+/// The declarations of a text; `None` where it can't be parsed.
+pub fn declarations_of(alloc: Global, text: &[u8]) -> Result<Option<Decls<'_>>, AllocError> {
+    match parse(alloc, text) {
+        Ok(decls) => Ok(Some(decls)),
+        Err(SyntaxFault::Memory) => Err(AllocError),
+        Err(_) => Ok(None),
     }
 }
 

@@ -1,6 +1,6 @@
 //! What a file looks like, where it was taken for one of another kind.
 use crate::schema_tokens::Tokens;
-use fb_explain_pages::is_one_of;
+use fb_findings::is_one_of;
 
 /// A kind of file.
 #[derive(Clone, Copy, Debug, PartialEq, Eq)]

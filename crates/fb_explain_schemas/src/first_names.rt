@@ -42,7 +42,7 @@ fn first_member(members: &[UnionMember<'_>], spelling: &str, offset: u64) -> Opt
     Some(at)
 }
 
-/// The last type whose name isn't behind an offset.
+/// The last type whose name isn't after an offset.
 fn type_around<'o, 'd, 's>(
     types: &'o [TypeRead<'d, 's>],
     offset: u64,

@@ -1,11 +1,17 @@
 //! Layouts of schema texts that are read again.
+ghost use Rattle.std.specs.Prelude.{◌≡◌, ◌↔◌, None, IfOk, IfSome, IsSome};
+ghost use Rattle.fb_layout.specs.Laid.{LaidSchema};
+ghost use Rattle.fb_declare.specs.SchemaTexts.{IsAccepted, IsWant};
+
 use fb_declare::{SchemaFault, SchemaTextFault, schema_of};
-use fb_explain_pages::Page;
 use fb_layout::{Layout, LayoutFault};
 use fb_syntax::SyntaxFault;
+use std::alloc::{AllocError, Global};
 
 /// What a schema text's memory was for, where it ran out.
-pub fn memory_use_of_schema(fault: SchemaTextFault) -> Option<&'static str> {
+pub(crate) fn memory_use_of_schema(fault: SchemaTextFault) -> Option<&'static str>
+    ensures want { IsSome result ↔ IsWant fault }
+{
     match fault {
         SchemaTextFault::Syntax(SyntaxFault::Memory) => Some("the schema was read"),
         SchemaTextFault::Schema(SchemaFault::Memory) => Some("the declarations were checked"),
@@ -14,15 +20,16 @@ pub fn memory_use_of_schema(fault: SchemaTextFault) -> Option<&'static str> {
     }
 }
 
-/// The layout of a schema text; `None` where it is refused, or memory runs out, which the page notes.
-pub fn layout_of(page: &mut Page, text: &[u8]) -> Option<Layout> {
-    match schema_of(page.alloc(), text) {
-        Ok(layout) => Some(layout),
-        Err(fault) => {
-            if memory_use_of_schema(fault).is_some() {
-                page.run_out();
-            }
-            None
-        }
+/// The layout of a schema text; `None` where it is refused.
+pub fn layout_of(alloc: Global, text: &[u8]) -> Result<Option<Layout>, AllocError>
+    ensures accepted { IfOk result (λ found. IfSome found (IsAccepted text.now)) }
+    ensures refused { IfOk result (λ found. found ≡ None → (L : LaidSchema) → ¬ (IsAccepted text.now L)) }
+{
+    match schema_of(alloc, text) {
+        Ok(layout) => Ok(Some(layout)),
+        Err(fault) => match memory_use_of_schema(fault) {
+            Some(_) => Err(AllocError),
+            None => Ok(None),
+        },
     }
 }

@@ -1,4 +1,4 @@
-//! Why a schema text is refused, in sentences for people.
+//! Why a schema text is refused, as findings.
 #![tactic(auto)]
 
 mod bad_defaults;
@@ -6,10 +6,11 @@ mod bad_ids;
 mod bad_values;
 mod broken_rules;
 mod declared;
-mod expected;
 mod file_kinds;
 mod first_names;
 mod layouts;
+mod missing_signs;
+mod refusals;
 mod schema_faults;
 mod schema_tokens;
 mod struct_fields;
@@ -20,5 +21,6 @@ mod unsupported;
 
 pub use declared::{declarations_of, fields_of, name_of, type_in};
 pub use file_kinds::{FileKind, kind_of_file};
-pub use layouts::{layout_of, memory_use_of_schema};
-pub use schema_faults::push_schema_fault;
+pub use layouts::layout_of;
+pub use refusals::Which;
+pub use schema_faults::schema_findings;

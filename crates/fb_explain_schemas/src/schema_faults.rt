@@ -1,14 +1,22 @@
 //! What is wrong with a schema text.
+ghost use Rattle.std.specs.Prelude.{◌≡◌, false, Some, All, IfOk, IfSome, OnOk};
+ghost use Rattle.fb_findings.specs.Findings.{is_of_ids, offset_in, BeginsWith, IsLineOf, IsPlacedIn};
+ghost use Rattle.fb_explain_schemas.specs.Refusals.{refusal, AddsPlaced};
+
 use crate::bad_defaults::push_bad_default;
-use crate::broken_rules::{Rule, push_broken};
+use crate::broken_rules::{Rule, push_broken, push_broken_ids};
 use crate::declared::{declarations_of, is_in_a_union, is_under_an_enum, name_of, type_at};
+use crate::layouts::memory_use_of_schema;
+use crate::refusals::Which;
 use crate::schema_tokens::{name_at, token_at};
 use crate::syntax_faults::{another_kind, push_syntax_sentence};
-use crate::unsupported::{is_unsupported_attribute, push_others, unsupported_at};
+use crate::unsupported::{add_others, is_unsupported_attribute, unsupported_at};
 use fb_declare::{SchemaFault, SchemaTextFault};
-use fb_explain_pages::{Page, Source, push_excerpt, push_place, value_of};
+use fb_faults::ToolFault;
+use fb_findings::{Finding, Note, Source, value_of};
 use fb_layout::LayoutFault;
-use fb_syntax::{Decls, SyntaxFault};
+use fb_syntax::Decls;
+use std::alloc::{AllocError, Global};
 
 /// What attributes are for.
 const USES: &[(&str, &str)] = &[
@@ -44,62 +52,54 @@ fn use_of(attribute: &[u8]) -> &'static str {
 }
 
 /// Adds what isn't supported at an offset of a text that can be parsed.
-fn push_unsupported(page: &mut Page, decls: &Decls<'_>, text: &[u8], offset: u64) {
+fn push_unsupported(note: &mut Note, decls: &Decls<'_>, text: &[u8], offset: u64) {
     let place = offset as usize;
     let token = token_at(text, place);
     if let Some(what) = unsupported_at(text, place) {
-        page.push_line(what);
+        note.push_str(what.sentence);
         return;
     }
     if token == "force_align".as_bytes() {
-        page.push_line("'force_align' on a field isn't supported: it goes on a struct");
+        note.push_str("'force_align' on a field isn't supported: it goes on a struct");
         return;
     }
     if is_unsupported_attribute(token) {
-        page.push_line("this attribute isn't supported");
+        note.push_str("this attribute isn't supported");
         return;
     }
-    page.push_name(name_at(text, place));
-    page.push_line(if is_under_an_enum(decls, offset) {
+    note.push_name(name_at(text, place));
+    note.push_str(if is_under_an_enum(decls, offset) {
         " can't be an enum's type: it is an integer type, as ubyte or int"
     } else {
         " is a union, and a vector of unions isn't supported: put the union into a table"
     });
 }
 
-fn push_bad_member(page: &mut Page, decls: &Decls<'_>, token: &[u8], offset: u64) {
-    page.push_name(token);
+fn push_bad_member(note: &mut Note, decls: &Decls<'_>, token: &[u8], offset: u64) {
+    note.push_name(token);
     if is_in_a_union(decls, offset) {
-        page.push_line(" can't be a member of a union: its members are tables, 255 at most");
+        note.push_str(" can't be a member of a union: its members are tables, 255 at most");
         return;
     }
-    page.push_line(" can't be in a struct: its fields are numbers, enums and other structs");
+    note.push_str(" can't be in a struct: its fields are numbers, enums and other structs");
 }
 
-fn push_bad_root(page: &mut Page, token: &[u8]) {
+fn push_bad_root(note: &mut Note, token: &[u8]) {
     if token.is_empty() {
-        page.push_line("the text has no root: add 'root_type NAME;' with the name of a table");
+        note.push_str("the text has no root: add 'root_type NAME;' with the name of a table");
         return;
     }
-    page.push_name(token);
-    page.push_line(" can't be the root: it isn't a table");
+    note.push_name(token);
+    note.push_str(" can't be the root: it isn't a table");
 }
 
-fn push_named(page: &mut Page, front: &str, token: &[u8], rest: &str) {
-    page.push_str(front);
-    page.push_name(token);
-    page.push_line(rest);
+fn push_named(note: &mut Note, front: &str, token: &[u8], rest: &str) {
+    note.push_str(front);
+    note.push_name(token);
+    note.push_str(rest);
 }
 
-/// A fault of a text's declarations, and its offset there.
-#[derive(Clone, Copy)]
-struct Refusal<'s> {
-    source: Source<'s>,
-    offset: u64,
-    fault: SchemaFault,
-}
-
-/// The rule that is broken, where what names and numbers mean tells how.
+/// The rule that is broken, where it is explained by what names and numbers mean.
 fn rule_of(fault: SchemaFault) -> Option<Rule> {
     match fault {
         SchemaFault::DuplicateName(_) => Some(Rule::NamesOnce),
@@ -110,27 +110,35 @@ fn rule_of(fault: SchemaFault) -> Option<Rule> {
     }
 }
 
-/// Adds what is wrong with the declarations of a text, and ends the line.
-fn push_schema_sentence(page: &mut Page, refusal: Refusal<'_>, decls: &Decls<'_>) {
-    let text = refusal.source.bytes;
-    let offset = refusal.offset;
+/// Adds what is wrong with the declarations of a text.
+fn push_schema_sentence(
+    note: &mut Note,
+    text: &[u8],
+    decls: &Decls<'_>,
+    offset: u64,
+    fault: SchemaFault,
+) {
+    if let Some(rule) = rule_of(fault) {
+        push_broken(note, text, decls, offset, rule);
+        return;
+    }
     let token = token_at(text, offset as usize);
     let name = name_at(text, offset as usize);
-    match refusal.fault {
-        SchemaFault::BadDefault(_) => push_bad_default(page, decls, name, offset),
-        SchemaFault::EmptyStruct(_) => push_named(page, "the struct ", token, " has no field"),
-        SchemaFault::BadAttribute(_) => { push_named(page, "the attribute ", token, use_of(token)) }
+    match fault {
+        SchemaFault::BadDefault(_) => push_bad_default(note, decls, name, offset),
+        SchemaFault::EmptyStruct(_) => push_named(note, "the struct ", token, " has no field"),
+        SchemaFault::BadAttribute(_) => { push_named(note, "the attribute ", token, use_of(token)) }
         SchemaFault::UnknownAttribute(_) => push_named(
-            page,
+            note,
             "the attribute ",
             token,
             " isn't declared: add 'attribute NAME;' with its name, or remove it",
         ),
-        SchemaFault::Unsupported(_) => push_unsupported(page, decls, text, offset),
-        SchemaFault::BadMember(_) => push_bad_member(page, decls, name, offset),
-        SchemaFault::BadRoot(_) => push_bad_root(page, name),
+        SchemaFault::Unsupported(_) => push_unsupported(note, decls, text, offset),
+        SchemaFault::BadMember(_) => push_bad_member(note, decls, name, offset),
+        SchemaFault::BadRoot(_) => push_bad_root(note, name),
         SchemaFault::BadIdentifier(_) => push_named(
-            page,
+            note,
             "the file identifier ",
             token,
             " must have four printable ASCII characters",
@@ -144,99 +152,151 @@ fn push_schema_sentence(page: &mut Page, refusal: Refusal<'_>, decls: &Decls<'_>
     }
 }
 
-/// Adds what is wrong with declarations, with the place and its line.
-fn push_parsed(page: &mut Page, refusal: Refusal<'_>, decls: &Decls<'_>) {
-    let source = refusal.source;
-    let place = refusal.offset as usize;
-    push_place(page, &source, place);
-    match rule_of(refusal.fault) {
-        Some(rule) => push_broken(page, &source, decls, refusal.offset, rule),
-        None => push_schema_sentence(page, refusal, decls),
-    }
-    push_excerpt(page, source.bytes, place);
-    if matches!(refusal.fault, SchemaFault::Unsupported(_))
-        || unsupported_at(source.bytes, place).is_some()
-    {
-        push_others(page, &source, place);
-    }
-}
-
-/// Adds what is wrong with the declarations of a text that can be parsed.
-fn push_declared(page: &mut Page, refusal: Refusal<'_>) {
-    let Some(decls) = declarations_of(page, refusal.source.bytes) else {
-        return;
-    };
-    match refusal.fault {
-        SchemaFault::BadIds(_) => {
-            push_broken(page, &refusal.source, &decls, refusal.offset, Rule::Ids)
+/// Adds what is wrong with a schema text at an offset. Returns the offset of what is wrong there: of a table's ids the
+/// field that has a wrong one.
+fn push_refusal(note: &mut Note, text: &[u8], offset: u64, fault: SchemaTextFault) -> u64
+    ensures own { is_of_ids fault ≡ false → result ≡ offset }
+{
+    let fault = match fault {
+        SchemaTextFault::Schema(fault) => fault,
+        SchemaTextFault::Syntax(fault) => {
+            push_syntax_sentence(note, text, offset as usize, fault);
+            return offset;
         }
-        _ => push_parsed(page, refusal, &decls),
-    }
-}
-
-/// Adds what is wrong with a text that can't be parsed, with the place and its line.
-fn push_unparsed(page: &mut Page, source: &Source<'_>, offset: u64, fault: SyntaxFault) {
-    if let Some(what) = another_kind(source.bytes) {
-        page.push_str(source.path);
-        page.push_line(what);
-        return;
-    }
-    let place = offset as usize;
-    push_place(page, source, place);
-    push_syntax_sentence(page, source.bytes, place, fault);
-    push_excerpt(page, source.bytes, place);
-    if unsupported_at(source.bytes, place).is_some() {
-        push_others(page, source, place);
-    }
-}
-
-fn push_layout_sentence(page: &mut Page, source: &Source<'_>, number: u64, what: &str) {
-    let Some(decls) = declarations_of(page, source.bytes) else {
-        return;
+        SchemaTextFault::Layout(_) => return offset,
     };
-    let Some(declared) = type_at(&decls, number) else {
-        return;
+    let parsed = declarations_of(note.alloc(), text);
+    let Some(Some(decls)) = note.keep(parsed) else {
+        return offset;
     };
-    let (name, at) = name_of(declared);
-    push_place(page, source, at as usize);
-    page.push_name(name.as_bytes());
-    page.push_line(what);
-    push_excerpt(page, source.bytes, at as usize);
+    if let SchemaFault::BadIds(_) = fault {
+        return push_broken_ids(note, &decls, offset).unwrap_or(offset);
+    }
+    push_schema_sentence(note, text, &decls, offset, fault);
+    offset
 }
 
-fn push_layout_fault(page: &mut Page, source: &Source<'_>, fault: LayoutFault) {
+/// What a file is that isn't a schema at all, where a text can't be parsed.
+fn another_kind_of(text: &[u8], fault: SchemaTextFault) -> Option<&'static str> {
     match fault {
-        LayoutFault::StructTooBig(number) => {
-            push_layout_sentence(page, source, number.0, " takes more than 65535 bytes")
-        }
-        LayoutFault::TableTooWide(number) => push_layout_sentence(
-            page,
-            source,
-            number.0,
-            " is too wide: a table's fields take 65535 bytes together at most, in 32765 slots at most",
-        ),
-        LayoutFault::Memory => {}
+        SchemaTextFault::Syntax(_) => another_kind(text),
+        _ => None,
     }
 }
 
-/// Adds what is wrong with a schema text.
-pub fn push_schema_fault(page: &mut Page, source: &Source<'_>, fault: SchemaTextFault) {
-    match (fault, fault.offset()) {
-        (SchemaTextFault::Syntax(fault), Some(offset)) => {
-            push_unparsed(page, source, offset, fault)
-        }
-        (SchemaTextFault::Schema(fault), Some(offset)) => {
-            let source = *source;
-            push_declared(
-                page,
-                Refusal {
-                    source,
-                    offset,
-                    fault,
-                },
-            )
-        }
-        (SchemaTextFault::Layout(fault), _) => push_layout_fault(page, source, fault),
-        _ => {}
+/// What is wrong with a schema text at an offset.
+fn finding_at<'s>(
+    alloc: Global,
+    source: Source<'s>,
+    which: Which,
+    offset: u64,
+    fault: SchemaTextFault,
+) -> Result<Finding<'s>, AllocError>
+    ensures fault { IfOk result (λ f. f.fault ≡ refusal which fault) }
+    ensures place { IfOk result (λ f. is_of_ids fault ≡ false → offset_in f.place ≡ Some offset) }
+    ensures line { IfOk result (λ f. IfSome f.place (IsLineOf source.entry.bytes.now)) }
+{
+    let refusal = which.refusal(fault);
+    let mut note = Note::new(alloc);
+    if let Some(what) = another_kind_of(source.bytes, fault) {
+        note.push_str(what);
+        return Finding::in_file(refusal, source.path, Some(offset), note);
     }
+    let at = push_refusal(&mut note, source.bytes, offset, fault);
+    Finding::in_text(refusal, source, at, note)
+}
+
+/// Adds which type takes too much. Returns the offset of its name.
+fn push_layout_sentence(note: &mut Note, decls: &Decls<'_>, fault: SchemaTextFault) -> Option<u64> {
+    let what = match fault {
+        SchemaTextFault::Layout(LayoutFault::StructTooBig(_)) => " takes more than 65535 bytes",
+        _ =>
+            " is too wide: a table's fields take 65535 bytes together at most, in 32765 slots at most",
+    };
+    let (name, at) = name_of(type_at(decls, fault.owner()?.0)?);
+    note.push_name(name.as_bytes());
+    note.push_str(what);
+    Some(at)
+}
+
+/// What is wrong with the size of a type.
+fn layout_finding<'s>(
+    alloc: Global,
+    source: Source<'s>,
+    refusal: ToolFault,
+    fault: SchemaTextFault,
+) -> Result<Finding<'s>, AllocError>
+    ensures fault { IfOk result (λ f. f.fault ≡ refusal) }
+    ensures line { IfOk result (λ f. IfSome f.place (IsLineOf source.entry.bytes.now)) }
+{
+    let mut note = Note::new(alloc);
+    let at = match declarations_of(alloc, source.bytes)? {
+        Some(decls) => push_layout_sentence(&mut note, &decls, fault),
+        None => None,
+    };
+    match at {
+        Some(at) => Finding::in_text(refusal, source, at, note),
+        None => Ok(Finding::of(alloc, refusal)),
+    }
+}
+
+/// Whether other places of a text are listed too: all at which something isn't supported.
+fn lists_others(text: &[u8], offset: u64, fault: SchemaTextFault) -> bool {
+    matches!(fault, SchemaTextFault::Schema(SchemaFault::Unsupported(_)))
+        || another_kind_of(text, fault).is_none() && unsupported_at(text, offset as usize).is_some()
+}
+
+/// The finding of the refusal itself.
+fn first_finding<'s>(
+    alloc: Global,
+    source: Source<'s>,
+    which: Which,
+    fault: SchemaTextFault,
+) -> Result<Finding<'s>, AllocError>
+    ensures fault { IfOk result (λ f. f.fault ≡ refusal which fault) }
+    ensures placed { IfOk result (IsPlacedIn source.entry.bytes.now) }
+{
+    if let Some(what) = memory_use_of_schema(fault) {
+        return Finding::of_memory(alloc, which.refusal(fault), what);
+    }
+    match fault.offset() {
+        Some(offset) => finding_at(alloc, source, which, offset, fault),
+        None => layout_finding(alloc, source, which.refusal(fault), fault),
+    }
+}
+
+/// Adds all else that isn't supported, where a text is refused by what isn't supported.
+#[tactic(auto, using(crate::proofs::Placed::adds_none))]
+fn add_unsupported<'s>(
+    findings: &mut Vec<Finding<'s>>,
+    alloc: Global,
+    source: Source<'s>,
+    which: Which,
+    fault: SchemaTextFault,
+) -> Result<(), AllocError>
+    ensures { OnOk result (AddsPlaced source.entry.bytes.now findings.old.items findings.new.items) }
+{
+    match fault.offset() {
+        Some(offset) if lists_others(source.bytes, offset, fault) => {
+            add_others(findings, alloc, source, which, offset as usize)
+        }
+        _ => Ok(()),
+    }
+}
+
+/// What is wrong with a schema text: first that by which it is refused. Where that isn't supported, all else that isn't
+/// supported follows.
+pub fn schema_findings<'s>(
+    alloc: Global,
+    source: Source<'s>,
+    which: Which,
+    fault: SchemaTextFault,
+) -> Result<Vec<Finding<'s>>, AllocError>
+    ensures first { IfOk result (λ list. BeginsWith (refusal which fault) list.items) }
+    ensures places { IfOk result (λ list. All (IsPlacedIn source.entry.bytes.now) list.items) }
+{
+    let mut findings = Vec::new(alloc);
+    findings.push(first_finding(alloc, source, which, fault)?)?;
+    add_unsupported(&mut findings, alloc, source, which, fault)?;
+    Ok(findings)
 }

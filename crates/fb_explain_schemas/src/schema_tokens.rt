@@ -1,5 +1,5 @@
 //! The tokens of a schema text as people read them, also of one that isn't right.
-use fb_explain_pages::{WORD_BYTES, front_len};
+use fb_findings::{WORD_BYTES, front_len};
 
 /// A token, or bytes that are none, and its offset in bytes.
 #[derive(Clone, Copy)]

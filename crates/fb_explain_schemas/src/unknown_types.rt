@@ -1,6 +1,6 @@
 //! A name that no type has, and the one that was meant.
 use crate::first_names::types_read;
-use fb_explain_pages::{Page, last_word, nearest, push_few, push_meant, value_of};
+use fb_findings::{Note, last_word, nearest, push_few, push_meant, value_of};
 use fb_resolve::{BASIC_TYPES, Outline, TypeRead, name_of_type, word_of};
 use std::alloc::{AllocError, Global};
 
@@ -109,56 +109,55 @@ fn words_of<'n>(alloc: Global, names: &'n [String]) -> Result<Vec<&'n str>, Allo
 
 /// The type that was meant by a name, where one is near it.
 fn meant<'n>(
-    page: &mut Page,
+    note: &mut Note,
     whole: &[&'n str],
     words: &[&'n str],
     wanted: &str,
 ) -> Option<&'n str> {
     let by_name = if wanted.contains('.') {
-        nearest(page, whole, wanted)
+        nearest(note, whole, wanted)
     } else {
         None
     };
     let at = match by_name {
         Some(at) => at,
-        None => nearest(page, words, last_word(wanted))?,
+        None => nearest(note, words, last_word(wanted))?,
     };
     whole.get(at).or(words.get(at)).copied()
 }
 
 /// Adds the type that was meant by a name, else the few that there are.
-fn push_known<'n>(page: &mut Page, whole: &[&'n str], words: &[&'n str], wanted: &str) {
-    let near = meant(page, whole, words, wanted);
+fn push_known<'n>(note: &mut Note, whole: &[&'n str], words: &[&'n str], wanted: &str) {
+    let near = meant(note, whole, words, wanted);
     match (near, value_of(FOREIGN, wanted.as_bytes())) {
-        (Some(name), _) | (None, Some(name)) => push_meant(page, name),
-        (None, None) => push_few(page, "the text declares", whole),
+        (Some(name), _) | (None, Some(name)) => push_meant(note, name),
+        (None, None) => push_few(note, "the text declares", whole),
     }
-    page.end_line();
 }
 
-fn push_known_names(page: &mut Page, names: &[String], wanted: &str) {
-    let whole = whole_names(page.alloc(), names);
-    let Some(whole) = page.keep(whole) else {
+fn push_known_names(note: &mut Note, names: &[String], wanted: &str) {
+    let whole = whole_names(note.alloc(), names);
+    let Some(whole) = note.keep(whole) else {
         return;
     };
-    let words = words_of(page.alloc(), names);
-    if let Some(words) = page.keep(words) {
-        push_known(page, whole.as_slice(), words.as_slice(), wanted);
+    let words = words_of(note.alloc(), names);
+    if let Some(words) = note.keep(words) {
+        push_known(note, whole.as_slice(), words.as_slice(), wanted);
     }
 }
 
 /// Adds that no type has a name, with the one that was meant.
 pub(crate) fn push_unknown_type(
-    page: &mut Page,
+    note: &mut Note,
     outline: &Outline<'_, '_>,
     wanted: &str,
     offset: u64,
 ) {
-    page.push_str("no type is called ");
-    page.push_name(wanted.as_bytes());
+    note.push_str("no type is called ");
+    note.push_name(wanted.as_bytes());
     let scope = scope_of_name(outline, offset);
-    let names = names_inside(page.alloc(), types_read(outline), scope);
-    if let Some(names) = page.keep(names) {
-        push_known_names(page, names.as_slice(), wanted);
+    let names = names_inside(note.alloc(), types_read(outline), scope);
+    if let Some(names) = note.keep(names) {
+        push_known_names(note, names.as_slice(), wanted);
     }
 }

@@ -1,8 +1,18 @@
 //! What of FlatBuffers' schema language isn't supported, wherever a text has it.
+ghost use Rattle.std.specs.Prelude.{◌≡◌, Some, IfOk, OnOk};
+ghost use Rattle.fb_findings.specs.Positions.{line_starts};
+ghost use Rattle.fb_findings.specs.Findings.{IsPlacedIn};
+ghost use Rattle.fb_explain_schemas.specs.Refusals.{AddsPlaced};
+ghost use Rattle.fb_declare.specs.TextFaultTable.{offset_of};
+
+use crate::refusals::Which;
 use crate::schema_tokens::{Token, Tokens, token_at};
 use crate::type_names::{is_base, is_float_type};
-use fb_explain_pages::{LineStarts, Page, Source, push_position, value_of};
+use fb_declare::{SchemaFault, SchemaTextFault};
+use fb_findings::{Finding, LineStarts, Location, Source, value_of};
 use fb_resolve::is_left_out;
+use fb_syntax::SyntaxFault;
+use std::alloc::{AllocError, Global};
 use std::str;
 
 /// The words that begin what isn't supported, and what to say of each.
@@ -46,7 +56,7 @@ fn is_a_number(word: &[u8]) -> bool {
     matches!(word, [b'0'..=b'9', ..] | [b'+' | b'-', b'0'..=b'9', ..])
 }
 
-/// Why a default may not be a quoted text, behind the last token of its field's type.
+/// Why a default may not be a quoted text, after the last token of its field's type.
 fn quoted_default(kind: &[u8]) -> &'static str {
     if let Some(sentence) = value_of(QUOTED_DEFAULTS, kind) {
         return sentence;
@@ -57,33 +67,72 @@ fn quoted_default(kind: &[u8]) -> &'static str {
     "an enum's default is a value's name without quotes, and that of several flags the sum of their numbers"
 }
 
-/// What isn't supported of a word behind others.
-fn unsupported_word(word: &[u8], before: Before<'_>) -> Option<&'static str> {
+/// What isn't supported at a place.
+#[derive(Clone, Copy)]
+pub(crate) struct Unsupported {
+    pub(crate) sentence: &'static str,
+    /// Whether a text that has it can be parsed.
+    is_parsed: bool,
+}
+
+impl Unsupported {
+    fn by_grammar(sentence: &'static str) -> Unsupported {
+        Unsupported {
+            sentence,
+            is_parsed: false,
+        }
+    }
+
+    fn by_rule(sentence: &'static str) -> Unsupported {
+        Unsupported {
+            sentence,
+            is_parsed: true,
+        }
+    }
+
+    /// The fault that `parse` or `declare` reports for it at an offset.
+    fn fault(self, offset: u64) -> SchemaTextFault
+        ensures { offset_of result ≡ Some offset }
+    {
+        if self.is_parsed {
+            SchemaTextFault::Schema(SchemaFault::Unsupported(offset))
+        } else {
+            SchemaTextFault::Syntax(SyntaxFault::Unexpected(offset))
+        }
+    }
+}
+
+/// What isn't supported of a word after others.
+fn unsupported_word(word: &[u8], before: Before<'_>) -> Option<Unsupported> {
     match before.last.first() {
-        None | Some(b';' | b'}') => value_of(DECLARATIONS, word),
-        Some(b':' | b'[') if is_float_type(word) => Some("floats aren't supported"),
+        None | Some(b';' | b'}') => {
+            let sentence = value_of(DECLARATIONS, word)?;
+            Some(Unsupported::by_grammar(sentence))
+        }
+        Some(b':' | b'[') if is_float_type(word) => {
+            Some(Unsupported::by_rule("floats aren't supported"))
+        }
         Some(b'(' | b',') if before.in_attributes && is_unsupported_attribute(word) => {
-            Some("this attribute isn't supported")
+            Some(Unsupported::by_rule("this attribute isn't supported"))
         }
         _ => None,
     }
 }
 
-/// What isn't supported at a token behind others.
-fn unsupported(token: &[u8], before: Before<'_>) -> Option<&'static str> {
+/// What isn't supported at a token after others.
+fn find_unsupported(token: &[u8], before: Before<'_>) -> Option<Unsupported> {
     let last = before.last;
     let is_default = matches!(last.first(), Some(b'='));
-    match token.first() {
-        Some(b'"') if is_default => Some(quoted_default(before.second)),
-        Some(b'[') if is_default => Some("default values of vectors aren't supported"),
-        Some(b'.') if is_default || is_a_number(last) => {
-            Some("numbers with a fraction aren't supported")
-        }
+    let sentence = match token.first() {
+        Some(b'"') if is_default => quoted_default(before.second),
+        Some(b'[') if is_default => "default values of vectors aren't supported",
+        Some(b'.') if is_default || is_a_number(last) => "numbers with a fraction aren't supported",
         Some(b':') if matches!(before.second.first(), Some(b'[')) && !last.is_empty() => {
-            Some("fixed-size arrays aren't supported")
+            "fixed-size arrays aren't supported"
         }
-        _ => unsupported_word(token, before),
-    }
+        _ => return unsupported_word(token, before),
+    };
+    Some(Unsupported::by_grammar(sentence))
 }
 
 impl<'t> Before<'t> {
@@ -117,44 +166,89 @@ pub(crate) fn before_at(text: &[u8], offset: usize) -> Before<'_> {
 }
 
 /// What isn't supported at an offset.
-pub(crate) fn unsupported_at(text: &[u8], offset: usize) -> Option<&'static str> {
-    unsupported(token_at(text, offset), before_at(text, offset))
+pub(crate) fn unsupported_at(text: &[u8], offset: usize) -> Option<Unsupported> {
+    find_unsupported(token_at(text, offset), before_at(text, offset))
 }
 
-fn push_unsupported_token(
-    page: &mut Page,
-    source: &Source<'_>,
-    starts: &LineStarts,
-    token: Token<'_>,
-    before: Before<'_>,
-) {
-    if let Some(what) = unsupported(token.bytes, before) {
-        push_position(
-            page,
-            source.path,
-            starts.position_of(source.bytes, token.at),
-        );
-        page.push_line(what)
+/// Collects the unsupported places of a text, except one.
+#[derive(Clone, Copy)]
+struct Others<'s, 'l> {
+    alloc: Global,
+    source: Source<'s>,
+    which: Which,
+    starts: &'l LineStarts,
+    /// The offset that is left out.
+    but: usize,
+}
+
+impl<'s, 'l> Others<'s, 'l> {
+    /// What isn't supported at an offset.
+    fn finding(&self, offset: u64, what: Unsupported) -> Result<Finding<'s>, AllocError>
+        requires { self.now.starts.now ≡ line_starts self.now.source.bytes.now }
+        ensures { IfOk result (IsPlacedIn self.now.source.bytes.now) }
+    {
+        let fault = self.which.refusal(what.fault(offset));
+        let mut finding = Finding::of(self.alloc, fault);
+        finding.sentence = String::from_str(self.alloc, what.sentence)?;
+        finding.place = Some(self.starts.location_of(self.source, offset));
+        Ok(finding)
     }
-}
 
-/// Adds all other places at which something isn't supported.
-pub(crate) fn push_others(page: &mut Page, source: &Source<'_>, offset: usize) {
-    let indexed = LineStarts::of(page.alloc(), source.bytes);
-    let Some(starts) = page.keep(indexed) else {
-        return;
-    };
-    let mut tokens = Tokens::of(source.bytes);
-    let mut before = Before::nothing();
-    for _ in 0..source.bytes.len() {
-        match tokens.next() {
-            Some(token) => {
-                if token.at != offset {
-                    push_unsupported_token(page, source, &starts, token, before);
-                }
-                before = before.followed_by(token);
-            }
-            None => break,
+    /// Adds a finding of a token after others, if it isn't supported.
+    #[tactic(auto, using(crate::proofs::Placed::adds_one, crate::proofs::Placed::adds_none))]
+    fn add(
+        &self,
+        findings: &mut Vec<Finding<'s>>,
+        token: Token<'_>,
+        before: Before<'_>,
+    ) -> Result<(), AllocError>
+        requires { self.now.starts.now ≡ line_starts self.now.source.bytes.now }
+        ensures { OnOk result (AddsPlaced self.now.source.bytes.now findings.old.items findings.new.items) }
+    {
+        if token.at != self.but
+            && let Some(what) = find_unsupported(token.bytes, before)
+        {
+            findings.push(self.finding(token.at as u64, what)?)?;
         }
+        Ok(())
     }
+
+    /// Adds a finding of each token that isn't supported.
+    #[tactic(auto, using(crate::proofs::Placed::adds_both, crate::proofs::Placed::adds_none))]
+    fn add_all(&self, findings: &mut Vec<Finding<'s>>) -> Result<(), AllocError>
+        requires { self.now.starts.now ≡ line_starts self.now.source.bytes.now }
+        ensures { OnOk result (AddsPlaced self.now.source.bytes.now findings.old.items findings.new.items) }
+    {
+        let mut tokens = Tokens::of(self.source.bytes);
+        let mut before = Before::nothing();
+        for _ in 0..self.source.bytes.len() {
+            let Some(token) = tokens.next() else {
+                break;
+            };
+            self.add(findings, token, before)?;
+            before = before.followed_by(token);
+        }
+        Ok(())
+    }
+}
+
+/// Adds a finding for each unsupported place except `but`.
+pub(crate) fn add_others<'s>(
+    findings: &mut Vec<Finding<'s>>,
+    alloc: Global,
+    source: Source<'s>,
+    which: Which,
+    but: usize,
+) -> Result<(), AllocError>
+    ensures { OnOk result (AddsPlaced source.entry.bytes.now findings.old.items findings.new.items) }
+{
+    let starts = LineStarts::of(alloc, source.bytes)?;
+    let others = Others {
+        alloc,
+        source,
+        which,
+        starts: &starts,
+        but,
+    };
+    others.add_all(findings)
 }

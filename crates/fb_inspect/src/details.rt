@@ -46,7 +46,7 @@ fn struct_in(scene: Scene<'_>, table: TypeId, slot: u16) -> Option<TypeId> {
 /// Begins the line of a detail.
 fn begin_detail(page: &mut Page, scene: Scene<'_>, start: usize, len: usize) {
     begin_line(page, scene.bytes, start, start.saturating_add(len));
-    page.push_str("  ");
+    page.line.push_str("  ");
 }
 
 /// Adds the line of a number of a vtable: its size, the table's, or a slot's.
@@ -56,12 +56,12 @@ fn push_vtable_number(page: &mut Page, scene: Scene<'_>, piece: &Piece, table: T
     begin_detail(page, scene, at, 2);
     match i.checked_sub(2) {
         None => {
-            page.push_str(if i == 0 {
+            page.line.push_str(if i == 0 {
                 "size of the vtable: "
             } else {
                 "size of the table: "
             });
-            page.push_number(number);
+            page.line.push_number(number);
         }
         Some(slot) => push_slot(page, scene, table, slot, number),
     }
@@ -70,21 +70,21 @@ fn push_vtable_number(page: &mut Page, scene: Scene<'_>, piece: &Piece, table: T
 
 /// Adds where a slot's field is.
 fn push_slot(page: &mut Page, scene: Scene<'_>, table: TypeId, slot: u32, number: u64) {
-    page.push_str("slot ");
-    page.push_number(u64::from(slot));
-    page.push_str(", ");
+    page.line.push_str("slot ");
+    page.line.push_number(u64::from(slot));
+    page.line.push_str(", ");
     match u16::try_from(slot) {
         Ok(slot) => match field_at(scene.layout.schema(), table, slot) {
-            Some(field) => page.push_cut(field.name.as_bytes()),
-            None => page.push_str("not in the schema"),
+            Some(field) => page.line.push_cut(field.name.as_bytes()),
+            None => page.line.push_str("not in the schema"),
         },
         Err(_) => {}
     }
     if number == 0 {
-        page.push_str(": absent");
+        page.line.push_str(": absent");
     } else {
-        page.push_str(": at ");
-        page.push_number(number);
+        page.line.push_str(": at ");
+        page.line.push_number(number);
     }
 }
 
@@ -101,7 +101,7 @@ struct OpenStruct {
 /// Leaves a struct open, whose next field is shown.
 fn leave_open(page: &mut Page, open: &mut Vec<OpenStruct>, inner: OpenStruct) {
     if open.push(inner).is_err() {
-        page.run_out();
+        page.line.run_out();
     }
 }
 
@@ -142,7 +142,7 @@ fn push_struct_field(
     let at = inner.at.saturating_add(offset);
     cut(path, inner.path);
     if path.push('.').is_err() || path.push_str(field.name.as_str()).is_err() {
-        page.run_out();
+        page.line.run_out();
     }
     let next = inner.next.saturating_add(1);
     leave_open(page, open, OpenStruct { next, ..inner });
@@ -174,8 +174,8 @@ fn cut(path: &mut String, len: usize) {
 fn push_value(page: &mut Page, scene: Scene<'_>, kind: Kind, at: usize, path: &str) {
     begin_detail(page, scene, at, scene.layout.size_of(kind) as usize);
     push_cut_path(page, path);
-    page.push_str(": ");
-    page.push_str(kind_name(scene.layout.schema(), kind));
+    page.line.push_str(": ");
+    page.line.push_str(kind_name(scene.layout.schema(), kind));
     match kind {
         Kind::Text | Kind::Table(_) => push_target(page, scene.bytes, at),
         _ => push_number_at(page, scene.layout, scene.bytes, kind, at),
@@ -205,7 +205,7 @@ pub(crate) fn push_detail(page: &mut Page, scene: Scene<'_>, piece: &Piece, i: u
         _ => return,
     };
     let path = path_of(scene, piece.node, step);
-    if let Some(mut path) = page.keep(path) {
+    if let Some(mut path) = page.line.keep(path) {
         match kind {
             Kind::Struct(structure) => push_struct(page, scene, structure, at, &mut path),
             _ => push_value(page, scene, kind, at, path.as_str()),

@@ -16,9 +16,9 @@ fn push_identifier(page: &mut Page, bytes: &[u8], at: usize) {
             if identifier
                 .iter()
                 .all(|byte| byte.is_ascii_graphic() || *byte == b' ') => {
-            page.push_name(identifier)
+            page.line.push_name(identifier)
         }
-        _ => page.push_str("none"),
+        _ => page.line.push_str("none"),
     }
     page.end_line();
 }
@@ -45,24 +45,24 @@ pub fn header_lines(alloc: Global, bytes: &[u8]) -> Result<String, AllocError>
     ensures plain { IfOk result (λ text. IsPage (chars (string_bytes text))) }
 {
     let mut page = Page::new(alloc, COLUMNS);
-    page.push_str("length: ");
-    page.push_number(bytes.len() as u64);
+    page.line.push_str("length: ");
+    page.line.push_number(bytes.len() as u64);
     page.end_line();
     let is_prefixed = looks_prefixed(bytes);
     let front = if is_prefixed { 4usize } else { 0 };
-    page.push_str("root offset: ");
+    page.line.push_str("root offset: ");
     if bytes.len() < front.saturating_add(4) {
-        page.push_str("none");
+        page.line.push_str("none");
     } else {
-        page.push_number(u64::from(u32_within(bytes, front)));
+        page.line.push_number(u64::from(u32_within(bytes, front)));
         if !may_be_root(bytes, front) {
-            page.push_str(", where no table can be");
+            page.line.push_str(", where no table can be");
         }
     }
     page.end_line();
-    page.push_str("identifier: ");
+    page.line.push_str("identifier: ");
     push_identifier(&mut page, bytes, front.saturating_add(4));
-    page.push_str("size-prefixed: ");
+    page.line.push_str("size-prefixed: ");
     page.push_line(if is_prefixed { "looks so" } else { "no" });
     page.into_text()
 }

@@ -312,22 +312,22 @@ impl<'a> Listing<'a> {
             page.end_line();
             return;
         };
-        page.push_str("FAULT ");
-        page.push_number(u64::from(fault.number()));
-        page.push_str(" ");
-        page.push_str(fault.name());
+        page.line.push_str("FAULT ");
+        page.line.push_number(u64::from(fault.number()));
+        page.line.push_str(" ");
+        page.line.push_str(fault.name());
         if let Some(at) = fault.offset() {
-            page.push_str(" at ");
-            page.push_number(at);
+            page.line.push_str(" at ");
+            page.line.push_number(at);
         }
         if let ReadFault::MissingRequired(_, slot) = fault {
-            page.push_str(" slot ");
-            page.push_number(u64::from(slot));
+            page.line.push_str(" slot ");
+            page.line.push_number(u64::from(slot));
         }
         if self.has_path {
-            page.push_str(" of ");
+            page.line.push_str(" of ");
             let path = path_back(self.alloc, self.layout, self.way_back.as_slice());
-            if let Some(path) = page.keep(path) {
+            if let Some(path) = page.line.keep(path) {
                 push_cut_path(page, path.as_str());
             }
         }

@@ -26,21 +26,21 @@ pub(crate) fn digits_of(number: u64) -> usize {
 
 pub(crate) fn push_spaces(page: &mut Page, count: usize) {
     for _ in 0..count {
-        page.push_str(" ");
+        page.line.push_str(" ");
     }
 }
 
 /// Adds a number at the right end of so many columns.
 fn push_right(page: &mut Page, number: u64, columns: usize) {
     push_spaces(page, columns.saturating_sub(digits_of(number)));
-    page.push_number(number);
+    page.line.push_number(number);
 }
 
 /// Adds a byte as two hexadecimal digits, and a space.
 fn push_byte(page: &mut Page, byte: u8) {
-    page.push_str(DIGITS[usize::from(byte / 16)]);
-    page.push_str(DIGITS[usize::from(byte % 16)]);
-    page.push_str(" ");
+    page.line.push_str(DIGITS[usize::from(byte / 16)]);
+    page.line.push_str(DIGITS[usize::from(byte % 16)]);
+    page.line.push_str(" ");
 }
 
 /// Adds the front of a range's bytes, and two dots where there are more.
@@ -50,15 +50,16 @@ fn push_bytes(page: &mut Page, bytes: &[u8]) {
         push_byte(page, *byte);
     }
     push_spaces(page, CELL.saturating_mul(SHOWN.saturating_sub(shown.len())));
-    page.push_str(if bytes.len() > SHOWN { ".. " } else { "   " });
+    page.line
+        .push_str(if bytes.len() > SHOWN { ".. " } else { "   " });
 }
 
 /// Begins a line on the bytes from one position up to another, in a buffer of these bytes.
 pub(crate) fn begin_line(page: &mut Page, bytes: &[u8], start: usize, end: usize) {
     let columns = digits_of(bytes.len() as u64);
     push_right(page, start as u64, columns);
-    page.push_str("..");
-    page.push_number(end as u64);
+    page.line.push_str("..");
+    page.line.push_number(end as u64);
     push_spaces(
         page,
         columns

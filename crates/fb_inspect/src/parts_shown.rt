@@ -5,7 +5,8 @@ use crate::page_lines::begin_piece;
 use crate::paths::{Scene, push_path};
 use crate::pieces::{Piece, What};
 use crate::values_shown::{push_code, push_number_at, push_numbers, push_text};
-use fb_explain_pages::{Page, push_shape};
+use fb_explain_pages::Page;
+use fb_findings::push_shape;
 use fb_layout::kind_in;
 use fb_read::Step;
 use fb_schema::{Kind, Shape, TypeId, field_at, kind_name, type_name};
@@ -13,16 +14,16 @@ use fb_schema::{Kind, Shape, TypeId, field_at, kind_name, type_name};
 /// Adds that several references lead to a part.
 fn push_shared(page: &mut Page, node: &Node, what: &str) {
     if node.references > 1 {
-        page.push_str(", shared by ");
-        page.push_number(u64::from(node.references));
-        page.push_str(what);
+        page.line.push_str(", shared by ");
+        page.line.push_number(u64::from(node.references));
+        page.line.push_str(what);
     }
 }
 
 /// Adds where the reference at a position leads.
 pub(crate) fn push_target(page: &mut Page, bytes: &[u8], at: usize) {
-    page.push_str(" at ");
-    page.push_number((at as u64).saturating_add(u64::from(u32_within(bytes, at))));
+    page.line.push_str(" at ");
+    page.line.push_number((at as u64).saturating_add(u64::from(u32_within(bytes, at))));
 }
 
 /// Adds what a table has in a slot.
@@ -32,8 +33,8 @@ fn push_field(page: &mut Page, scene: Scene<'_>, table: TypeId, slot: u16, at: u
         return;
     };
     if let Shape::One(Kind::Code(union)) = field.shape {
-        page.push_str("type of union ");
-        page.push_str(type_name(schema, union));
+        page.line.push_str("type of union ");
+        page.line.push_str(type_name(schema, union));
         push_code(
             page,
             schema,
@@ -42,7 +43,11 @@ fn push_field(page: &mut Page, scene: Scene<'_>, table: TypeId, slot: u16, at: u
         );
         return;
     }
-    push_shape(page, field.shape, kind_name(schema, kind_in(field.shape)));
+    push_shape(
+        &mut page.line,
+        field.shape,
+        kind_name(schema, kind_in(field.shape)),
+    );
     match field.shape {
         Shape::One(Kind::Scalar(_) | Kind::Enum(_)) => {
             if let Shape::One(kind) = field.shape {
@@ -55,7 +60,7 @@ fn push_field(page: &mut Page, scene: Scene<'_>, table: TypeId, slot: u16, at: u
         Shape::One(Kind::Struct(_) | Kind::Union(_) | Kind::Code(_)) => {}
     }
     if field.deprecated {
-        page.push_str(", deprecated");
+        page.line.push_str(", deprecated");
     }
 }
 
@@ -65,17 +70,17 @@ fn push_length(page: &mut Page, scene: Scene<'_>, node: &Node) {
     let unit = match node.lead {
         Lead::Vector(kind) => {
             let name = kind_name(scene.layout.schema(), kind);
-            push_shape(page, Shape::Many(kind), name);
+            push_shape(&mut page.line, Shape::Many(kind), name);
             if len == 1 { " element" } else { " elements" }
         }
         _ => {
-            page.push_str("string");
+            page.line.push_str("string");
             if len == 1 { " byte" } else { " bytes" }
         }
     };
-    page.push_str(", ");
-    page.push_number(len);
-    page.push_str(unit);
+    page.line.push_str(", ");
+    page.line.push_number(len);
+    page.line.push_str(unit);
     push_shared(page, node, " references");
 }
 
@@ -85,7 +90,7 @@ fn push_content(page: &mut Page, scene: Scene<'_>, node: &Node, piece: &Piece) {
     match node.lead {
         Lead::Vector(kind) => {
             let name = kind_name(scene.layout.schema(), kind);
-            push_shape(page, Shape::Many(kind), name);
+            push_shape(&mut page.line, Shape::Many(kind), name);
             let count = u32_within(scene.bytes, node.at as usize) as usize;
             push_numbers(page, scene.layout, scene.bytes, kind, at, count);
         }
@@ -93,7 +98,7 @@ fn push_content(page: &mut Page, scene: Scene<'_>, node: &Node, piece: &Piece) {
             let end = (piece.end as usize).saturating_sub(1);
             let text = scene.bytes.get(at..end).unwrap_or(&[]);
             if let Ok(text) = std::str::from_utf8(text) {
-                page.push_str("string = ");
+                page.line.push_str("string = ");
                 push_text(page, text);
             }
         }
@@ -123,20 +128,21 @@ fn push_part(page: &mut Page, scene: Scene<'_>, piece: &Piece, node: &Node) {
     };
     if let Some(step) = step_to(piece.what, table) {
         push_path(page, scene, piece.node, step);
-        page.push_str(": ");
+        page.line.push_str(": ");
     }
     match piece.what {
         What::Vtable => {
-            page.push_str("vtable of ");
-            page.push_str(type_name(schema, table));
+            page.line.push_str("vtable of ");
+            page.line.push_str(type_name(schema, table));
             push_shared(page, node, " tables");
         }
         What::Table => {
-            page.push_str("table ");
-            page.push_str(type_name(schema, table));
-            page.push_str(", vtable at ");
+            page.line.push_str("table ");
+            page.line.push_str(type_name(schema, table));
+            page.line.push_str(", vtable at ");
             let back = i64::from(u32_within(scene.bytes, at).cast_signed());
-            page.push_integer(i128::from(piece.start) - i128::from(back));
+            page.line
+                .push_integer(i128::from(piece.start) - i128::from(back));
             push_shared(page, node, " references");
         }
         What::Field(slot) => push_field(page, scene, table, slot, at),
@@ -145,14 +151,14 @@ fn push_part(page: &mut Page, scene: Scene<'_>, piece: &Piece, node: &Node) {
             push_target(page, scene.bytes, at);
         }
         What::UnknownMember(_, code) => {
-            page.push_str("value of a union under code ");
-            page.push_number(u64::from(code));
-            page.push_str(", which no member has");
+            page.line.push_str("value of a union under code ");
+            page.line.push_number(u64::from(code));
+            page.line.push_str(", which no member has");
         }
         What::UnknownField(slot) => {
-            page.push_str("field in slot ");
-            page.push_number(u64::from(slot));
-            page.push_str(", not in the schema");
+            page.line.push_str("field in slot ");
+            page.line.push_number(u64::from(slot));
+            page.line.push_str(", not in the schema");
         }
         What::Length => push_length(page, scene, node),
         What::Content => push_content(page, scene, node, piece),
@@ -167,9 +173,9 @@ fn push_member(page: &mut Page, scene: Scene<'_>, table: TypeId, slot: u16, code
         && let Shape::One(Kind::Union(union)) = field.shape
         && let Some(member) = schema.member_by_code(union, code)
     {
-        page.push_str(type_name(schema, member));
-        page.push_str(" of union ");
-        page.push_str(type_name(schema, union));
+        page.line.push_str(type_name(schema, member));
+        page.line.push_str(" of union ");
+        page.line.push_str(type_name(schema, union));
     }
 }
 
@@ -178,21 +184,23 @@ fn push_front(page: &mut Page, scene: Scene<'_>, piece: &Piece) {
     let at = piece.start as usize;
     match piece.what {
         What::Count => {
-            page.push_str("count of the bytes after it: ");
-            page.push_number(u64::from(u32_within(scene.bytes, at)));
+            page.line.push_str("count of the bytes after it: ");
+            page.line
+                .push_number(u64::from(u32_within(scene.bytes, at)));
         }
         What::Root if piece.end < piece.start.saturating_add(4) => {
-            page.push_str("the bytes end inside the root's offset")
+            page.line.push_str("the bytes end inside the root's offset")
         }
         What::Root => {
-            page.push_str("root: ");
+            page.line.push_str("root: ");
             let schema = scene.layout.schema();
-            page.push_str(type_name(schema, schema.root()));
+            page.line.push_str(type_name(schema, schema.root()));
             push_target(page, scene.bytes, at);
         }
         _ => {
-            page.push_str("file identifier ");
-            page.push_name(scene.bytes.get(at..piece.end as usize).unwrap_or(&[]));
+            page.line.push_str("file identifier ");
+            page.line
+                .push_name(scene.bytes.get(at..piece.end as usize).unwrap_or(&[]));
         }
     }
 }
@@ -222,7 +230,7 @@ pub(crate) fn push_head(
 ) {
     begin_piece(page, scene.bytes, piece);
     match piece.what {
-        What::Gap => page.push_str(gap_words(scene, piece, is_whole)),
+        What::Gap => page.line.push_str(gap_words(scene, piece, is_whole)),
         What::Count | What::Root | What::Identifier => push_front(page, scene, piece),
         _ => {
             if let Some(node) = scene.nodes.get(piece.node) {
@@ -231,7 +239,7 @@ pub(crate) fn push_head(
         }
     }
     if overlaps {
-        page.push_str(" (overlaps what is above)");
+        page.line.push_str(" (overlaps what is above)");
     }
     page.end_line();
 }

@@ -67,17 +67,17 @@ pub(crate) fn path_of(scene: Scene<'_>, node: u32, last: Step) -> Result<String,
 pub(crate) fn push_cut_path(page: &mut Page, path: &str) {
     match path.len().checked_sub(LONGEST_PATH) {
         Some(from) if from > 0 => {
-            page.push_str("...");
-            page.push_str(path.get(from..).unwrap_or(path));
+            page.line.push_str("...");
+            page.line.push_str(path.get(from..).unwrap_or(path));
         }
-        _ => page.push_str(path),
+        _ => page.line.push_str(path),
     }
 }
 
 /// Adds the path to a part and a step further.
 pub(crate) fn push_path(page: &mut Page, scene: Scene<'_>, node: u32, last: Step) {
     let path = path_of(scene, node, last);
-    if let Some(path) = page.keep(path) {
+    if let Some(path) = page.line.keep(path) {
         push_cut_path(page, path.as_str());
     }
 }

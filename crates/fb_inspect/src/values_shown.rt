@@ -15,35 +15,36 @@ const MOST_NUMBERS: usize = 8;
 /// Adds a character as it is in a JSON string.
 fn push_character(page: &mut Page, character: char) {
     match character {
-        '"' => page.push_str("\\\""),
-        '\\' => page.push_str("\\\\"),
-        '\u{8}' => page.push_str("\\b"),
-        '\u{c}' => page.push_str("\\f"),
-        '\n' => page.push_str("\\n"),
-        '\r' => page.push_str("\\r"),
-        '\t' => page.push_str("\\t"),
+        '"' => page.line.push_str("\\\""),
+        '\\' => page.line.push_str("\\\\"),
+        '\u{8}' => page.line.push_str("\\b"),
+        '\u{c}' => page.line.push_str("\\f"),
+        '\n' => page.line.push_str("\\n"),
+        '\r' => page.line.push_str("\\r"),
+        '\t' => page.line.push_str("\\t"),
         '\0'..='\u{1f}' => {
-            page.push_str("\\u00");
-            page.push_str(if character < '\u{10}' { "0" } else { "1" });
-            page.push_str(DIGITS[character as usize % 16]);
+            page.line.push_str("\\u00");
+            page.line
+                .push_str(if character < '\u{10}' { "0" } else { "1" });
+            page.line.push_str(DIGITS[character as usize % 16]);
         }
-        _ => page.push_str(character.encode_utf8(&mut [0; 4])),
+        _ => page.line.push_str(character.encode_utf8(&mut [0; 4])),
     }
 }
 
 /// Adds a text in quotes, and three dots after the quotes of its front where it is long.
 pub(crate) fn push_text(page: &mut Page, text: &str) {
-    page.push_str("\"");
+    page.line.push_str("\"");
     let mut left = LONGEST_TEXT;
     for character in text.chars() {
         if left == 0 {
-            page.push_str("\"...");
+            page.line.push_str("\"...");
             return;
         }
         left -= 1;
         push_character(page, character);
     }
-    page.push_str("\"");
+    page.line.push_str("\"");
 }
 
 /// Whether an enum's values are flags.
@@ -88,35 +89,37 @@ fn push_flags(page: &mut Page, schema: &Schema, enumeration: TypeId, bits: u64) 
     let mut gap = "\"";
     for place in 0..64u32 {
         if let Some(Some(name)) = bit_name(schema, enumeration, bits, place) {
-            page.push_str(gap);
-            page.push_str(name);
+            page.line.push_str(gap);
+            page.line.push_str(name);
             gap = " ";
         }
     }
-    page.push_str("\"");
+    page.line.push_str("\"");
 }
 
 /// Adds a number of a kind: of an enum its name or the names of its bits, where it has them.
 pub(crate) fn push_number(page: &mut Page, schema: &Schema, kind: Kind, number: i128) {
     match kind {
-        Kind::Scalar(Base::Bool) => page.push_str(if number == 0 { "false" } else { "true" }),
+        Kind::Scalar(Base::Bool) => page
+            .line
+            .push_str(if number == 0 { "false" } else { "true" }),
         Kind::Enum(enumeration) if has_flags(schema, enumeration) => {
             let bits = bits_of(number);
             if are_named(schema, enumeration, bits) {
                 push_flags(page, schema, enumeration, bits)
             } else {
-                page.push_integer(number)
+                page.line.push_integer(number)
             }
         }
         Kind::Enum(enumeration) => match schema.name_of_number(enumeration, number) {
             Some(name) => {
-                page.push_str("\"");
-                page.push_str(name);
-                page.push_str("\"");
+                page.line.push_str("\"");
+                page.line.push_str(name);
+                page.line.push_str("\"");
             }
-            None => page.push_integer(number),
+            None => page.line.push_integer(number),
         },
-        _ => page.push_integer(number),
+        _ => page.line.push_integer(number),
     }
 }
 
@@ -140,7 +143,7 @@ pub(crate) fn push_number_at(
     if let Some(base) = base_of(layout, kind)
         && let Some(number) = number_within(bytes, at, base)
     {
-        page.push_str(" = ");
+        page.line.push_str(" = ");
         push_number(page, layout.schema(), kind, number);
     }
 }
@@ -158,10 +161,10 @@ pub(crate) fn push_numbers(
         return;
     };
     let size = usize::from(base.size());
-    page.push_str(" = [");
+    page.line.push_str(" = [");
     for i in 0..count.min(MOST_NUMBERS) {
         if i > 0 {
-            page.push_str(", ");
+            page.line.push_str(", ");
         }
         if let Some(number) = number_within(
             bytes,
@@ -171,25 +174,26 @@ pub(crate) fn push_numbers(
             push_number(page, layout.schema(), kind, number);
         }
     }
-    page.push_str(if count > MOST_NUMBERS { ", ...]" } else { "]" });
+    page.line
+        .push_str(if count > MOST_NUMBERS { ", ...]" } else { "]" });
 }
 
 /// Adds ` = ` and the name of the member that a union's code names, or the code.
 pub(crate) fn push_code(page: &mut Page, schema: &Schema, union: TypeId, code: u8) {
-    page.push_str(" = ");
+    page.line.push_str(" = ");
     if code == 0 {
-        page.push_str("\"NONE\"");
+        page.line.push_str("\"NONE\"");
         return;
     }
     match members_of(schema, union).get(usize::from(code - 1)) {
         Some(member) => {
-            page.push_str("\"");
-            page.push_str(member.0.as_str());
-            page.push_str("\"");
+            page.line.push_str("\"");
+            page.line.push_str(member.0.as_str());
+            page.line.push_str("\"");
         }
         None => {
-            page.push_number(u64::from(code));
-            page.push_str(", which no member has");
+            page.line.push_number(u64::from(code));
+            page.line.push_str(", which no member has");
         }
     }
 }

@@ -3,7 +3,7 @@ use crate::flags::Flags;
 use crate::limits;
 use crate::program_name::eprint_usage;
 use crate::terminal::{columns, print_explanation};
-use fb_explain::{FileFailure, Source, Sources, explain, fault_page, warnings};
+use fb_explain::{FileFailure, Source, Sources, explain, fault_page, page_of, warnings};
 use flatc_files::{Input, Job, Texts};
 use flatc_tool::ToolFault;
 use std::alloc::AllocError;
@@ -44,10 +44,9 @@ fn explanation(
         unknown_json: flags.unknown_json,
         raw_binary: flags.raw_binary,
         size_prefixed: flags.form.size_prefixed,
-        columns: columns(rt),
         failure: file_failure(texts),
     };
-    explain(rt.alloc(), &fault, &sources)
+    explain(rt.alloc(), fault, &sources, columns(rt))
 }
 
 /// Prints what explains a refusal under the flags of a line; nothing where memory runs out.
@@ -57,14 +56,20 @@ pub(crate) fn explain_refusal(rt: &HostRuntime, flags: Flags, texts: &Texts<'_>,
     }
 }
 
+/// What may still be meant otherwise where a schema conforms, in lines.
+fn warning_lines(rt: &HostRuntime, texts: &Texts<'_>) -> Result<String, AllocError> {
+    let old = source_of(&texts.schema);
+    let new = source_of(&texts.input);
+    let findings = warnings(rt.alloc(), old, new)?;
+    page_of(rt.alloc(), findings.as_slice(), columns(rt))
+}
+
 /// Prints what may still be meant otherwise where a schema conforms.
 pub(crate) fn warn(rt: &HostRuntime, job: &Job, texts: &Texts<'_>) {
-    if let Job::Conform { .. } = job {
-        let old = source_of(&texts.schema);
-        let new = source_of(&texts.input);
-        if let Ok(text) = warnings(rt.alloc(), old, new, columns(rt)) {
-            print_explanation(rt, text.as_str());
-        }
+    if let Job::Conform { .. } = job
+        && let Ok(text) = warning_lines(rt, texts)
+    {
+        print_explanation(rt, text.as_str());
     }
 }
 

@@ -138,10 +138,9 @@ pub extern "C" fn flatc_explain<'a>(
         unknown_json: options.ignores_unknown(),
         raw_binary: options.is_raw(),
         size_prefixed: options.has_prefix(),
-        columns: COLUMNS,
         failure: None,
     };
-    match explain(alloc, &fault, &sources) {
+    match explain(alloc, fault, &sources, COLUMNS) {
         Ok(text) => if give(alloc, out, text.into_bytes()) {
             OK
         } else {

@@ -148,10 +148,9 @@ fn explained(alloc: Global, refused: &Refused<'_>) -> Result<String, AllocError>
         unknown_json: false,
         raw_binary: false,
         size_prefixed: false,
-        columns: COLUMNS,
         failure: None,
     };
-    explain(alloc, &refused.fault, &sources)
+    explain(alloc, refused.fault, &sources, COLUMNS)
 }
 
 /// What an example's JSON, its bytes that are cut, or a schema that doesn't conform to its own is refused with.

@@ -189,7 +189,7 @@ fault_kinds! {
         EnumChanged = 101, "EnumChanged";
         /// A union's member is gone, or its number names another table.
         UnionChanged = 102, "UnionChanged";
-        // JSON texts
+        // Files and JSON texts
         /// The text isn't JSON as RFC 8259 has it, is nested deeper than 127 levels, or isn't UTF-8.
         BadJson = 113, "BadJson";
     }

@@ -272,10 +272,9 @@ fn explanation_of(alloc: Global, fault: &ToolFault) -> Result<String, AllocError
         unknown_json: false,
         raw_binary: false,
         size_prefixed: false,
-        columns: COLUMNS,
         failure: None,
     };
-    explain(alloc, fault, &sources)
+    explain(alloc, *fault, &sources, COLUMNS)
 }
 
 #[test]
