@@ -9,6 +9,7 @@
 # make valgrind   runs the C example under valgrind, outside the gate
 # make test       the gate: every proof from nothing, the must-fail edits, the tests, the program
 # make check CRATE=NAME  proves one crate over the libraries below it
+# make quick      tries rows, command, explanations and some damaged buffers over what is built, in a few minutes
 # make rows       tries the rows of crates/test_rows, with nothing proved
 # make fmt        formats all crates
 # make mutations  tries the edits that the prover has to refuse, outside the gate: those that read something else when
@@ -32,7 +33,7 @@ SONAME = libflatc.so.0
 INCLUDES = $(DESTDIR)$(PREFIX)/include
 LIBRARIES = $(DESTDIR)$(PREFIX)/$(LIBDIR)
 
-.PHONY: help run try build check rows fmt lib install uninstall dist examples valgrind test mutations costs soak bench \
+.PHONY: help run try build check quick rows fmt lib install uninstall dist examples valgrind test mutations costs soak bench \
 	bench-library
 
 # The lines at the top of this file.
@@ -94,6 +95,9 @@ test:
 
 check:
 	@cd crates/$(CRATE) && rt check
+
+quick:
+	@tests/quick.sh
 
 rows:
 	@cd crates/test_rows && rt try --steps 1 --seconds 900 < stdin | head -n 1
