@@ -56,7 +56,7 @@ NONE = "memoryless"
 MOST = 20_000
 # Calls on what is nested deep: tables made of JSON and printed, at the deepest limits, and a struct that is read, or
 # copied too, and dropped; how deep, and a stack in KiB that is enough.
-DEEP = (("tables", 127, 256), ("read", 1000, 512), ("copy", 1000, 1024), ("read", 10_000, 8192), ("copy", 10_000, 8192))
+DEEP = (("tables", 127, 256), ("read", 1000, 768), ("copy", 1000, 1024), ("read", 10_000, 8192), ("copy", 10_000, 8192))
 
 
 def outcome(tests, library, call, example, wish):
