@@ -1,11 +1,12 @@
 //! What notes the cuts of a text, block by block.
 use crate::cuts::{Cuts, RunEnd};
+use crate::json_texts::MOST_BRACKETS;
 use crate::walk::{BLOCK, brackets, commas, lowest, opening};
 use std::alloc::{AllocError, Global};
 use std::simd::prelude::*;
 
-/// The brackets that may be open at once in a JSON text.
-const MOST_OPEN: usize = 127;
+// As a length.
+const MOST_OPEN: usize = MOST_BRACKETS as usize;
 
 /// How many times as long a run may be whose elements have no brackets.
 const WITHOUT_BRACKETS: usize = 2;

@@ -10,6 +10,9 @@ use fast_float::Numeral;
 use json::{Invalid, Reader, Scratch, Token};
 use std::alloc::AllocError;
 
+/// The brackets that may be open at once in a JSON text that `serde_json` reads.
+pub const MOST_BRACKETS: u8 = 127;
+
 /// Whether `serde_json` reads a number without its sign: an integer of 64 bits, or one whose nearest `f64` is finite.
 fn is_unsigned_in_range(number: &Numeral<'_>) -> bool
     ensures { result ≡ is_some (number_from false number.now) }

@@ -13,7 +13,7 @@ mod walk;
 pub use blanks::leading_blanks;
 pub use cut::{Member, Piece, Run, cut_array, cut_object};
 pub use cuts::Cuts;
-pub use json_texts::{count_elements, is_json_at};
+pub use json_texts::{MOST_BRACKETS, count_elements, is_json_at};
 pub use laws::{
     array_is_that_of_its_elements, blanks_change_nothing, cut_array_is_read, cut_array_is_utf8,
     cut_members_are_the_text, cut_object_is_read, cut_object_is_utf8, cut_runs_are_the_text,

@@ -6,11 +6,11 @@ use Rattle.std.proofs.lemmas.Option.{get_or_from_slice_get, slice_get_within}
 use Rattle.std.proofs.lemmas.List.{take_more, map_push, get_or-map, length-map}
 use Rattle.std.proofs.lemmas.List.Elements.{All-cons, All-nil}
 use Rattle.std.proofs.lemmas.Slice.Zip.{all_zipped_more, AllZip-long}
-use Rattle.fb_index.specs.Words.{words}
-use Rattle.fb_index.specs.PathTree.{paths, IsTree, KeepsPaths}
-use Rattle.fb_index.specs.declared.path_tree.PathTree.{PathTree}
-use Rattle.fb_index.specs.Scopes.{paths_at}
-use Rattle.fb_index.proofs.WordsOf.{words-inside}
+use Rattle.fb_resolve.specs.Words.{words}
+use Rattle.fb_resolve.specs.PathTree.{paths, IsTree, KeepsPaths}
+use Rattle.fb_resolve.specs.declared.namespaces.path_tree.PathTree.{PathTree}
+use Rattle.fb_resolve.specs.Scopes.{paths_at}
+use Rattle.fb_resolve.proofs.namespaces.WordsOf.{words-inside}
 use Rattle.fb_schema.specs.Schema.{Name}
 use Rattle.fb_resolve.specs.Outline.{TypeRead, full_name, name_of_type}
 use Rattle.fb_resolve.specs.Meaning.{words_of_scope, paths_of_types}

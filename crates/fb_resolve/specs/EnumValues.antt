@@ -123,11 +123,11 @@ abbrev pub behind_dot : Name → Option Name
 behind_dot [] = None
 behind_dot (c ∷ cs) = if c == dot then Some cs else None
 
--- what stands behind a name and a dot
+-- what stands after a name and a dot
 unfoldable pub behind : Name → Name → Option Name
 behind prefix name = if starts_with nat_eq name prefix then behind_dot (drop (length prefix) name) else None
 
--- what the name of a value means: alone, or behind the enum's declared or full name and a dot
+-- what the name of a value means: alone, or after the enum's declared or full name and a dot
 abbrev pub value_named : Option Name → EnumRead → List (Name × ℤ) → Name → Option ℤ
 value_named scope e values name = option_or (number_named values name)
     (option_or (option_and_then (number_named values) (behind e.name.bytes name))

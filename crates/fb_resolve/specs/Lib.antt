@@ -1,3 +1,9 @@
+pub mod Words
+pub mod InnermostTypes
+pub mod PathTree
+pub mod Maps
+pub mod NamedTypes
+pub mod Scopes
 pub mod Outline
 pub mod BasicTypes
 pub mod Meaning

@@ -8,8 +8,8 @@ use Rattle.fb_syntax.specs.declared.declarations.TypeDecl.{TypeDecl}
 use Rattle.fb_syntax.specs.declared.declarations.TypeDecl.TheVariants as decls
 use Rattle.fb_schema.specs.Schema.{Name}
 use Rattle.fb_resolve.specs.Outline.{TypeRead, name_of_type}
-use Rattle.fb_index.specs.Words.{Path, words}
-use Rattle.fb_index.specs.Innermost.{meant_inside}
+use Rattle.fb_resolve.specs.Words.{Path, words}
+use Rattle.fb_resolve.specs.InnermostTypes.{innermost_type}
 use Rattle.fb_resolve.specs.BasicTypes.{basic_type}
 use Rattle.fb_resolve.specs.declared.basic_types.BasicType.{BasicType}
 use Rattle.fb_resolve.specs.declared.basic_types.BasicType.TheVariants as basic
@@ -27,8 +27,8 @@ abbrev pub paths_of_types : List TypeRead → List Path
 paths_of_types types = map (λ r. words (name_of_type r)) types
 
 -- the number of the type that a name means: the first of its full name in the innermost namespace that has one
-abbrev pub type_meant : List TypeRead → Option Name → Name → Option ℕ
-type_meant types scope name = meant_inside (paths_of_types types) (words_of_scope scope) (words name)
+abbrev pub type_of_name : List TypeRead → Option Name → Name → Option ℕ
+type_of_name types scope name = innermost_type (paths_of_types types) (words_of_scope scope) (words name)
 
 -- a use of the type of a number
 abbrev pub use_of : ℕ → TypeDecl → Meaning
@@ -54,7 +54,7 @@ basic_or None m = m
 
 -- A basic type's name is always that; any other names a type of an enclosing namespace.
 unfoldable pub meaning_of : List TypeRead → Option Name → Name → Meaning
-meaning_of types scope name = basic_or (basic_type name) (use_of_type types (type_meant types scope name))
+meaning_of types scope name = basic_or (basic_type name) (use_of_type types (type_of_name types scope name))
 
 abbrev pub type_name : FieldType → Located
 type_name (One n) = n

@@ -22,7 +22,7 @@ pub record RootRead : Type 0 where
   pub scope : Option Name
   pub name : Located
 
--- what some declarations give, and the namespace in force behind them
+-- what some declarations give, and the namespace in force after them
 pub record WalkRead : Type 0 where
   pub types : List TypeRead
   pub attributes : List Name

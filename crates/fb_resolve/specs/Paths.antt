@@ -3,10 +3,10 @@
 use Rattle.std.specs.Prelude.{ℕ, ◌≡◌, List, [], ◌∷◌, Option, None, Some, map, slice_get}
 use Rattle.std.specs.List.{AllZip}
 use Rattle.std.specs.Option.{ForSome, option_copied}
-use Rattle.fb_index.specs.Words.{Path, words}
-use Rattle.fb_index.specs.PathTree.{paths, IsTree, KeepsPaths}
-use Rattle.fb_index.specs.Scopes.{tree_of, names_of, AreScopes, IsUse}
-use Rattle.fb_index.specs.declared.path_tree.PathTree.{PathTree}
+use Rattle.fb_resolve.specs.Words.{Path, words}
+use Rattle.fb_resolve.specs.PathTree.{paths, IsTree, KeepsPaths}
+use Rattle.fb_resolve.specs.Scopes.{tree_of, names_of, AreScopes, IsUse}
+use Rattle.fb_resolve.specs.declared.namespaces.path_tree.PathTree.{PathTree}
 use Rattle.fb_resolve.specs.Outline.{TypeRead, RootRead, WalkRead, name_of_type}
 use Rattle.fb_resolve.specs.RepeatedNames.{repeated_names}
 use Rattle.fb_resolve.specs.EnumValues.{enum_values_of}

@@ -8,7 +8,7 @@ ghost use Rattle.fb_syntax.specs.Integers.{greatest_magnitude};
 ghost use Rattle.fb_schema.specs.Alignments.{base_size};
 ghost use Rattle.fb_schema.specs.Schema.{Name};
 ghost use Rattle.fb_resolve.specs.Outline.{TypeRead};
-ghost use Rattle.fb_index.specs.declared.path_tree.PathTree.{PathTree};
+ghost use Rattle.fb_resolve.specs.declared.namespaces.path_tree.PathTree.{PathTree};
 ghost use Rattle.fb_resolve.specs.Meaning.{meaning_of};
 ghost use Rattle.fb_resolve.specs.Paths.{names_used, IsNoted, AreUses};
 ghost use Rattle.fb_resolve.specs.EnumValues.{integer_type, enum_values, name_of_value, value_over};

@@ -8,6 +8,7 @@ mod enum_values;
 mod ids;
 mod meanings;
 mod members;
+mod namespaces;
 mod outline;
 mod resolve;
 mod resolved;

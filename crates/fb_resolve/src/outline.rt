@@ -5,8 +5,9 @@ ghost use Rattle.fb_resolve.specs.EnumValues.{enum_values_of, underlying_at};
 
 use crate::basic_types::BasicType;
 use crate::enum_values::EnumValues;
+use crate::namespaces::Scopes;
 use crate::walk::Walk;
-use fb_index::{HashKey, Scopes};
+use fb_index::HashKey;
 use fb_schema::Base;
 use fb_syntax::{Decls, DottedName, Text, TypeDecl};
 use std::alloc::{AllocError, Global};
@@ -97,7 +98,7 @@ impl<'d, 's> Model for Outline<'d, 's> {
     ghost Value = { Outlined };
 
     ghost use Rattle.fb_resolve.specs.Paths.{AreNames, IsRootPlaced};
-    ghost use Rattle.fb_index.specs.Scopes.{tree_of, names_of};
+    ghost use Rattle.fb_resolve.specs.Scopes.{tree_of, names_of};
 
     ghost view = { λ o. record {
       types = o.types.items;

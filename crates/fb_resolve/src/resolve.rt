@@ -1,7 +1,7 @@
 //! Each name and attribute in the declarations of types looked up once.
 ghost use Rattle.std.specs.Prelude.{◌≡◌, IfOk, map};
 ghost use Rattle.std.specs.Option.{option_copied};
-ghost use Rattle.fb_index.specs.Scopes.{tree_of, names_of, AreScopes};
+ghost use Rattle.fb_resolve.specs.Scopes.{tree_of, names_of, AreScopes};
 ghost use Rattle.fb_resolve.specs.Meaning.{paths_of_types};
 ghost use Rattle.fb_resolve.specs.Outline.{name_of_type};
 ghost use Rattle.fb_resolve.specs.Paths.{types_used, tables_used, names_used, IsRootPlaced, AreUses, AreNames};

@@ -2,7 +2,7 @@
 ghost use Rattle.std.specs.Prelude.{◌≡◌, map};
 ghost use Rattle.fb_schema.specs.Schema.{Name};
 ghost use Rattle.std.specs.Option.{option_copied};
-ghost use Rattle.fb_index.specs.Scopes.{tree_of, names_of, AreScopes};
+ghost use Rattle.fb_resolve.specs.Scopes.{tree_of, names_of, AreScopes};
 ghost use Rattle.fb_resolve.specs.Meaning.{meaning_of, use_of_type, words_of_scope, paths_of_types};
 ghost use Rattle.fb_resolve.specs.Paths.{IsPath, IsNoted};
 ghost use Rattle.fb_resolve.specs.EnumValues.{enum_values_of};
@@ -35,7 +35,7 @@ impl Scope<'_, '_, '_> {
         match noted {
             TypeUse::Basic(basic) => basic.meaning(),
             TypeUse::Named(used) => {
-                meaning_of_type(self.types, self.names.scopes.meant(self.path, used))
+                meaning_of_type(self.types, self.names.scopes.resolve(self.path, used))
             }
         }
     }

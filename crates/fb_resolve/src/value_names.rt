@@ -7,7 +7,7 @@ ghost use Rattle.fb_resolve.specs.EnumValues.{behind, value_at};
 use crate::type_uses::Scope;
 use fb_syntax::TypeDecl;
 
-/// What stands behind a name and a dot.
+/// What follows a name and a dot.
 #[tactic(auto, unfolding(crate::specs::EnumValues::behind))]
 fn behind<'n>(prefix: &str, name: &'n str) -> Option<&'n str>
     ensures { option_copied result ≡ behind prefix.now name.now }
@@ -15,7 +15,7 @@ fn behind<'n>(prefix: &str, name: &'n str) -> Option<&'n str>
     name.strip_prefix(prefix)?.strip_prefix('.')
 }
 
-/// What stands behind the full name of a type and a dot.
+/// What follows the full name of a type and a dot.
 #[tactic(auto, using(crate::proofs::Behind::behind_inside))]
 fn behind_full_name<'n>(scope: Option<&str>, declared: &str, name: &'n str) -> Option<&'n str>
     ensures { option_copied result

@@ -2,7 +2,7 @@
 ghost use Rattle.std.specs.Prelude.{◌≡◌, ◌<◌, ◌++◌, List, [], ◌∷◌, Some, ℕ, All, IfOk, OnOk, map};
 ghost use Rattle.std.specs.Option.{option_copied};
 ghost use Rattle.fb_syntax.specs.declared.declarations.Declaration.{Declaration as Declared};
-ghost use Rattle.fb_index.specs.PathTree.{IsTree, KeepsPaths};
+ghost use Rattle.fb_resolve.specs.PathTree.{IsTree, KeepsPaths};
 ghost use Rattle.fb_resolve.specs.Outline.{scope_named, nothing_read, outline_behind, name_of_type};
 ghost use Rattle.fb_resolve.specs.RepeatedNames.{repeated_names, repeated_numbers};
 ghost use Rattle.fb_resolve.specs.Paths.{names_used, walk_read, IsNoted, AreNoted, IsPlaced};
@@ -12,8 +12,9 @@ ghost use Rattle.fb_schema.specs.Schema.{Name};
 use crate::basic_types::{BasicType, basic_type};
 use crate::enum_values::EnumValues;
 use crate::meanings::type_name;
+use crate::namespaces::{PathTree, Scopes};
 use crate::outline::{Names, Outline, RootRead, TypeNotes, TypeRead, TypeUse, word_of};
-use fb_index::{HashKey, PathTree, Scopes};
+use fb_index::HashKey;
 use fb_syntax::{Declaration, Directive, DottedName, Field, Text, TypeDecl, UnionMember};
 use std::alloc::{AllocError, Global};
 

@@ -8,7 +8,7 @@ abbrev pub is_close : List ℕ → Bool
 is_close (a ∷ b ∷ cs) = a == 42 && b == 47
 is_close _ = false
 
--- The first */ stands behind n bytes.
+-- The first */ stands after n bytes.
 pub record ClosesBehind (n : ℕ) (text : List ℕ) : Type 0 where
   pub closed : is_close (drop n text) ≡ true
   pub open_before : (k : ℕ) → k < n → is_close (drop k text) ≡ false

@@ -12,14 +12,14 @@ abbrev pub sign_len : List ℕ → ℕ
 sign_len [] = 0
 sign_len (c ∷ cs) = if is_sign c then 1 else 0
 
--- what stands behind the sign, if there is one
+-- what stands after the sign, if there is one
 abbrev pub without_sign : List ℕ → List ℕ
 without_sign s = drop (sign_len s) s
 
 abbrev pub is_decimal : List ℕ → Bool
 is_decimal s = not (length s == 0) && list_all is_digit s
 
--- 0x or 0X, and a digit behind it
+-- 0x or 0X, and a digit after it
 abbrev pub is_prefixed : List ℕ → Bool
 is_prefixed (z ∷ x ∷ h ∷ hs) = z == 48 && (x == 120 || x == 88) && is_hex h
 is_prefixed _ = false

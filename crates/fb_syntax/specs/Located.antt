@@ -6,6 +6,6 @@ pub record Located : Type 0 where
   pub bytes : List ℕ
   pub at : ℕ
 
--- with a dot and a word behind it
+-- with a dot and a word after it
 abbrev pub joined : Located → List ℕ → Located
 joined s word = record { bytes = s.bytes ++ dot ∷ word; at = s.at }

@@ -1,4 +1,4 @@
--- Rules of the grammar: what stands at the front of the tokens, and which are left behind it. `Is` says it, and `read`
+-- Rules of the grammar: what stands at the front of the tokens, and which are left after it. `Is` says it, and `read`
 -- finds it.
 use Rattle.std.specs.Prelude.{ℕ, zero, suc, ◌≡◌, ◌==◌, Bool, true, false, ◌||◌, ◌⊎◌, not, List, [], ◌∷◌, ◌++◌, length}
 use Rattle.std.specs.Prelude.{Option, Some, None, if◌then◌else◌}
@@ -9,7 +9,7 @@ use Rattle.fb_syntax.specs.Signs.{dot, byte}
 use Rattle.fb_syntax.specs.declared.tokens.TokenKind.{TokenKind}
 use Rattle.fb_syntax.specs.declared.tokens.TokenKind.TheVariants.{Word, Integer, Quoted, Punct}
 
--- what was found at the front, and the tokens behind it
+-- what was found at the front, and the tokens after it
 abbrev pub Front : Type 0 → Type 0
 Front A = Option (A × List Lexeme)
 
@@ -56,7 +56,7 @@ sign c = token (Punct c)
 abbrev pub give : {X : Type 0} → X → Rule X
 give x = record { Is = λ ts y rest. (y ≡ x) × (ts ≡ rest); read = λ ts. Some (x, ts) }
 
--- one rule behind another
+-- one rule after another
 infixl 10 ◌>>=◌
 abbrev pub ◌>>=◌ : {A B : Type 0} → Rule A → (A → Rule B) → Rule B
 ◌>>=◌ {A} first next = record {
@@ -64,14 +64,14 @@ abbrev pub ◌>>=◌ : {A B : Type 0} → Rule A → (A → Rule B) → Rule B
   read = λ ts. and_then (first.read ts) (λ x. (next x.0).read x.1);
 }
 
--- a rule, and a sign behind it
+-- a rule, and a sign after it
 abbrev pub rule_before : {X : Type 0} → Rule X → ℕ → Rule X
 rule_before rule c = do
   x ← rule
   _ ← sign c
   give x
 
--- one rule behind a token of a kind, or another where no such token stands
+-- one rule after a token of a kind, or another where no such token stands
 abbrev pub with_token : {X : Type 0} → TokenKind → (Located → Rule X) → Rule X → Rule X
 with_token kind next other = record {
   Is = λ ts x rest. ((t : Located) × (after : List Lexeme) × IsToken kind ts t after × (next t).Is after x rest) ⊎
@@ -126,11 +126,11 @@ dot_word = do
 abbrev pub no_dot : List Lexeme → Bool
 no_dot ts = not (is_sign dot ts)
 
--- a name, and a further word behind it
+-- a name, and a further word after it
 abbrev pub with_word : Located → Located → Located
 with_word name word = joined name word.bytes
 
--- { "." Word } behind a name whose words so far are s
+-- { "." Word } after a name whose words so far are s
 abbrev pub more : Located → Rule Located
 more s = record {
   Is = λ ts name rest. (words : List Located) × Repeated dot_word.Is ts words rest × (name ≡ fold with_word s words);
@@ -163,7 +163,7 @@ unfoldable pub divider : Bool → ℕ → Rule (Unit {0})
 divider trailing close =
     with_token (Punct (byte ",")) (λ _. ahead (λ ts. trailing || not (is_sign close ts))) (ahead (is_sign close))
 
--- an item of a list, and what stands behind it
+-- an item of a list, and what stands after it
 unfoldable pub listed_item : {X : Type 0} → Rule X → Bool → ℕ → Rule X
 listed_item item trailing close = do
   x ← item

@@ -42,7 +42,7 @@ byte_order_mark = 0xef ∷ 0xbb ∷ 0xbf ∷ []
 abbrev pub mark_len : List ℕ → ℕ
 mark_len bytes = if starts_with nat_eq bytes byte_order_mark then 3 else 0
 
--- The bytes are UTF-8 and, behind their byte order mark if they have one, these tokens spell them; offsets count it.
+-- The bytes are UTF-8 and, after their byte order mark if they have one, these tokens spell them; offsets count it.
 pub record SpellsText (bytes : List ℕ) (tokens : List Token) : Type 0 where
   pub utf8 : IsUtf8 bytes
   pub spelled : Spells (mark_len bytes) (drop (mark_len bytes) bytes) tokens

@@ -40,7 +40,7 @@ impl<'t> Model for DottedName<'t> {
 }
 
 impl<'t> DottedName<'t> {
-    /// The name with a dot and a word behind it.
+    /// The name with a dot and a word after it.
     pub(crate) fn join(self, alloc: Global, word: &str) -> Result<DottedName<'t>, AllocError>
         ensures { IfOk result (λ n. n ≡ joined self.entry word.now) }
     {
@@ -106,7 +106,7 @@ impl Number {
     }
 }
 
-/// What stands behind an attribute's colon.
+/// What comes after an attribute's colon.
 #[derive(Debug, Drop)]
 pub enum AttributeValue<'t> {
     Integer(Number),
@@ -123,7 +123,7 @@ pub enum FieldType<'t> {
     Many(u64, DottedName<'t>),
 }
 
-/// What stands behind a field's `=`.
+/// What comes after a field's `=`.
 #[derive(Debug, Drop)]
 pub enum DefaultValue<'t> {
     Integer(Number),
@@ -172,7 +172,7 @@ impl<'t> Model for TableDecl<'t> {
     } };
 }
 
-/// A value of an enum: its name, and the integer behind its `=`.
+/// A value of an enum: its name, and the integer after its `=`.
 #[derive(Debug, Drop)]
 pub struct EnumValue<'t> {
     pub name: Text<'t>,

@@ -146,7 +146,7 @@ impl<'t, 's> Parser<'t, 's> {
         self.name_from(first)
     }
 
-    /// A token, and this sign behind it.
+    /// A token, and this sign after it.
     fn token_before(&mut self, kind: TokenKind, sign: u8) -> Result<Text<'t>, Stop>
         ensures { Passes (λ t. t) result (rule_before (token kind) sign) self.old self.new }
     {
@@ -154,7 +154,7 @@ impl<'t, 's> Parser<'t, 's> {
         self.expect(sign).and(Ok(token))
     }
 
-    /// A name, and this sign behind it.
+    /// A name, and this sign after it.
     fn name_before(&mut self, sign: u8) -> Result<DottedName<'t>, Stop>
         ensures { Passes (λ n. n) result (rule_before dotted_name sign) self.old self.new }
     {

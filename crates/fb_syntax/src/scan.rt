@@ -45,7 +45,7 @@ fn before_close(text: &[u8]) -> Option<usize>
     None
 }
 
-// The comment behind a slash that stands at `at`.
+// The comment after a slash at `at`.
 #[tactic(auto, using(crate::proofs::FirstBytes::comments))]
 fn comment(at: u64, text: &[u8]) -> Result<Piece, SyntaxFault>
     ensures piece { IsFront (47 ∷ text.now) result }
@@ -61,7 +61,7 @@ fn comment(at: u64, text: &[u8]) -> Result<Piece, SyntaxFault>
     }
 }
 
-// The quoted text behind a quote that stands at `at`.
+// The quoted text after a quote at `at`.
 #[tactic(auto, using(crate::proofs::LongestTokens::no_quoted))]
 fn quoted(at: u64, text: &[u8]) -> Result<Piece, SyntaxFault>
     requires { at + length text.now < 2 ^ 64 }

@@ -7,14 +7,11 @@ use Rattle.json.specs.Tree.{json_tokens, items_tokens, members_tokens}
 use Rattle.serde_json.specs.Data.{Members, array, object, number, put, item, no_members}
 use Rattle.serde_json.specs.Read.{number_of, of_json, of_items, of_members}
 use Rattle.fb_pieces.specs.JsonTexts.{is_in_range, are_in_range}
+use Rattle.std.proofs.Math.Bool.{and-true}
 
 some_of_map : {A B : Type 0} (f : A → B) (o : Option A) → is_some o ≡ is_some (option_map f o)
 some_of_map f None = refl
 some_of_map f (Some a) = refl
-
-and_true : (b : Bool) → (b && true) ≡ b
-and_true true = refl
-and_true false = refl
 
 some_of_two : {A B : Type 0} (o : Option A) (more : A → Option B) (b : Bool) → ((a : A) → b ≡ is_some (more a))
     → (is_some o && b) ≡ is_some (option_and_then more o)
@@ -25,7 +22,7 @@ mutual
   pub value_in_range : (j : json.Json) → are_in_range (json_tokens j) ≡ is_some (of_json j)
   value_in_range json.null = refl
   value_in_range (json.boolean b) = refl
-  value_in_range (json.number s) = and_true (is_some (number_of s)) ∙ some_of_map number (number_of s)
+  value_in_range (json.number s) = and-true (is_some (number_of s)) ∙ some_of_map number (number_of s)
   value_in_range (json.string s) = refl
   value_in_range (json.array js) = items_in_range js ∙ some_of_map array (of_items js)
   value_in_range (json.object ms) =

@@ -15,19 +15,14 @@ use Rattle.std.specs.Option.{unwrap_or}
 use Rattle.fb_resolve.specs.ResolvedFields.{ResolvedField}
 use Rattle.fb_resolve.specs.declared.ids.Slots.TheVariants.{Wrong}
 use Rattle.fb_resolve.specs.Ids.{AreSlots, are_ids_wrong, are_places, has_no_slot, have_ids, IsWrongNumber, numbers_by_id}
+use Rattle.std.proofs.Math.Bool.{or-true}
+use Rattle.std.proofs.Math.Bool.{or-false}
+use Rattle.std.proofs.lemmas.Bool.{not-true}
 
 -- a number is met more than once
 abbrev pub IsMetTwice : List ℕ → WrongIds → Type 0
 IsMetTwice ns (Twice s) = 2 ≤ count_by (λ n. s == n) ns
 IsMetTwice ns _ = ⊥
-
-or_true : (b : Bool) → (b || true) ≡ true
-or_true true = refl
-or_true false = refl
-
-or_false : (b : Bool) → (b || false) ≡ b
-or_false true = refl
-or_false false = refl
 
 either_true : (x y : Bool) → (x || y) ≡ true → (x ≡ true) ⊎ (y ≡ true)
 either_true true y is = inl refl
@@ -97,10 +92,10 @@ module _ (ns : List ℕ) (bs : List Bool) (i k : ℕ) (within : i < length ns) w
       → get_or (set bs (get_or ns i 0) true) k false ≡ (list_any (λ n. k == n) (take i ns) || b)
   marked true is inside before =
       let same : k ≡ get_or ns i 0 = eqb-true k (get_or ns i 0) is in
-      rw same (get_or-set_same bs (get_or ns i 0) true false inside ∙ sym (or_true _))
+      rw same (get_or-set_same bs (get_or ns i 0) true false inside ∙ sym (or-true _))
   marked false is inside before =
       let apart = eqb-false k (get_or ns i 0) is in
-      get_or-set_other bs (get_or ns i 0) k true false apart ∙ before ∙ sym (or_false _)
+      get_or-set_other bs (get_or ns i 0) k true false apart ∙ before ∙ sym (or-false _)
 
   pub marks_more : (cs : List Bool) → get_or ns i 0 < length bs → cs ≡ set bs (get_or ns i 0) true → taken_by bs i
       → taken_by cs (i + 1)
@@ -113,15 +108,11 @@ module _ (ns : List ℕ) (bs : List Bool) (i k : ℕ) (within : i < length ns) w
   marks_same outside low before =
       let apart : (k == get_or ns i 0) ≡ false = search (rules, tests, arith, outside, low) in
       before ∙ sym (list_any_more (λ n. k == n) ns i 0 within ∙ ap (λ b. list_any (λ n. k == n) (take i ns) || b) apart
-      ∙ or_false _)
+      ∙ or-false _)
 
 past_end : (b : Bool) (n : ℕ) → (if b then Some n else None) ≡ None → b ≡ false
 past_end true n is = cc
 past_end false n is = refl
-
-pub not_true : (b : Bool) → not b ≡ true → b ≡ false
-not_true false is = refl
-not_true true is = cc
 
 module _ {X : Type 0} (p : X → Bool) where
   all_by_place : (xs : List X) (d : X) → ((k : ℕ) → k < length xs → p (get_or xs k d) ≡ true) → list_all p xs ≡ true
@@ -144,7 +135,7 @@ module _ {X : Type 0} (p : X → Bool) where
   one_fails [] k is = cc
   one_fails (x ∷ xs) k is =
       let found = position-Some (λ x. not (p x)) (x ∷ xs) k x is in
-      list_all_at p (x ∷ xs) k x found.0 (not_true (p (get_or (x ∷ xs) k x)) found.1)
+      list_all_at p (x ∷ xs) k x found.0 (not-true (p (get_or (x ∷ xs) k x)) found.1)
 
 -- the first free place isn't among the numbers that took theirs
 free_is_missing : (ns : List ℕ) (bs : List Bool) (f : ℕ) → length bs ≡ length ns
@@ -153,7 +144,7 @@ free_is_missing : (ns : List ℕ) (bs : List Bool) (f : ℕ) → length bs ≡ l
 free_is_missing ns bs f long marks is =
     let found = position-Some not bs f false is in
     let low : f < length ns = omega (arith, found.0, long) in
-    let missing = sym (marks f low) ∙ not_true (get_or bs f false) found.1 in
+    let missing = sym (marks f low) ∙ not-true (get_or bs f false) found.1 in
     let place : get_or (range_with_len 0 (length ns)) f 0 ≡ f =
     get_or-range_with_len 0 (length ns) f 0 low ∙ omega arith in (
       list_all_at (λ k. list_any (λ n. k == n) ns) (range_with_len 0 (length ns)) f 0

@@ -27,7 +27,7 @@ impl<'t> Item<'t> for EnumValue<'t> {
 }
 
 impl<'t> Parser<'t, '_> {
-    /// An enum behind its first word.
+    /// An enum after its first word.
     #[tactic(auto, unfolding(crate::specs::Grammar::enumeration))]
     pub(super) fn enumeration(&mut self) -> Result<EnumDecl<'t>, Stop>
         ensures { Passes (λ e. e) result enumeration self.old self.new }

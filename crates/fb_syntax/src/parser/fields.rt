@@ -53,7 +53,7 @@ impl<'t> Parser<'t, '_> {
         }))
     }
 
-    /// A table or struct behind its first word.
+    /// A table or struct after its first word.
     #[tactic(auto, unfolding(crate::specs::Grammar::table))]
     pub(super) fn table(&mut self) -> Result<TableDecl<'t>, Stop>
         ensures { Passes (λ t. t) result table self.old self.new }

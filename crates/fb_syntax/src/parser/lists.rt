@@ -38,7 +38,7 @@ impl<'t> Parser<'t, '_> {
         Ok(items)
     }
 
-    /// Items and the closing sign behind them.
+    /// Items and the closing sign after them.
     pub(super) fn block<T: Item<'t>>(&mut self, close: u8) -> Result<Vec<T>, Stop>
         ensures { Passes (λ v. v.items) result (block T.rule close) self.old self.new }
     {

@@ -1,4 +1,4 @@
-//! Attributes behind a name or a type.
+//! Attributes after a name or a type.
 ghost use Rattle.std.specs.Prelude.{◌<◌, false};
 ghost use Rattle.fb_syntax.specs.Signs.{byte};
 ghost use Rattle.fb_syntax.specs.Rules.{rule_before, listed_item};
@@ -46,7 +46,7 @@ impl<'t> Parser<'t, '_> {
         Ok(AttributeValue::Word(self.token(Word)?))
     }
 
-    /// Attributes, if there are any, and this sign behind them.
+    /// Attributes, if there are any, and this sign after them.
     #[tactic(auto, unfolding(crate::specs::Grammar::metadata))]
     pub(super) fn metadata(&mut self, sign: u8) -> Result<Vec<Attribute<'t>>, Stop>
         ensures { Passes (λ v. v.items) result (rule_before metadata sign) self.old self.new }

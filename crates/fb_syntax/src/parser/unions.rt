@@ -28,7 +28,7 @@ impl<'t> Item<'t> for UnionMember<'t> {
 }
 
 impl<'t> Parser<'t, '_> {
-    /// A union behind its first word.
+    /// A union after its first word.
     #[tactic(auto, unfolding(crate::specs::Grammar::union))]
     pub(super) fn union(&mut self) -> Result<UnionDecl<'t>, Stop>
         ensures { Passes (λ u. u) result union self.old self.new }

@@ -3,7 +3,7 @@ use Rattle.std.proofs.lemmas.Grind.{common_steps}
 use Rattle.std.proofs.lemmas.List.{drop_more, length-map}
 use Rattle.fb_resolve.specs.EnumValues.{enum_values_of}
 use Rattle.std.proofs.lemmas.Slice.Zip.{AllZip-long}
-use Rattle.fb_index.specs.Scopes.{tree_of, names_of}
+use Rattle.fb_resolve.specs.Scopes.{tree_of, names_of}
 use Rattle.fb_resolve.specs.Paths.{AreNotesOf}
 use Rattle.fb_resolve.proofs.PathsKept.{zip_at}
 use Rattle.fb_resolve.proofs.ValuesOfTypes.{values_at}

@@ -1,5 +1,5 @@
 use Rattle.std.proofs.Common.{rules, ap, sym, ◌∙◌}
-use Rattle.fb_index.specs.Scopes.{names_of}
+use Rattle.fb_resolve.specs.Scopes.{names_of}
 use Rattle.fb_resolve.specs.EnumValues.{integer_type}
 use Rattle.fb_resolve.proofs.PathsKept.{first_use}
 use Rattle.fb_resolve.proofs.type_uses.Scope.resolved_enum.Goals as goal

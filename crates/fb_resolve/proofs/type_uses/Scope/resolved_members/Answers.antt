@@ -1,6 +1,6 @@
 use Rattle.std.proofs.Common.{arith}
 use Rattle.std.proofs.lemmas.Grind.{common_steps}
-use Rattle.fb_index.specs.Scopes.{names_of}
+use Rattle.fb_resolve.specs.Scopes.{names_of}
 use Rattle.fb_resolve.proofs.PathsKept.{use_at, uses_counted}
 use Rattle.fb_resolve.proofs.type_uses.Scope.resolved_members.Goals as goal
 

@@ -4,8 +4,8 @@ use Rattle.fb_resolve.specs.EnumValues.{enum_values_of}
 use Rattle.std.specs.Option.{option_copied}
 use Rattle.std.proofs.lemmas.Option.{slice_get_within}
 use Rattle.std.proofs.lemmas.Slice.Zip.{all_zipped_more}
-use Rattle.fb_index.specs.PathTree.{paths}
-use Rattle.fb_index.specs.Words.{words}
+use Rattle.fb_resolve.specs.PathTree.{paths}
+use Rattle.fb_resolve.specs.Words.{words}
 use Rattle.fb_resolve.specs.Outline.{TypeRead, word_of, name_of_type}
 use Rattle.fb_resolve.specs.Paths.{IsPath, AreNotesOf}
 use Rattle.fb_resolve.proofs.PathsKept.{path_inside, placed_grown}

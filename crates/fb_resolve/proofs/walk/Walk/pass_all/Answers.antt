@@ -6,10 +6,10 @@ use Rattle.std.proofs.lemmas.Bool.Decides.{nat_tests}
 use Rattle.std.proofs.lemmas.List.{drop_more, drop_all}
 use Rattle.std.proofs.lemmas.Slice.Eq.{bytes_eq-Decides}
 use Rattle.std.proofs.lemmas.Slice.Zip.{all_zipped_more}
-use Rattle.fb_index.specs.Words.{words}
-use Rattle.fb_index.specs.PathTree.{IsTree}
-use Rattle.fb_index.specs.declared.path_tree.PathTree.{PathTree}
-use Rattle.fb_index.proofs.WordsOf.{words-inj}
+use Rattle.fb_resolve.specs.Words.{words}
+use Rattle.fb_resolve.specs.PathTree.{IsTree}
+use Rattle.fb_resolve.specs.declared.namespaces.path_tree.PathTree.{PathTree}
+use Rattle.fb_resolve.proofs.namespaces.WordsOf.{words-inj}
 use Rattle.fb_schema.specs.Schema.{Name}
 use Rattle.fb_resolve.specs.Outline.{TypeRead, name_of_type, outline_behind}
 use Rattle.fb_resolve.specs.Paths.{IsPath, walk_read}

@@ -1,2 +1,0 @@
-mod TypeIsNotedForEachUse
-mod InnermostIsMeant

@@ -1,4 +1,0 @@
-use Rattle.fb_index.proofs.maps.+insert_in.Given as goal
-
-abbrev pub decreases-insert_in : goal.decreases-insert_in
-decreases-insert_in l = l.levels

@@ -1,0 +1,2 @@
+mod TypeIsNotedForEachUse
+mod InnermostIsInherited
