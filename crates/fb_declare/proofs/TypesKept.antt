@@ -23,7 +23,7 @@ use Rattle.fb_resolve.specs.BasicTypes.{basic_type}
 use Rattle.fb_resolve.specs.Defaults.{given_by}
 use Rattle.fb_resolve.specs.EnumValues.{has_flags, underlying_at, value_at, number_named, value_named, behind}
 use Rattle.fb_resolve.specs.EnumValues.{enum_values, value_in, values_read}
-use Rattle.fb_resolve.specs.Meaning.{use_of, use_of_read, use_of_type, basic_or, meaning_of, type_name, type_meant}
+use Rattle.fb_resolve.specs.Meaning.{use_of, use_of_read, use_of_type, basic_or, meaning_of, type_name, type_of_name}
 use Rattle.fb_resolve.specs.MembersRead.{table_of}
 use Rattle.fb_resolve.specs.ResolvedFields.{ResolvedField}
 use Rattle.fb_resolve.specs.ResolvedType.{ResolvedType}
@@ -125,7 +125,7 @@ module _ (o : Outline) (S : DeclaredSchema) (g : Gives o S) where
   -- what a name means is there in the schema
   pub means_in : (scope : Option Name) (name : Name) → MeansIn S (meaning_of o.types scope name)
   unfolding meaning_of
-  means_in scope name = means_name S (basic_type name) _ (means_type (type_meant o.types scope name))
+  means_in scope name = means_name S (basic_type name) _ (means_type (type_of_name o.types scope name))
 
   fields_read : (scope : Option Name) (fs : List FieldRead) → All (IsRead o.types S) (resolved_fields o.types scope fs)
   fields_read scope fs = All-map (IsRead o.types S) (resolved_field o.types scope) fs

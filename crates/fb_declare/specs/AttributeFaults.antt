@@ -51,7 +51,7 @@ attribute_faults declared host again a = let built_in = built_in_attribute a.nam
     if is_left_out a.name.bytes || is_force_align_of_field host built_in then Unsupported a.name.at ∷ [] else
     faults_by_name declared host again a built_in
 
--- the faults of one attribute behind others
+-- the faults of one attribute after others
 abbrev pub attribute_behind : (Name → Bool) → AttributeHost → List AttributeRead → AttributeRead → List SchemaFault
 attribute_behind declared host before a =
     attribute_faults declared host (is_again bytes_eq (λ b. b.name.bytes) before a) a

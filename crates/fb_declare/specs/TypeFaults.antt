@@ -89,18 +89,18 @@ declaration_faults types declared lower (resolved.Struct s) = struct_faults type
 declaration_faults types declared lower (resolved.Enum e) = enum_faults declared e
 declaration_faults types declared lower (resolved.Union u) = union_faults declared u
 
--- the faults of a type behind types of these alignments, where this says whether one of them has its full name;
+-- the faults of a type after types of these alignments, where this says whether one of them has its full name;
 -- the name may not be that of a basic or float type
 abbrev pub type_faults : List TypeRead → (Name → Bool) → List ℕ → Bool → ResolvedType → List SchemaFault
 type_faults types declared lower again r = let name = word_of r.read.declaration in
     when (again || is_reserved name.bytes) (DuplicateName name.at)
     ++ declaration_faults types declared lower r.declaration
 
--- the alignments of some types, behind those of the types before them
+-- the alignments of some types, after those of the types before them
 abbrev pub aligns_from : List TypeRead → List ℕ → List ResolvedType → List ℕ
 aligns_from types lower rs = fold (λ lower r. lower ++ align_of_type types lower r ∷ []) lower rs
 
--- the faults of a type behind others
+-- the faults of a type after others
 abbrev pub type_behind : List TypeRead → (Name → Bool) → List ResolvedType → ResolvedType → List SchemaFault
 type_behind types declared before r =
     type_faults types declared (aligns_from types [] before) (is_again bytes_eq (λ q. name_of_type q.read) before r) r

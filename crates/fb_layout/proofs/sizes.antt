@@ -2,3 +2,4 @@
 pub mod AlignmentsArePowersOfTwo
 pub mod EachFieldTakesAByte
 pub mod StructsAreDeclared
+pub mod FieldsStandInOrder

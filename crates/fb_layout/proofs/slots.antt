@@ -2,3 +2,5 @@
 pub mod MostSlotsBoundEachTable
 pub mod NarrowTablesAreKnown
 pub mod RequiredSlotsAreNumbered
+pub mod SlotsAreAsManyAsFields
+pub mod SlotsFollowTheirFields

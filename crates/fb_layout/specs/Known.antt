@@ -59,13 +59,13 @@ unfoldable pub each_added : {A X : Type 0} → (A → X → Option A) → A → 
 each_added step a [] = Some a
 each_added step a (x ∷ xs) = option_and_then (λ b. each_added step b xs) (step a x)
 
--- where a field begins behind an end, and where it ends
+-- where a field begins after an end, and where it ends
 abbrev pub place_behind : ℕ → Extent → Option (ℕ × ℕ)
 place_behind end field =
     option_and_then (λ offset. option_map (λ next. (offset, next)) (small (offset + field.size)))
     (aligned_up end field.align)
 
--- the fields so far, and one more behind them: their end stands for a size
+-- the fields so far, and one more after them: their end stands for a size
 abbrev pub placed_behind : StructLayout → Extent → Option StructLayout
 placed_behind placed field =
     option_map (λ at. record {
@@ -92,7 +92,7 @@ known_struct S known (struct_body fs force) =
     option_and_then (whole_struct force) (each_added (field_placed S known) no_fields fs)
 known_struct S known _ = Some no_struct
 
--- the structs among these types behind those that are known
+-- the structs among these types after those that are known
 unfoldable pub known_from : DeclaredSchema → Known → List DeclaredType → Known
 known_from S known [] = known
 known_from S known (type ∷ types) = known_from S (known ++ known_struct S known type.body ∷ []) types

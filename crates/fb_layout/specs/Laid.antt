@@ -77,9 +77,13 @@ abbrev pub kind_in : StoredShape → StoredKind
 kind_in (one_of kind) = kind
 kind_in (vector_of kind) = kind
 
+-- the kinds of some fields
+abbrev pub kinds_of : DeclaredSchema → List DeclaredField → List StoredKind
+kinds_of S fs = map (λ f. kind_in (stored_shape S f.shape)) fs
+
 -- the kinds of a struct's fields
 abbrev pub parts_of : LaidSchema → ℕ → List StoredKind
-parts_of L s = map (λ f. kind_in (stored_shape L.schema f.shape)) (parts_in (body_at L.schema s))
+parts_of L s = kinds_of L.schema (parts_in (body_at L.schema s))
 
 abbrev pub no_struct : StructLayout
 no_struct = record { size = 0; align = 1; offsets = [] }

@@ -4,7 +4,7 @@ use Rattle.fb_schema.specs.declared.kinds.Kind.{Kind}
 use Rattle.fb_schema.specs.declared.kinds.Shape.{Shape}
 use Rattle.fb_schema.specs.declared.types.FieldInfo.{FieldInfo}
 use Rattle.fb_schema.specs.Seen.{field_seen}
-use Rattle.fb_layout.specs.Laid.{LaidSchema, Slot, slot_of, StoredKind, stored_kind, StoredShape, stored_shape, kind_in}
+use Rattle.fb_layout.specs.Laid.{LaidSchema, Slot, slot_of, StoredKind, stored_kind, StoredShape, stored_shape, kinds_of}
 
 abbrev pub shape_seen : LaidSchema → Shape → StoredShape
 shape_seen L shape = stored_shape L.schema shape
@@ -21,4 +21,4 @@ slots_seen L fs = map (slot_of L.schema) (map field_seen fs)
 
 -- the kinds of a struct's fields
 abbrev pub kinds_seen : LaidSchema → List FieldInfo → List StoredKind
-kinds_seen L fields = map (λ f. kind_in (stored_shape L.schema f.shape)) (map field_seen fields)
+kinds_seen L fields = kinds_of L.schema (map field_seen fields)

@@ -8,7 +8,7 @@ use crate::extents::{Extent, StructSizes, extent_of, kind_in};
 use fb_schema::{Body, FieldInfo, Schema};
 use std::alloc::{AllocError, Global};
 
-/// Where a field begins behind an end, and where it ends; None over 65,535 bytes.
+/// Where a field begins after an end, and where it ends; None over 65,535 bytes.
 fn place_behind(end: u16, field: Extent) -> Option<(u16, u16)>
     ensures { result ≡ place_behind end field }
 {
@@ -47,7 +47,7 @@ fn fields_placed(
     }))
 }
 
-/// The whole struct behind its fields, aligned by `force_align` or as its fields are.
+/// The whole struct after its fields, aligned by `force_align` or as its fields are.
 fn whole_struct(force: Option<u16>, placed: StructSizes) -> Option<StructSizes>
     ensures { option_map sizes_seen result ≡ whole_struct force (sizes_seen placed) }
 {

@@ -14,7 +14,7 @@ keys_differ key (x ∷ xs) pairs i j d before within =
     let inside : j < length (x ∷ xs) = omega (arith, length-map (x ∷ xs) key) in
     rw (get_or-map key (x ∷ xs) i x d (omega arith), get_or-map key (x ∷ xs) j x d inside) (pairs i j x before inside)
 
-none_twice : {K : Type 0} → AllPairs {X = K} (λ a b. a ≢ b) []
+pub none_twice : {K : Type 0} → AllPairs {X = K} (λ a b. a ≢ b) []
 none_twice i j d before within = absurd (omega arith)
 
 pub no_repeats : (S : DeclaredSchema) (t : ℕ) (body : DeclaredBody) → IsBody S t body → HasNoRepeats body

@@ -7,6 +7,8 @@ pub mod FoundPlaces
 pub mod NamesIndexed
 pub mod NumbersIndexed
 pub mod LastEntry
+pub mod NumbersInRange
+pub mod SomeOrNone
 pub mod Got
 pub mod NamedItems
 pub mod LastDot

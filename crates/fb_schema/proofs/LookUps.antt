@@ -1,7 +1,7 @@
 -- What a look-up through an index finds is what is there.
 use Rattle.std.proofs.Common.{◌≡◌, ◌≢◌, ◌≤◌, ℕ, suc, lit≤, length, Bool, false, List, [], map, AllPairs}
 use Rattle.std.proofs.Common.{find, position, slice_get, Option, None, Some, bytes_eq, codes, if◌then◌else◌, ap, sym}
-use Rattle.std.proofs.Common.{◌∙◌, arith}
+use Rattle.std.proofs.Common.{◌∙◌}
 use Rattle.std.specs.Option.{option_map, option_and_then}
 use Rattle.std.proofs.lemmas.Option.{slice_get-map}
 use Rattle.std.proofs.lemmas.Simd.{map-map}
@@ -11,11 +11,11 @@ use Rattle.fb_schema.specs.Schema.{DeclaredSchema, body_in, values_in, members_i
 use Rattle.fb_schema.specs.Seen.{body_seen, type_seen, schema_of}
 use Rattle.fb_schema.specs.WellDeclared.{IsBody, IsDeclared}
 use Rattle.fb_schema.specs.declared.kinds.TypeId.{TypeId}
-use Rattle.fb_schema.specs.declared.name_index.Names.{Names}
+use Rattle.fb_schema.specs.declared.name_index.ScopeNames.{ScopeNames}
 use Rattle.fb_schema.specs.Indexed.{inner_names, HasNoRepeats, IndexesNames}
 use Rattle.fb_schema.specs.Bodies.{as_union}
 use Rattle.fb_schema.specs.Found.{fields_in, code_named}
-use Rattle.fb_schema.proofs.DeclaredNames.{no_repeats}
+use Rattle.fb_schema.proofs.DeclaredNames.{no_repeats, none_twice}
 use Rattle.fb_schema.proofs.NamesIndexed.{none_at}
 use Rattle.fb_schema.proofs.Positions.{position-map, find-position}
 
@@ -35,11 +35,8 @@ module _ {X Y K : Type 0} (seen : X → Y) (key : Y → K) (p : K → Bool) (ite
   found_through at place = ap (option_and_then (slice_get declared)) (place ∙ ap (position p) keys_seen)
       ∙ find-keys key p declared
 
-none_twice : {K : Type 0} → AllPairs {X = K} (λ a b. a ≢ b) []
-none_twice i j d before within = absurd (omega arith)
-
 -- the index of a type's names is that of its fields' names, where it has fields
-pub fields_indexed : (body : DeclaredBody) (names : Names) → IndexesNames names (inner_names body)
+pub fields_indexed : (body : DeclaredBody) (names : ScopeNames) → IndexesNames names (inner_names body)
     → IndexesNames names (map (λ f. f.name) (fields_in body))
 fields_indexed (table_body fs) names h = h
 fields_indexed (struct_body fs align) names h = h
@@ -54,7 +51,7 @@ fields_differ (enum_body base flags values) h = none_twice
 fields_differ (union_body members) h = none_twice
 
 -- and that of its values' names, where it has values
-pub values_indexed : (body : DeclaredBody) (names : Names) → IndexesNames names (inner_names body)
+pub values_indexed : (body : DeclaredBody) (names : ScopeNames) → IndexesNames names (inner_names body)
     → IndexesNames names (map (λ v. v.0) (values_in body))
 values_indexed (table_body fs) names h = none_at _ _ _
 values_indexed (struct_body fs align) names h = none_at _ _ _

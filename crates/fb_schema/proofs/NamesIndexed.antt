@@ -1,6 +1,6 @@
 -- Names in an index, one more after another.
-use Rattle.std.proofs.Common.{◌≡◌, ◌⊎◌, inl, inr, ℕ, ◌+◌, ◌<◌, List, [], ◌∷◌, ◌++◌, length, map, take, get_or, slice_get}
-use Rattle.std.proofs.Common.{Some, ap, sym, ◌∙◌, arith, length-append}
+use Rattle.std.proofs.Common.{◌≡◌, ◌⊎◌, inl, inr, ℕ, ◌+◌, ◌<◌, List, [], ◌∷◌, ◌++◌, length, map, take, get_or}
+use Rattle.std.proofs.Common.{slice_get, Some, ap, sym, ◌∙◌, arith, length-append}
 use Rattle.std.proofs.lemmas.List.{length-map, length-take-le}
 use Rattle.std.proofs.lemmas.Option.{slice_get_within}
 use Rattle.fb_index.specs.declared.hash_key.HashKey.{HashKey}
@@ -45,8 +45,9 @@ item_more name_of items i item old new key first place name within there is next
     rw more (name_more old new key first (map name_of (take i items)) name kept at (rw (count, ← next) last))
 
 -- the names inside one type more
-pub type_more : (types : List TypeInfo) (i : ℕ) (info : TypeInfo) (old new : List ℕ) (key : HashKey) (before firsts : List ℕ)
-    (first : ℕ) → i < length types → info ≡ get_or types i info → firsts ≡ before ++ first ∷ [] → KeepsPlaces old new
+pub type_more : (types : List TypeInfo) (i : ℕ) (info : TypeInfo) (old new : List ℕ) (key : HashKey)
+    (before firsts : List ℕ) (first : ℕ) → i < length types → info ≡ get_or types i info
+    → firsts ≡ before ++ first ∷ [] → KeepsPlaces old new
     → IndexesInner old key before (map type_seen (take i types))
     → AreAt new (key_inside key i) first (inner_names (type_seen info).body)
     → IndexesInner new key firsts (map type_seen (take (i + 1) types))

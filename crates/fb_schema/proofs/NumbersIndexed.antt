@@ -73,5 +73,7 @@ type_more types i info places more firsts within there count so_far ordered t ty
 
     by : (slice_get seen t ≡ Some type) ⊎ ((t ≡ length seen) × (type_seen info ≡ type))
         → AreOrdered (places ++ more) (firsts ++ length places ∷ []) t (inner_numbers type.body)
-    by (inl before) = still_ordered places more firsts (length places) t (inner_numbers type.body) (so_far t type before)
-    by (inr is) = rw (is.0 ∙ number, ← is.1) (now_ordered places more firsts (inner_numbers (type_seen info).body) ordered)
+    by (inl before) = still_ordered places more firsts (length places) t (inner_numbers type.body)
+        (so_far t type before)
+    by (inr is) = rw (is.0 ∙ number, ← is.1) (now_ordered places more firsts (inner_numbers (type_seen info).body)
+        ordered)

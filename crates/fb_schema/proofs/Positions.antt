@@ -1,6 +1,6 @@
 -- Where a list's first element that passes a test stands.
-use Rattle.std.proofs.Common.{◌≡◌, ℕ, suc, ◌+◌, Bool, true, false, cond, ◌||◌, List, [], ◌∷◌, map, length, position, find}
-use Rattle.std.proofs.Common.{slice_get, None, Some, is_some, refl, ap, sym, ◌∙◌, arith, nat_lt, get_or, drop}
+use Rattle.std.proofs.Common.{◌≡◌, ℕ, suc, ◌+◌, Bool, true, false, cond, ◌||◌, List, [], ◌∷◌, map, length, position}
+use Rattle.std.proofs.Common.{find, slice_get, None, Some, is_some, refl, ap, sym, ◌∙◌, arith, nat_lt, get_or, drop}
 use Rattle.std.proofs.Common.{drop-cons, ◌<◌, ◌≤◌}
 use Rattle.std.specs.List.{list_any, position_from, position_or_len}
 use Rattle.std.specs.Option.{option_and_then}

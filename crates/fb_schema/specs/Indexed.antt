@@ -1,5 +1,6 @@
 -- What a schema's indexes find.
-use Rattle.std.specs.Prelude.{ℕ, ◌≡◌, ◌+◌, ◌≤◌, ◌≢◌, List, length, take, drop, get_or, slice_get, Some, AllPairs, map, ℤ, pos}
+use Rattle.std.specs.Prelude.{ℕ, ◌≡◌, ◌+◌, ◌≤◌, ◌≢◌, List, length, take, drop, get_or, slice_get, Some, AllPairs, map}
+use Rattle.std.specs.Prelude.{ℤ, pos}
 use Rattle.std.specs.Ordering.{int_cmp}
 use Rattle.std.specs.declared.cmp.Ordering.{Ordering}
 use Rattle.std.specs.List.{range_with_len}
@@ -7,10 +8,11 @@ use Rattle.std.specs.List.Sorted.{IsPermutation, IsSortedByKey}
 use Rattle.fb_index.specs.declared.hash_key.HashKey.{HashKey}
 use Rattle.fb_index.specs.HashKeys.{digest_by, key_inside}
 use Rattle.fb_index.specs.DigestIndexes.{IsAt}
-use Rattle.fb_schema.specs.declared.name_index.Names.{Names}
+use Rattle.fb_schema.specs.declared.name_index.ScopeNames.{ScopeNames}
 use Rattle.fb_schema.specs.declared.name_index.NameIndex.{NameIndex}
 use Rattle.fb_schema.specs.declared.number_index.NumberIndex.{NumberIndex}
-use Rattle.fb_schema.specs.Schema.{Name, DeclaredBody, DeclaredType, table_body, struct_body, enum_body, union_body, values_in}
+use Rattle.fb_schema.specs.Schema.{Name, DeclaredBody, DeclaredType, table_body, struct_body, enum_body, union_body}
+use Rattle.fb_schema.specs.Schema.{values_in}
 
 -- the names that stand in a type: of its fields, values or members
 abbrev pub inner_names : DeclaredBody → List Name
@@ -39,7 +41,7 @@ AreAt keys key first names = (i : ℕ) (name : Name) → slice_get names i ≡ S
     → IsAt keys (digest_by key name) (first + i)
 
 -- the names of one scope
-abbrev pub IndexesNames : Names → List Name → Type 0
+abbrev pub IndexesNames : ScopeNames → List Name → Type 0
 IndexesNames names listed = AreAt names.digests.now.keys names.key names.first listed
 
 -- Of each type the names inside it are in an index, from a place on that is noted for it.

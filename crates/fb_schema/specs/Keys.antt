@@ -7,7 +7,7 @@ use Rattle.fb_index.specs.HashKeys.{nothing_written, written, key_by}
 use Rattle.fb_schema.specs.Schema.{Name, DeclaredType, DeclaredSchema}
 use Rattle.fb_schema.specs.Indexed.{inner_names}
 
--- with one name more, and what no name has behind it
+-- with one name more, and what no name has after it
 abbrev pub with_name : KeyDigest → Name → KeyDigest
 with_name digest name = written (written digest name) (255 ∷ [])
 

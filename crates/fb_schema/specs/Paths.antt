@@ -1,5 +1,5 @@
--- How an enum's value or a union's member is named outside its type: alone, or behind the type's declared name
--- and a dot, or behind its full name and a dot.
+-- How an enum's value or a union's member is named outside its type: alone, or after the type's declared name
+-- and a dot, or after its full name and a dot.
 -- From the FlatBuffers documentation, "Writing a schema": Enums, Unions, Namespaces; "JSON parsing".
 use Rattle.std.specs.Prelude.{ℕ, Bool, ◌||◌, Option, None, Some, ℤ, bytes_eq, if◌then◌else◌}
 use Rattle.std.specs.Option.{option_and_then, option_map_or}
@@ -18,7 +18,7 @@ declared_name full = option_map_or (λ split. split.1) (rsplit_once dot full) fu
 abbrev pub is_name_of : Name → Name → Bool
 is_name_of full name = bytes_eq name full || bytes_eq name (declared_name full)
 
--- the name of a value or member, from what stands before the last dot and behind it
+-- the name of a value or member, from what stands before the last dot and after it
 abbrev pub name_of_split : Name → Name → Option (Name × Name) → Option Name
 name_of_split full path None = Some path
 name_of_split full path (Some split) = if is_name_of full split.0 then Some split.1 else None

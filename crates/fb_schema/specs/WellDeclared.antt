@@ -68,7 +68,7 @@ MarksFit S f (One (Enum e)) = IsScalarField (base_in (body_at S e.0)) f
 MarksFit S f (One (Code u)) = IsOtherField f × (f.required ≡ false)
 MarksFit S f _ = IsOtherField f
 
--- a union's code slot, and the value slot right behind it: of a union field `x` they are called `x_type` and `x`
+-- a union's code slot, and the value slot right after it: of a union field `x` they are called `x_type` and `x`
 pub record IsUnionPair (f g : DeclaredField) (u : TypeId) : Type 0 where
   pub named : f.name ≡ g.name ++ codes "_type"
   pub code : f.shape ≡ One (Code u)

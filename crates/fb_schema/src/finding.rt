@@ -6,7 +6,7 @@ ghost use Rattle.fb_schema.specs.Indexed.{inner_names, inner_numbers, HasNoRepea
 ghost use Rattle.fb_schema.specs.Found.{fields_in, field_named, member_coded, name_numbered, number_named, code_named};
 
 use crate::kinds::TypeId;
-use crate::name_index::Names;
+use crate::name_index::ScopeNames;
 use crate::number_index::NumberIndex;
 use crate::types::{Body, FieldInfo};
 
@@ -39,7 +39,11 @@ pub(crate) fn members_of(body: &Body) -> &[(String, TypeId)]
 }
 
 /// The field of a table or struct that has a name.
-pub(crate) fn field_in<'a>(body: &'a Body, names: Names<'_>, name: &str) -> Option<&'a FieldInfo>
+pub(crate) fn field_in<'a>(
+    body: &'a Body,
+    names: ScopeNames<'_>,
+    name: &str,
+) -> Option<&'a FieldInfo>
     requires indexed { IndexesNames names (inner_names (body_seen body.now)) }
     requires distinct { HasNoRepeats (body_seen body.now) }
     ensures { option_map field_seen (option_copied result)
@@ -75,7 +79,7 @@ pub(crate) fn name_in<'a>(
 }
 
 /// The number of an enum's value that has a name.
-pub(crate) fn number_in(body: &Body, names: Names<'_>, name: &str) -> Option<i128>
+pub(crate) fn number_in(body: &Body, names: ScopeNames<'_>, name: &str) -> Option<i128>
     requires indexed { IndexesNames names (inner_names (body_seen body.now)) }
     requires distinct { HasNoRepeats (body_seen body.now) }
     ensures { result ≡ number_named (body_seen body.now) name.now }
@@ -86,7 +90,7 @@ pub(crate) fn number_in(body: &Body, names: Names<'_>, name: &str) -> Option<i12
 }
 
 /// The code of a union's member that has a name; of `NONE` it is 0.
-pub(crate) fn code_in(body: &Body, names: Names<'_>, name: &str) -> Option<u8>
+pub(crate) fn code_in(body: &Body, names: ScopeNames<'_>, name: &str) -> Option<u8>
     requires indexed { IndexesNames names (inner_names (body_seen body.now)) }
     requires distinct { HasNoRepeats (body_seen body.now) }
     requires few { length (members_in (body_seen body.now)) ≤ 255 }

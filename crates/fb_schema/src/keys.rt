@@ -7,7 +7,7 @@ use crate::named::Named;
 use crate::types::{Body, TypeInfo};
 use fb_index::{HashKey, KeyDigest};
 
-/// What comes behind each name, since no name has it.
+/// What comes after each name, since no name has it.
 const NAME_END: u8 = 0xff;
 
 /// Digests a name.

@@ -1,6 +1,7 @@
 //! The data types of a FlatBuffers schema.
 #![tactic(auto)]
 
+mod few_names;
 mod finding;
 mod insides;
 mod keys;
@@ -13,6 +14,7 @@ mod schema;
 mod types;
 mod written_names;
 
+pub use few_names::{FEW_NAMES, field_among};
 pub use insides::{field_at, fields_of, members_of, values_of};
 pub use kinds::{Base, Kind, Shape, TypeId};
 pub use schema::Schema;

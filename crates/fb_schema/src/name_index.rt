@@ -1,5 +1,5 @@
 //! All names of a schema in one index.
-ghost use Rattle.std.specs.Prelude.{◌≡◌, ◌≢◌, ◌≤◌, ◌-◌, ◌↔◌, length, map, bytes_eq, slice_get};
+ghost use Rattle.std.specs.Prelude.{◌≡◌, ◌≢◌, ◌≤◌, ◌-◌, ◌↔◌, length, map, slice_get};
 ghost use Rattle.std.specs.Prelude.{AllPairs, IfOk, IfSome, IfNone, OnOk, IsTrue, List, None, Some};
 ghost use Rattle.fb_index.specs.DigestIndexes.{KeepsPlaces};
 ghost use Rattle.fb_schema.specs.Schema.{DeclaredType};
@@ -7,45 +7,19 @@ ghost use Rattle.fb_schema.specs.Seen.{type_seen, body_seen};
 ghost use Rattle.fb_schema.specs.Found.{index_of};
 ghost use Rattle.fb_schema.specs.Indexed.{inner_names, AreAt, IndexesInner, IndexesNames, IndexesTypes};
 
+use crate::few_names::{FEW_NAMES, position_among};
 use crate::kinds::TypeId;
 use crate::named::Named;
 use crate::types::{Body, TypeInfo};
 use fb_index::{DigestIndex, HashKey};
 use std::alloc::{AllocError, Global};
 
-/// If a scope has at most this many names, they are compared one after another, which takes fewer instructions than a
-/// digest.
-const FEW: usize = 16;
-
-/// Whether two texts are equal. Most that differ do so in their length, or in their first or last byte.
-fn is_same(one: &str, other: &str) -> bool
-    ensures { result ≡ bytes_eq one.now other.now }
-{
-    let (one, other) = (one.as_bytes(), other.as_bytes());
-    one.len() == other.len()
-        && one.first() == other.first()
-        && one.last() == other.last()
-        && one == other
-}
-
-/// The number of the first item that has a name, from 0.
-fn position_among<T: Named>(items: &[T], name: &str) -> Option<usize>
-    ensures { result ≡ index_of (map T.name items.now) name.now }
-{
-    for (place, item) in items.iter().enumerate() {
-        if is_same(name, item.name()) {
-            return Some(place);
-        }
-    }
-    None
-}
-
 /// Whether the item at a place has a name.
 fn has_name<T: Named>(items: &[T], place: usize, name: &str) -> bool
     ensures { IsTrue result ↔ (slice_get (map T.name items.now) place ≡ Some name.now) }
 {
     match items.get(place) {
-        Some(item) => is_same(name, item.name()),
+        Some(item) => name == item.name(),
         None => false,
     }
 }
@@ -60,21 +34,21 @@ fn has_name_from<T: Named>(items: &[T], first: usize, place: usize, name: &str) 
 
 /// The names of one scope: the full names of a schema's types, or the names inside one type.
 #[derive(Clone, Copy)]
-pub(crate) struct Names<'a> {
+pub(crate) struct ScopeNames<'a> {
     digests: &'a DigestIndex,
     key: HashKey,
     // the place of the first of them
     first: usize,
 }
 
-impl Names<'_> {
+impl ScopeNames<'_> {
     /// The number of a name in its scope, from 0, if it is there.
     pub(crate) fn position<T: Named>(self, items: &[T], name: &str) -> Option<usize>
         requires indexed { IndexesNames self (map T.name items.now) }
         requires distinct { AllPairs (λ a b. a ≢ b) (map T.name items.now) }
         ensures { result ≡ index_of (map T.name items.now) name.now }
     {
-        if items.len() <= FEW {
+        if items.len() <= FEW_NAMES {
             return position_among(items, name);
         }
         let digest = self.key.digest(name.as_bytes());
@@ -194,11 +168,11 @@ impl NameIndex {
     }
 
     /// The full names of the types.
-    pub(crate) fn full_names(&self) -> Names<'_>
+    pub(crate) fn full_names(&self) -> ScopeNames<'_>
         ensures { (types : List DeclaredType) → IndexesTypes self.now types
             → IndexesNames result (map (λ t. t.name) types) }
     {
-        Names {
+        ScopeNames {
             digests: &self.digests,
             key: self.key,
             first: 0,
@@ -206,7 +180,7 @@ impl NameIndex {
     }
 
     /// The names inside a type.
-    pub(crate) fn inner_names(&self, owner: TypeId) -> Option<Names<'_>>
+    pub(crate) fn inner_names(&self, owner: TypeId) -> Option<ScopeNames<'_>>
         ensures found { IfSome result (λ names. (types : List DeclaredType) (type : DeclaredType)
             → IndexesTypes self.now types → slice_get types owner.0 ≡ Some type
             → IndexesNames names (inner_names type.body)) }
@@ -214,7 +188,7 @@ impl NameIndex {
             → slice_get types owner.0 ≡ None) }
     {
         let first = *self.firsts.get(owner.0 as usize)?;
-        Some(Names {
+        Some(ScopeNames {
             digests: &self.digests,
             key: self.key.inside(owner.0),
             first,

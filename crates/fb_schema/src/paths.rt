@@ -28,8 +28,8 @@ fn has_dot(text: &str) -> bool
     text.as_bytes().contains(&b'.')
 }
 
-/// The name of a value or member that a path says for the type with a full name: alone, or behind
-/// the type's declared name and a dot, or behind its full name and a dot.
+/// The name of a value or member that a path says for the type with a full name: alone, or after
+/// the type's declared name and a dot, or after its full name and a dot.
 pub(crate) fn name_in_path<'p>(full: &str, path: &'p str) -> Option<&'p str>
     ensures { option_copied result ≡ name_in_path full.now path.now }
 {

@@ -157,8 +157,8 @@ impl Schema {
         Some(info.name.as_str())
     }
 
-    /// The number of an enum's value by its name, which stands alone, or behind the enum's declared
-    /// name and a dot, or behind its full name and a dot.
+    /// The number of an enum's value by its name: alone, or after the enum's declared name and a dot,
+    /// or after its full name and a dot.
     pub fn number_by_path(&self, enumeration: TypeId, path: &str) -> Option<i128>
         ensures { result ≡ number_by_path self.now enumeration.0 path.now }
     {
@@ -166,8 +166,8 @@ impl Schema {
         self.number_of_name(enumeration, name)
     }
 
-    /// The code of a union's member by its name, or `NONE`, which stands alone, or behind the union's
-    /// declared name and a dot, or behind its full name and a dot.
+    /// The code of a union's member, or of `NONE`, by its name: alone, or after the union's declared
+    /// name and a dot, or after its full name and a dot.
     pub fn code_by_path(&self, union: TypeId, path: &str) -> Option<u8>
         ensures { result ≡ code_by_path self.now union.0 path.now }
     {

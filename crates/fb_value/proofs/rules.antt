@@ -3,3 +3,4 @@ pub mod ComputedFaultIsTheLeast
 pub mod FaultOfAPlaceByOneStep
 pub mod FirstMissingSlotIsRequired
 pub mod RulesHoldOneByOne
+pub mod UnusedSlotHasNoPlace

@@ -1,4 +1,4 @@
--- The file identifier behind the root's reference.
+-- The file identifier after the root's reference.
 use Rattle.std.specs.Prelude.{◌≡◌, [], ◌∷◌, set, take, true, false, pos, None, Some, refl}
 use Rattle.std.proofs.Common.{lit≤}
 use Rattle.fb_value.specs.declared.faults.ReadFault.TheVariants.{Short, WrongIdentifier}

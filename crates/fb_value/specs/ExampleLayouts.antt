@@ -6,11 +6,10 @@ use Rattle.fb_schema.specs.declared.kinds.Shape.{Shape}
 use Rattle.fb_schema.specs.declared.kinds.Shape.TheVariants.{One, Many}
 use Rattle.fb_schema.specs.Schema.{Name, DeclaredField, DeclaredBody, table_body, struct_body, union_body, DeclaredType}
 use Rattle.fb_layout.specs.Laid.{LaidSchema, StructLayout, no_struct}
-use Rattle.fb_value.specs.Bounds.{Bounds}
+use Rattle.fb_value.specs.Bounds.{Bounds, usual_limits}
 
--- what the program allows
 abbrev pub usual : Bounds
-usual = record { depth = 64; cells = 100000000 }
+usual = usual_limits
 
 abbrev pub letter : ℕ → Name
 letter code = code ∷ []

@@ -34,7 +34,7 @@ four n = (n % 256) ∷ (n / 256) ∷ 0 ∷ 0 ∷ []
 abbrev pub front : Bytes
 front = four 16 ++ 6 ∷ 0 ∷ 8 ∷ 0 ∷ 4 ∷ 0 ∷ 4 ∷ 0 ∷ 4 ∷ 0 ∷ 0 ∷ 0 ∷ []
 
--- n tables from p on, each with a reference to the one behind it, and a last one without
+-- n tables from p on, each with a reference to the one after it, and a last one without
 unfoldable pub tables_from : ℕ → ℕ → Bytes
 tables_from p zero = four (p - 10)
 tables_from p (suc n) = four (p - 4) ++ four 4 ++ tables_from (p + 8) n
@@ -73,7 +73,7 @@ pub nested_cells : cells (nested 64) ≡ 65
 unfolding nested
 nested_cells = refl
 
--- what is met at a table: its fault, the places that it names, and behind its one slot the reference's fault and where
+-- what is met at a table: its fault, the places that it names, and after its one slot the reference's fault and where
 -- it leads
 abbrev pub Met : Type 0
 Met = Option ReadFault × List (Option Place) × Option ReadFault × ℕ
@@ -95,14 +95,14 @@ met_last b p = (
   0,
 )
 
--- where each rule holds and the next table stands 8 bytes behind
+-- where each rule holds and the next table is 8 bytes further on
 abbrev pub link : ℕ → Met
 link p = (None, Some (record { sort = ref_place (table_part 0); at = p + 4 }) ∷ [], None, p + 8)
 
 abbrev pub last_link : Met
 last_link = (None, None ∷ [], None, 0)
 
--- at n tables, each 8 bytes behind the one before, and at a last one
+-- at n tables, each 8 bytes after the one before, and at a last one
 unfoldable pub met_from : Bytes → ℕ → ℕ → List Met
 met_from b p zero = met_last b p ∷ []
 met_from b p (suc n) = met_at b p ∷ met_from b (p + 8) n
@@ -145,7 +145,7 @@ deep_held = record {
   small = lit≤ tt;
 }
 
--- n tables from p on, each with a vector of two references to the one behind it, and a last one without
+-- n tables from p on, each with a vector of two references to the one after it, and a last one without
 unfoldable pub pairs_from : ℕ → ℕ → Bytes
 pairs_from p zero = four (p - 10)
 pairs_from p (suc n) = four (p - 4) ++ four 4 ++ four 2 ++ four 8 ++ four 4 ++ pairs_from (p + 20) n

@@ -29,7 +29,7 @@ no_elements_bytes = 0x0c ∷ 0 ∷ 0 ∷ 0 ∷ 0 ∷ 0 ∷ 6 ∷ 0 ∷ 8 ∷ 0 �
 abbrev pub no_elements : Datum
 no_elements = a_table 0 (present_entry (a_vector no_parts) no_entries)
 
--- Where a vector has no element, nothing behind its count has to be aligned to 8.
+-- Where a vector has no element, nothing after its count has to be aligned to 8.
 pub no_elements_held : Holds one_vector usual false no_elements_bytes no_elements
 unfolding num slot_number named_slots first_failing fault_by header_fault
 no_elements_held = record {
@@ -63,7 +63,7 @@ nested_structs = laid 2
     (record { size = 8; align = 4; offsets = 0 ∷ 4 ∷ [] } ∷ record { size = 12; align = 4; offsets = 0 ∷ 8 ∷ [] }
     ∷ no_struct ∷ [])
 
--- The outer struct's second field stands behind the inner one's end.
+-- The outer struct's second field stands after the inner one's end.
 pub outer_laid : IsStructLaid nested_structs (parts_of nested_structs 1)
     (force_align_in (body_at nested_structs.schema 1)) (struct_at nested_structs 1)
 outer_laid = record {
@@ -83,7 +83,7 @@ nested_bytes =
     0x0c ∷ 0 ∷ 0 ∷ 0 ∷ 0 ∷ 0 ∷ 6 ∷ 0 ∷ 0x10 ∷ 0 ∷ 4 ∷ 0 ∷ 6 ∷ 0 ∷ 0 ∷ 0
     ∷ 1 ∷ 0 ∷ 0 ∷ 0 ∷ 2 ∷ 0 ∷ 0 ∷ 0 ∷ 3 ∷ 0 ∷ 0 ∷ 0 ∷ []
 
--- 1 and 2 in the inner struct, 3 behind it
+-- 1 and 2 in the inner struct, 3 after it
 abbrev pub nested : Datum
 nested = a_table 2 (present_entry
     (a_struct (more_parts (a_struct (more_parts (a_number (pos 1)) (more_parts (a_number (pos 2)) no_parts)))

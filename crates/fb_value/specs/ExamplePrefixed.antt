@@ -1,4 +1,4 @@
--- A buffer with the count of its bytes in front.
+-- A buffer with a size prefix.
 use Rattle.std.specs.Prelude.{◌≡◌, ◌++◌, [], ◌∷◌, set, take, true, false, pos, None, Some, refl}
 use Rattle.std.proofs.Common.{lit≤}
 use Rattle.fb_value.specs.declared.faults.ReadFault.TheVariants.{Short, OutOfBounds, WrongIdentifier}
@@ -11,11 +11,11 @@ use Rattle.fb_value.specs.ExampleLayouts.{usual, identified_int}
 use Rattle.fb_value.specs.ExampleTables.{one_number}
 use Rattle.fb_value.specs.ExampleIdentifier.{test_bytes}
 
--- 16 bytes behind their count
+-- 16 bytes after their count
 abbrev pub counted_bytes : Bytes
 counted_bytes = 16 ∷ 0 ∷ 0 ∷ 0 ∷ test_bytes
 
--- They hold what the buffer behind the count holds.
+-- They hold what the buffer after the count holds.
 pub counted_held : HoldsFramed true identified_int usual false counted_bytes (one_number 0)
 unfolding num slot_number named_slots first_failing fault_by prefixed_fault
 counted_held = record {
@@ -36,7 +36,7 @@ pub count_too_large : framed_fault true identified_int usual false (set counted_
 unfolding num first_failing fault_from prefixed_fault
 count_too_large = refl
 
--- So is a byte behind the message, where it stands.
+-- So is a byte after the message, where it stands.
 pub byte_behind : framed_fault true identified_int usual false (counted_bytes ++ (0 ∷ [])) ≡ Some (OutOfBounds 20)
 unfolding num first_failing fault_from prefixed_fault
 byte_behind = refl

@@ -74,7 +74,7 @@ forced_laid = record {
   sized = record { multiple = (1, refl); above = lit≤ tt; least = λ k h. omega arith };
 }
 
--- what stands behind the root's reference, with so many zero bytes in front: a text, a vector of two structs aligned to
+-- what stands after the root's reference, with so many zero bytes in front: a text, a vector of two structs aligned to
 -- 16, a number
 abbrev pub wide_tail : ℕ → Bytes
 wide_tail zeros =

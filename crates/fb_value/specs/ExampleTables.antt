@@ -83,7 +83,7 @@ unfolding num slot_number named_slots named_elements first_failing fault_by all_
     fault_from header_fault
 both_slots_kept = refl
 
--- A slot behind the vtable's end has its default.
+-- A slot after the vtable's end has its default.
 pub later_slot_held : Holds two_ints usual false seven_bytes (two_numbers 7 0)
 unfolding num slot_number named_slots first_failing fault_by header_fault
 later_slot_held = record {

@@ -38,7 +38,7 @@ unfolding num slot_number named_slots named_elements first_failing fault_by all_
     fault_from header_fault utf8_valid_len is_utf8 chars lib.Utf8.encode
 hi_kept = refl
 
--- A zero byte stands behind a text.
+-- A zero byte stands after a text.
 pub no_zero_behind : computed_fault one_text usual false (set hi_bytes 26 0x21) ≡ Some (NoTerminator 26)
 unfolding num slot_number named_slots named_elements first_failing fault_by all_within all limited_fault first_fault
     fault_from header_fault utf8_valid_len is_utf8 chars lib.Utf8.encode

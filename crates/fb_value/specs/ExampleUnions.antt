@@ -44,7 +44,7 @@ unfolding num slot_number named_slots named_elements first_failing fault_by all_
     fault_from header_fault
 member_kept = refl
 
--- A code that no member has is read as that code, and what is behind it is skipped.
+-- A code that no member has is read as that code, and its value is skipped.
 pub unknown_held : Holds two_members usual false (set member_bytes 19 3) third_code
 unfolding num slot_number named_slots first_failing fault_by header_fault
 unknown_held = record {

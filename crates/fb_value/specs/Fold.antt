@@ -15,7 +15,7 @@ pub record Measure (A : Type 0) : Type 0 where
   pub table : A → A
   pub member : A → A
   pub unknown : A
-  -- one part and those behind it
+  -- one part and those after it
   pub join : A → A → A
 
 abbrev mutual

@@ -1,6 +1,6 @@
 -- The value that bytes hold, or the least of their faults.
 -- From the FlatBuffers documentation, "FlatBuffer Internals" and "File identification": the root's reference, and the
--- identifier behind it. From "Storing multiple FlatBuffers" (C++ guide, size-prefixed buffers): a count of the bytes
+-- identifier after it. From "Storing multiple FlatBuffers" (C++ guide, size-prefixed buffers): a count of the bytes
 -- that follow may be in front. Positions and alignment count from the count's first byte then.
 use Rattle.std.specs.Prelude.{ℕ, ◌+◌, ◌≡◌, ◌≤◌, ◌⊎◌, List, [], ◌∷◌, length, take, drop, nat_le, Bool, true, false}
 use Rattle.std.specs.Prelude.{Option, None, Some, if◌then◌else◌}
@@ -8,7 +8,7 @@ use Rattle.std.specs.Str.{bytes_eq}
 use Rattle.fb_layout.specs.Laid.{LaidSchema}
 use Rattle.fb_value.specs.declared.faults.ReadFault.{ReadFault}
 use Rattle.fb_value.specs.declared.faults.ReadFault.TheVariants.{Short, TooLong, WrongIdentifier, OutOfBounds}
-use Rattle.fb_value.specs.Bounds.{Bounds}
+use Rattle.fb_value.specs.Bounds.{Bounds, most_bytes}
 use Rattle.fb_value.specs.Datum.{Datum}
 use Rattle.fb_value.specs.Counts.{cells, depth}
 use Rattle.fb_value.specs.Num.{Bytes, num}
@@ -18,7 +18,7 @@ use Rattle.fb_value.specs.Lies.{LiesAt}
 use Rattle.fb_value.specs.Reached.{Path}
 use Rattle.fb_value.specs.Faults.{FaultFrom, LeastFrom, or_else, fault_from}
 
--- where a buffer begins: behind the count, if it has one
+-- where a buffer begins: after the count, if it has one
 abbrev pub front_of : Bool → ℕ
 front_of false = 0
 front_of true = 4
@@ -35,15 +35,15 @@ root_place L = root_at L 0
 abbrev pub checked_identifier : LaidSchema → Bool → Option (List ℕ)
 checked_identifier L raw = if raw then None else L.schema.identifier
 
--- The header's rules, from a position on. A checked identifier stands behind the root's reference.
+-- The header's rules, from a position on. A checked identifier stands after the root's reference.
 abbrev pub header_rules : ℕ → Bytes → Option (List ℕ) → List Rule
 header_rules p b None =
-    (Short (length b), nat_le (p + 4) (length b)) ∷ (TooLong 2147483647, nat_le (length b) 2147483647) ∷ []
+    (Short (length b), nat_le (p + 4) (length b)) ∷ (TooLong most_bytes, nat_le (length b) most_bytes) ∷ []
 header_rules p b (Some id) =
-    (Short (length b), nat_le (p + 8) (length b)) ∷ (TooLong 2147483647, nat_le (length b) 2147483647)
+    (Short (length b), nat_le (p + 8) (length b)) ∷ (TooLong most_bytes, nat_le (length b) most_bytes)
     ∷ (WrongIdentifier (p + 4), bytes_eq (take 4 (drop (p + 4) b)) id) ∷ []
 
--- The rules of a count in front, before others: it is the length of what follows.
+-- The rules of a size prefix, before others: it is the length of what follows.
 abbrev pub count_rules : Bytes → List Rule → List Rule
 count_rules b others = (Short (length b), nat_le 4 (length b)) ∷ (OutOfBounds 0, nat_le (4 + num b 0 4) (length b))
     ∷ (OutOfBounds (4 + num b 0 4), nat_le (length b) (4 + num b 0 4)) ∷ others
@@ -52,7 +52,7 @@ count_rules b others = (Short (length b), nat_le 4 (length b)) ∷ (OutOfBounds 
 unfoldable pub header_fault : Bytes → Option (List ℕ) → Option ReadFault
 header_fault b id = first_failing (header_rules 0 b id)
 
--- the same behind a count
+-- the same after a count
 unfoldable pub prefixed_fault : Bytes → Option (List ℕ) → Option ReadFault
 prefixed_fault b id = first_failing (count_rules b (header_rules 4 b id))
 
@@ -70,7 +70,7 @@ pub record HoldsBehind (p : ℕ) (fault : Option ReadFault) (L : LaidSchema) (mo
   pub deep : depth v ≤ most.depth
   pub small : cells v ≤ most.cells
 
--- with a count in front or without
+-- with a size prefix or without
 abbrev pub HoldsFramed : Bool → LaidSchema → Bounds → Bool → Bytes → Datum → Type 0
 HoldsFramed prefixed L most raw b v =
     HoldsBehind (front_of prefixed) (front_fault prefixed b (checked_identifier L raw)) L most b v

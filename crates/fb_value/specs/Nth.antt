@@ -1,6 +1,6 @@
 -- Entry k of a table, part i of a vector or struct, and what lies there where the whole lies.
 -- From the FlatBuffers documentation, "FlatBuffer Internals": Tables (a vtable has a number for each slot), Strings and
--- vectors (elements stand one behind another), Structs (fields stand at fixed offsets).
+-- vectors (elements stand one after another), Structs (fields stand at fixed offsets).
 use Rattle.std.specs.Prelude.{ℕ, zero, suc, ◌+◌, ◌*◌, ◌≡◌, ◌<◌, List, drop, Option, None, Some, slice_get}
 use Rattle.std.specs.Prelude.{if◌then◌else◌}
 use Rattle.fb_layout.specs.Laid.{LaidSchema, Slot, StoredKind, size_of}
@@ -24,7 +24,7 @@ nth_part no_parts i = None
 nth_part (more_parts d ds) zero = Some d
 nth_part (more_parts d ds) (suc i) = nth_part ds i
 
--- the place that slot k of the table at p names; a deprecated one names none; fs are the slots behind it
+-- the place that slot k of the table at p names; a deprecated one names none; fs are the slots after it
 abbrev pub slot_place : LaidSchema → Bytes → ℕ → ℕ → List Slot → Slot → Option Place
 slot_place L b p k fs f = if f.deprecated then None else named_slot L b p k fs f.shape
 

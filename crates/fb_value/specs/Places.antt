@@ -57,7 +57,7 @@ abbrev pub next_required : List Slot → Bool
 next_required [] = false
 next_required (f ∷ fs) = f.required
 
--- what stands where slot k's number leads; fs are the slots behind it
+-- what stands where slot k's number leads; fs are the slots after it
 abbrev pub sort_of : Bytes → ℕ → ℕ → List Slot → StoredShape → Sort
 sort_of b p k fs (vector_of kind) = ref_place (vector_part kind)
 sort_of b p k fs (one_of text_kind) = ref_place text_part

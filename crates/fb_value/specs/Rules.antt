@@ -57,7 +57,7 @@ table_rules al L b t p =
     (Misaligned p, al 4 p) ∷ (OutOfBounds p, nat_le (p + 4) (length b)) ∷ (BadVtable p, has_vtable_by al b p)
     ∷ (MissingRequired p (unwrap_or missing 0), is_none missing) ∷ []
 
--- n bytes behind their count, UTF-8, and a zero byte behind them
+-- n bytes after their count, UTF-8, and a zero byte after them
 abbrev pub text_rules : Aligned → Bytes → ℕ → List Rule
 text_rules al b p =
     let n = num b p 4 in
@@ -67,7 +67,7 @@ text_rules al b p =
     ∷ (NoTerminator end, nat_lt end (length b) && (slice_index b end == 0))
     ∷ (BadUtf8 ((p + 4) + valid), valid == n) ∷ []
 
--- n elements of a size and an alignment behind their count
+-- n elements of a size and an alignment after their count
 abbrev pub vector_rules : Aligned → Bytes → ℕ → ℕ → ℕ → List Rule
 vector_rules al b size align p =
     let n = num b p 4 in

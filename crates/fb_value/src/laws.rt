@@ -141,7 +141,7 @@ pub fn one_message_in_front()
     ensures { OneMessageInFront }
 {}
 
-/// Whatever is behind a size-prefixed buffer, it can be taken from the front.
+/// Whatever is after a size-prefixed buffer, it can be taken from the front.
 pub fn message_is_whole()
     ensures { MessageIsWhole }
 {}

@@ -16,5 +16,5 @@ pub use laws::{
     old_kept_in_front, one_least_fault, one_message_in_front, one_value, only_old_by_tables,
     part_lies, value_of_place, value_or_fault, value_where_all_keep, value_where_lies,
 };
-pub use limits::Limits;
+pub use limits::{Limits, MOST_BYTES, USUAL_CELLS, USUAL_DEPTH};
 pub use values::Value;

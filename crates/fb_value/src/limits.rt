@@ -4,6 +4,18 @@ ghost use Rattle.std.specs.Option.{SomeIff};
 
 use std::marker::Model;
 
+/// The maximum length of a buffer in bytes: the farthest that a signed offset of 32 bits reaches.
+pub const MOST_BYTES: usize = 2_147_483_647;
+
+/// The usual maximum nesting depth of tables.
+pub const USUAL_DEPTH: u8 = 64;
+
+/// The usual maximum number of cells.
+pub const USUAL_CELLS: u32 = 100_000_000;
+
+// The largest maximum nesting depth.
+const MOST_DEPTH: u8 = 127;
+
 /// The maximum nesting depth of tables, and the maximum number of cells.
 #[derive(Clone, Copy, Debug)]
 pub struct Limits {
@@ -53,7 +65,7 @@ impl Limits {
     pub fn new(depth: u8, cells: u32) -> Option<Limits>
         ensures { SomeIff result ((1 ≤ depth) × (depth ≤ 127)) (record { depth = depth; cells = cells }) }
     {
-        if depth == 0 || depth > 127 {
+        if depth == 0 || depth > MOST_DEPTH {
             return None;
         }
         Some(Limits { depth, cells })

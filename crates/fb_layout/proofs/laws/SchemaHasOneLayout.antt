@@ -8,12 +8,13 @@ use Rattle.fb_schema.specs.Schema.{is_struct}
 use Rattle.fb_schema.specs.WellDeclared.{IsPart, IsDeclared}
 use Rattle.fb_layout.specs.Sizes.{IsLeastMultiple}
 use Rattle.fb_layout.specs.Laid.{LaidSchema, StructLayout, no_struct, stored_shape, kind_in, size_of, align_of}
+use Rattle.fb_layout.specs.Laid.{kinds_of}
 use Rattle.fb_layout.specs.WellMade.{StandInOrder, IsStructLaid, IsSized, IsWellMade}
 use Rattle.fb_layout.specs.declared.faults.LayoutFault.{LayoutFault}
 use Rattle.fb_layout.specs.declared.faults.LayoutFault.TheVariants.{StructTooBig, TableTooWide, Memory}
 use Rattle.fb_layout.specs.Refused.{Fails, Refuses}
 use Rattle.fb_layout.specs.OneLayout.{OneLayout}
-use Rattle.fb_layout.proofs.structs.KindsTakeTheirExactSizes.{kinds_of, with_structs}
+use Rattle.fb_layout.proofs.structs.KindsTakeTheirExactSizes.{with_structs}
 use Rattle.fb_layout.proofs.structs.StructNeedsOnlyLowerOnes.{part-size, natural-same}
 use Rattle.fb_layout.proofs.sizes.StructsAreDeclared.{struct_told, body_told}
 

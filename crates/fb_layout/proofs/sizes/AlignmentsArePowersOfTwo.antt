@@ -16,24 +16,24 @@ use Rattle.fb_schema.specs.Alignments.{base_size, greatest_in}
 use Rattle.fb_schema.specs.WellDeclared.{IsPart, IsForceAlign}
 use Rattle.fb_layout.specs.Sizes.{IsAlignment}
 use Rattle.fb_layout.specs.Laid.{LaidSchema, StructLayout, no_struct, StoredKind, scalar_kind, struct_kind, table_kind}
+use Rattle.fb_layout.specs.Laid.{kinds_of}
 use Rattle.fb_layout.specs.Laid.{union_kind, code_kind, text_kind, StoredShape, one_of, vector_of, Slot, slot_of}
 use Rattle.fb_layout.specs.Laid.{kind_in, stored_shape, slots_of, struct_at, size_of, align_of}
 use Rattle.fb_layout.specs.Widths.{inline_align, slots_align, table_align, greatest}
 use Rattle.fb_layout.specs.WellMade.{natural_align, IsWellMade}
 use Rattle.fb_layout.specs.Laws.{KindsAligned, TablesAligned, GreatestAligned, NoneAlignedToZero, SizesAreMultiples}
 use Rattle.fb_layout.specs.Laws.{SizesFit}
-use Rattle.fb_layout.proofs.structs.KindsTakeTheirExactSizes.{kinds_of}
 use Rattle.fb_layout.proofs.sizes.StructsAreDeclared.{struct_told, body_told}
 
 -- ---- powers of two
 
-one_aligned : IsAlignment 1
+pub one_aligned : IsAlignment 1
 one_aligned = record { exponent = 0; few = omega arith; is = refl }
 
 two_aligned : IsAlignment 2
 two_aligned = record { exponent = 1; few = omega arith; is = refl }
 
-four_aligned : IsAlignment 4
+pub four_aligned : IsAlignment 4
 four_aligned = record { exponent = 2; few = omega arith; is = refl }
 
 eight_aligned : IsAlignment 8
@@ -50,13 +50,13 @@ base_aligned the_base.U32 = four_aligned
 base_aligned the_base.I64 = eight_aligned
 base_aligned the_base.U64 = eight_aligned
 
-lower : (i j : ℕ) → (i ≤ j) ⊎ (j < i)
+pub lower : (i j : ℕ) → (i ≤ j) ⊎ (j < i)
 lower zero j = inl (omega arith)
 lower (suc i) zero = inr (omega arith)
 lower (suc i) (suc j) = elim (lower i j) [ inl h ↦ inl (omega (arith, h)) | inr h ↦ inr (omega (arith, h)) ]
 
 -- The greater of two is one of them.
-max_aligned : (a b : ℕ) → IsAlignment a → IsAlignment b → IsAlignment (max a b)
+pub max_aligned : (a b : ℕ) → IsAlignment a → IsAlignment b → IsAlignment (max a b)
 max_aligned a b pa pb = by_case (lower a b)
   where
     by_case : (a ≤ b) ⊎ (b < a) → IsAlignment (max a b)
@@ -258,7 +258,7 @@ positive_shown L kind made = alignment_positive _ (kind_aligned L made kind)
 pub multiples_shown : SizesAreMultiples
 multiples_shown L kind made = kind_multiple L made kind
 
-base_fits : (b : Base) → base_size b ≤ 65535
+pub base_fits : (b : Base) → base_size b ≤ 65535
 base_fits the_base.Bool = omega arith
 base_fits the_base.I8 = omega arith
 base_fits the_base.U8 = omega arith

@@ -13,13 +13,13 @@ use Rattle.fb_schema.specs.declared.types.FieldInfo.{FieldInfo}
 use Rattle.fb_schema.specs.Seen.{field_seen}
 use Rattle.fb_schema.specs.WellDeclared.{IsPart}
 use Rattle.fb_layout.specs.Laid.{LaidSchema, StoredKind, kind_in, stored_shape, parts_of, struct_at, size_of}
+use Rattle.fb_layout.specs.Laid.{kinds_of}
 use Rattle.fb_layout.specs.WellMade.{StandInOrder, IsWellMade}
 use Rattle.fb_layout.specs.Laws.{StructsHaveFewParts}
-use Rattle.fb_layout.proofs.structs.KindsTakeTheirExactSizes.{kinds_of}
 use Rattle.fb_layout.proofs.sizes.StructsAreDeclared.{struct_told, body_told}
 use Rattle.fb_layout.proofs.sizes.AlignmentsArePowersOfTwo.{base_aligned, alignment_positive}
 
-base_takes : (b : Base) → 1 ≤ base_size b
+pub base_takes : (b : Base) → 1 ≤ base_size b
 base_takes b = alignment_positive _ (base_aligned b)
 
 -- every kind takes a byte

@@ -1,5 +1,5 @@
 -- The numbers of a table's required slots.
-use Rattle.std.proofs.Common.{◌≡◌, ◌<◌, ℕ, zero, suc, ◌+◌, Bool, true, false, not, ◌&&◌, cond, List, [], ◌∷◌}
+use Rattle.std.proofs.Common.{◌≡◌, ℕ, suc, ◌+◌, Bool, true, false, not, ◌&&◌, cond, List, [], ◌∷◌}
 use Rattle.std.proofs.Common.{length, map, filter, Option, None, Some, slice_get, refl, ap, sym, ◌∙◌, arith}
 use Rattle.std.specs.List.{range_with_len}
 use Rattle.std.proofs.lemmas.List.{length-map}
@@ -9,6 +9,7 @@ use Rattle.fb_schema.specs.WellDeclared.{IsBody, IsDeclared}
 use Rattle.fb_layout.specs.Laid.{LaidSchema, Slot, slot_of, slots_of}
 use Rattle.fb_layout.specs.Required.{is_required, required_slots, required_numbers, HaveSmallNumbers}
 use Rattle.fb_layout.specs.WellMade.{IsWellMade}
+use Rattle.std.proofs.lemmas.Option.{slice_get_within}
 
 -- the required ones among slots that are numbered from k on
 abbrev pub required_from : ℕ → List Slot → List ℕ
@@ -76,17 +77,11 @@ numbers_required L declared t =
 
 -- ---- the numbers fit 16 bits
 
--- A place with an element is within the list.
-within : {X : Type 0} (xs : List X) (k : ℕ) (x : X) → slice_get xs k ≡ Some x → k < length xs
-within [] k x e = cc
-within (y ∷ ys) zero x e = omega arith
-within (y ∷ ys) (suc k) x e = let less = within ys k x e in omega (arith, less)
-
 pub small_numbers : (L : LaidSchema) → IsWellMade L → (t : ℕ) → HaveSmallNumbers (slots_in (body_at L.schema t))
 unfolding HaveNumbers
 small_numbers L made t k f e =
     let number = type_numbered L.schema made.declared t (slice_get L.schema.types t) refl k f e in
-    let low = within (slots_in (body_at L.schema t)) k f e in
+    let low = slice_get_within (slots_in (body_at L.schema t)) k f e in
     let many : length (slots_of L t) ≡ length (slots_in (body_at L.schema t)) =
     length-map (slots_in (body_at L.schema t)) (slot_of L.schema) in
     let few = (made.tables t).few in

@@ -15,10 +15,11 @@ use Rattle.fb_schema.specs.Schema.{DeclaredType, DeclaredSchema, body_in, body_a
 use Rattle.fb_schema.specs.Alignments.{greatest_in, part_align, natural_align_in, AreAligned}
 use Rattle.fb_schema.specs.WellDeclared.{IsPart, IsForceAlign, IsBody, IsDeclared}
 use Rattle.fb_layout.specs.Laid.{LaidSchema, StructLayout, no_struct, StoredKind, stored_shape, kind_in, struct_at}
+use Rattle.fb_layout.specs.Laid.{kinds_of}
 use Rattle.fb_layout.specs.Laid.{size_of, align_of, parts_of}
 use Rattle.fb_layout.specs.WellMade.{StandInOrder, natural_align, IsStructLaid, IsSized}
 use Rattle.fb_layout.proofs.sizes.StructsAreDeclared.{IsStructAt, struct_told, body_told}
-use Rattle.fb_layout.proofs.structs.KindsTakeTheirExactSizes.{kinds_of, offsets_from, end_from, struct_of_kinds}
+use Rattle.fb_layout.proofs.structs.KindsTakeTheirExactSizes.{offsets_from, end_from, struct_of_kinds}
 use Rattle.fb_layout.proofs.structs.KindsTakeTheirExactSizes.{exact_struct, with_structs, exact, ArePositive}
 use Rattle.fb_layout.proofs.structs.KindsTakeTheirExactSizes.{align_positive}
 use Rattle.fb_layout.proofs.structs.SmallStructsAreKnown.{IsSizable, AreSizable, exact-positives}

@@ -6,17 +6,13 @@ use Rattle.std.specs.Option.{unwrap_or}
 use Rattle.std.proofs.lemmas.Bool.Decides.{nat_tests}
 use Rattle.fb_schema.specs.declared.kinds.Base.{Base}
 use Rattle.fb_schema.specs.declared.kinds.Base.TheVariants.{Bool as Boolean, I8, U8, I16, U16, I32, U32, I64, U64}
-use Rattle.fb_schema.specs.Schema.{DeclaredField, DeclaredBody, struct_body, DeclaredType, DeclaredSchema}
+use Rattle.fb_schema.specs.Schema.{DeclaredBody, struct_body, DeclaredType, DeclaredSchema}
 use Rattle.fb_schema.specs.Alignments.{base_size}
 use Rattle.fb_layout.specs.declared.extents.Extent.{Extent}
 use Rattle.fb_layout.specs.Laid.{LaidSchema, StructLayout, no_struct, StoredKind, scalar_kind, struct_kind, table_kind}
-use Rattle.fb_layout.specs.Laid.{union_kind, code_kind, text_kind, stored_shape, kind_in, size_of, align_of}
+use Rattle.fb_layout.specs.Laid.{union_kind, code_kind, text_kind, kinds_of, size_of, align_of}
 use Rattle.fb_layout.specs.WellMade.{natural_align}
 use Rattle.fb_layout.specs.Known.{small, aligned_up, extent_in, extent_of}
-
--- the kinds of a struct's fields
-abbrev pub kinds_of : DeclaredSchema → List DeclaredField → List StoredKind
-kinds_of S fs = map (λ f. kind_in (stored_shape S f.shape)) fs
 
 -- where the fields behind a position begin, and where the last ends
 abbrev pub offsets_from : LaidSchema → ℕ → List StoredKind → List ℕ

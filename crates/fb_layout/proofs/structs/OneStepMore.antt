@@ -66,12 +66,3 @@ known_next S f known more ys i y h e is =
 pub known_all : {Y : Type 0} (S : DeclaredSchema) (f : Y → DeclaredType) (known : Known) (ys : List Y) (i : ℕ)
     → length ys ≤ i → known_from S known (map f (drop i ys)) ≡ known
 known_all S f known ys i h = ap (λ r. known_from S known (map f r)) (drop_all i ys h) ∙ known_from-nil S known
-
--- one element is added to a list that is seen
-pub map_pushed : {X Y : Type 0} (f : X → Y) (xs : List X) (x : X) → map f (xs ++ x ∷ []) ≡ map f xs ++ f x ∷ []
-map_pushed f [] x = refl
-map_pushed f (y ∷ ys) x = ap (λ r. f y ∷ r) (map_pushed f ys x)
-
-pub append-nil : {X : Type 0} (xs : List X) → xs ++ [] ≡ xs
-append-nil [] = refl
-append-nil (x ∷ xs) = ap (λ r. x ∷ r) (append-nil xs)

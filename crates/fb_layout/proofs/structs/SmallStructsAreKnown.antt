@@ -7,20 +7,21 @@ use Rattle.fb_schema.specs.Schema.{DeclaredField, DeclaredBody, table_body, stru
 use Rattle.fb_schema.specs.Schema.{DeclaredType, DeclaredSchema}
 use Rattle.fb_layout.specs.declared.extents.Extent.{Extent}
 use Rattle.fb_layout.specs.Laid.{LaidSchema, StructLayout, StoredKind, stored_shape, kind_in, size_of, align_of}
+use Rattle.fb_layout.specs.Laid.{kinds_of}
 use Rattle.fb_layout.specs.WellMade.{natural_align}
 use Rattle.fb_layout.specs.Known.{small, placed_behind, field_placed, each_added, no_fields, whole_struct, known_struct}
 use Rattle.fb_layout.specs.Known.{known_from}
 use Rattle.fb_layout.proofs.structs.OneStepMore.{each_added-nil, each_added-cons, known_from-nil, known_from-cons}
-use Rattle.fb_layout.proofs.structs.OneStepMore.{map_pushed, append-nil}
-use Rattle.fb_layout.proofs.structs.KindsTakeTheirExactSizes.{kinds_of, offsets_from, end_from, exact_struct}
+use Rattle.fb_layout.proofs.structs.KindsTakeTheirExactSizes.{offsets_from, end_from, exact_struct}
 use Rattle.fb_layout.proofs.structs.KindsTakeTheirExactSizes.{with_structs, exact_from, if_small, small_extent}
 use Rattle.fb_layout.proofs.structs.KindsTakeTheirExactSizes.{extent_small, ArePositive, align_positive, end-above}
 use Rattle.fb_layout.proofs.structs.KindsTakeTheirExactSizes.{small-told, large-told, if_small-yes, if_small-no}
 use Rattle.fb_layout.proofs.structs.KindsTakeTheirExactSizes.{aligned-is}
+use Rattle.std.proofs.lemmas.List.{append-nil, map_push}
 
 -- ---- the fields of a struct
 
--- the fields so far and these behind them
+-- the fields so far and these after them
 abbrev pub placed_all : LaidSchema → StructLayout → List StoredKind → StructLayout
 placed_all L placed kinds =
     record {
@@ -253,7 +254,7 @@ known-exact S structs (type ∷ types) positive sizable =
     known_from-cons S (map if_small structs) type types
     ∙ ap (λ r. known_from S (map if_small structs ++ r ∷ []) types)
     (struct-small S structs positive type.body sizable.0)
-    ∙ ap (λ k. known_from S k types) (sym (map_pushed if_small structs own))
+    ∙ ap (λ k. known_from S k types) (sym (map_push if_small structs own))
     ∙ known-exact S (structs ++ own ∷ []) types
     (positive-pushed structs own positive (exact-positive S structs positive type.body sizable.0)) sizable.1
 

@@ -11,8 +11,9 @@ use Rattle.fb_schema.specs.declared.kinds.Shape.TheVariants.{One, Many}
 use Rattle.fb_schema.specs.Schema.{DeclaredField, struct_body, DeclaredType, DeclaredSchema}
 use Rattle.fb_schema.specs.WellDeclared.{IsPart}
 use Rattle.fb_layout.specs.Laid.{StructLayout, no_struct, stored_shape, kind_in, struct_at, size_of, align_of}
+use Rattle.fb_layout.specs.Laid.{kinds_of}
 use Rattle.fb_layout.specs.WellMade.{natural_align}
-use Rattle.fb_layout.proofs.structs.KindsTakeTheirExactSizes.{kinds_of, offsets_from, end_from, struct_of_kinds}
+use Rattle.fb_layout.proofs.structs.KindsTakeTheirExactSizes.{offsets_from, end_from, struct_of_kinds}
 use Rattle.fb_layout.proofs.structs.KindsTakeTheirExactSizes.{exact_struct, with_structs, exact_from, exact}
 
 -- ---- places

@@ -6,7 +6,7 @@ use Rattle.fb_schema.specs.Schema.{DeclaredType, DeclaredSchema}
 use Rattle.fb_layout.specs.declared.faults.LayoutFault.{LayoutFault}
 use Rattle.fb_layout.specs.declared.tables.TableSizes.{TableSizes}
 use Rattle.fb_layout.specs.Known.{Known, type_sizes, behind_one, if_sized, tables_from}
-use Rattle.fb_layout.proofs.structs.OneStepMore.{append-nil}
+use Rattle.std.proofs.lemmas.List.{append-nil}
 
 -- all that is behind some sizes
 abbrev pub behind_all : List TableSizes → Result (List TableSizes) LayoutFault → Result (List TableSizes) LayoutFault

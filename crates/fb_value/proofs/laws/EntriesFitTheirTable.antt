@@ -10,6 +10,7 @@ use Rattle.fb_schema.specs.Schema.{DeclaredType, DeclaredSchema, body_at, body_i
 use Rattle.fb_schema.specs.WellDeclared.{IsBody, MarksFit, IsUnionPair}
 use Rattle.fb_layout.specs.Laid.{LaidSchema, Slot, stored_shape, slot_of, slots_of}
 use Rattle.fb_layout.specs.WellMade.{IsWellMade}
+use Rattle.fb_layout.proofs.slots.SlotsFollowTheirFields.{slot_there}
 use Rattle.fb_value.specs.Datum.{Datum, SlotEntries, no_entries, absent_entry, present_entry}
 use Rattle.fb_value.specs.Num.{Bytes}
 use Rattle.fb_value.specs.Places.{table_part, part_place, code_place, Place, named_slot, named_slots, is_present}
@@ -23,13 +24,6 @@ use Rattle.fb_value.proofs.held.EachPartLiesInItsPlace.{entry_lies_shown}
 use Rattle.fb_value.proofs.laws.EntryFitsItsSlot.{KnownFit, Needs, marks_of, gone_marks, none_place, live_entry}
 use Rattle.fb_value.proofs.laws.EntryFitsItsSlot.{missing_none, table_whole, present_where_needed, code_needed}
 use Rattle.fb_value.proofs.laws.EntryFitsItsSlot.{code_keeps, next_there}
-
--- the slot of a declared field
-slot_seen : (S : DeclaredSchema) (fs : List DeclaredField) (k : ℕ) (df : DeclaredField) → slice_get fs k ≡ Some df
-    → slice_get (map (slot_of S) fs) k ≡ Some (slot_of S df)
-slot_seen S [] k df e = cc
-slot_seen S (f ∷ fs) zero df e = let is : f ≡ df = cc in rw is refl
-slot_seen S (f ∷ fs) (suc k) df e = slot_seen S fs k df e
 
 -- the declared field of a slot
 field_seen : (S : DeclaredSchema) (fs : List DeclaredField) (k : ℕ) (f : Slot)
@@ -76,7 +70,7 @@ module _ (L : LaidSchema) (made : IsWellMade L) (b : Bytes) (small : All (λ x. 
       → LiesInSlot L b (slot_of L.schema df) (slot_place L b p k (drop (suc k) (slots_of L t)) (slot_of L.schema df))
       (nth_entry es k)
   field_lies k df at = entry_lies_shown L b p (slots_of L t) es k (slot_of L.schema df) lies
-      (slot_seen L.schema (slots_in (body_at L.schema t)) k df at)
+      (slot_there L.schema (slots_in (body_at L.schema t)) k df at)
 
   -- a required slot is present, and a union's code too
   needed : (k : ℕ) (df : DeclaredField) → slice_get (slots_in (body_at L.schema t)) k ≡ Some df
@@ -85,7 +79,7 @@ module _ (L : LaidSchema) (made : IsWellMade L) (b : Bytes) (small : All (λ x. 
   needed k df at required =
       let here : 0 + k ≡ k = omega arith in
       let there = rw here at (missing_none b p 0 (slots_of L t) (table_whole L b t p keeps) k (slot_of L.schema df)
-      (slot_seen L.schema (slots_in (body_at L.schema t)) k df at)) in
+      (slot_there L.schema (slots_in (body_at L.schema t)) k df at)) in
       present_where_needed _ _ _ _ there required
 
   -- the code of a required union isn't 0
@@ -103,7 +97,7 @@ module _ (L : LaidSchema) (made : IsWellMade L) (b : Bytes) (small : All (λ x. 
       let present : is_present b p j ≡ true = rw before at ((needed k df at required).1 union) in
       let in_use : g.deprecated ≡ false = pair.marks ∙ live in
       let is_behind : slice_get (slots_of L t) (suc j) ≡ Some (slot_of L.schema df) =
-      rw (sym led.2) (slot_seen L.schema (slots_in (body_at L.schema t)) k df at) in
+      rw (sym led.2) (slot_there L.schema (slots_in (body_at L.schema t)) k df at) in
       let next : next_required (drop (suc j) (slots_of L t)) ≡ true =
       next_there (slots_of L t) j (slot_of L.schema df) is_behind ∙ required in
       let place : slot_place L b p j (drop (suc j) (slots_of L t)) (slot_of L.schema g)

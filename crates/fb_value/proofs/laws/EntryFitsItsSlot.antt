@@ -2,6 +2,8 @@
 use Rattle.std.proofs.Common.{◌≡◌, ◌≢◌, ℕ, zero, suc, ◌+◌, ◌-◌, ◌<◌, ◌≤◌, Bool, true, false, not, ◌&&◌, ◌||◌, ◌==◌}
 use Rattle.std.proofs.Common.{cond, List, [], ◌∷◌, drop, slice_get, All, Option, None, Some, is_none, ℤ, refl, sym}
 use Rattle.std.proofs.Common.{◌∙◌, arith}
+use Rattle.std.specs.Cmp.Derive.{both_true}
+use Rattle.std.proofs.lemmas.Bool.{and_parts}
 use Rattle.std.proofs.lemmas.Bool.Decides.{nat_tests}
 use Rattle.fb_schema.specs.declared.kinds.Kind.TheVariants.{Scalar, Enum, Struct, Table, Union, Code, Text}
 use Rattle.fb_schema.specs.declared.kinds.Shape.{Shape}
@@ -166,13 +168,6 @@ unknown_entry : (L : LaidSchema) (b : Bytes) (f : Slot) (u c q : ℕ) (o : Optio
 unknown_entry L b f u c q None live is none other small lies = absurd lies
 unknown_entry L b f u c q (Some d) live is none other small lies = (live, rw (is, lies) (other, small, none))
 
-both_true : (c d : Bool) → (c && d) ≡ true → (c ≡ true) × (d ≡ true)
-both_true true d e = (refl, e)
-both_true false d e = cc
-
-both_hold : (c d : Bool) → c ≡ true → d ≡ true → (c && d) ≡ true
-both_hold c d e f = rw (e, f) refl
-
 -- a union's slot, by its code's member
 union_entry : (L : LaidSchema) (b : Bytes) (f : Slot) (u c p k : ℕ) (o : Option Datum) (m : Option ℕ)
     → member_by_code L u c ≡ m → f.deprecated ≡ false → f.shape ≡ one_of (union_kind u) → f.if_absent ≡ None → c ≤ 255
@@ -180,8 +175,8 @@ union_entry : (L : LaidSchema) (b : Bytes) (f : Slot) (u c p k : ℕ) (o : Optio
     → ((d : Datum) → o ≡ Some d → KnownFit L b d) → LiesInSlot L b f (named_union b p k c m) o → EntryFits L f o
 union_entry L b f u c p k o None none live is absent small needs known lies =
     if_named L b f o (not (c == 0) && is_present b p k) (record { sort = unknown_place c; at = p + slot_number b p k })
-    absent (λ e. both_hold _ _ (needs e).1 (needs e).0)
-    (λ e there. let other : not (c == 0) ≡ true = (both_true (not (c == 0)) (is_present b p k) e).0 in
+    absent (λ e. both_true {s = not (c == 0)} {t = is_present b p k} (needs e).1 (needs e).0)
+    (λ e there. let other : not (c == 0) ≡ true = (and_parts (not (c == 0)) (is_present b p k) e).0 in
     unknown_entry L b f u c (p + slot_number b p k) o live is none (grind (arith, nat_tests)) small there) lies
 union_entry L b f u c p k o (Some t) some live is absent small needs known lies =
     if_named L b f o (is_present b p k) (record { sort = ref_place (member_part c t); at = p + slot_number b p k })

@@ -1,27 +1,14 @@
 -- Bytes have one least fault.
-use Rattle.std.proofs.Common.{◌≡◌, ◌<◌, ◌⊎◌, inl, inr, ℕ, [], ◌∷◌, None, Some, refl, sym, ◌∙◌}
-use Rattle.std.proofs.lemmas.Bool.{cases_order}
+use Rattle.std.proofs.Common.{◌≡◌, inl, inr, ℕ, [], ◌∷◌, None, Some, sym, ◌∙◌}
 use Rattle.fb_layout.specs.Laid.{LaidSchema}
 use Rattle.fb_value.specs.declared.faults.ReadFault.{ReadFault}
 use Rattle.fb_value.specs.Bounds.{Bounds}
 use Rattle.fb_value.specs.Num.{Bytes}
 use Rattle.fb_value.specs.Places.{Place}
-use Rattle.fb_value.specs.Reached.{Path, ComesBefore}
+use Rattle.fb_value.specs.Reached.{Path}
 use Rattle.fb_value.specs.Faults.{FaultFrom, LeastFrom}
 use Rattle.fb_value.specs.Laws.{OneLeastFault}
-
--- paths of which neither comes before the other
-same_path : (p q : Path) → (ComesBefore p q → ⊥) → (ComesBefore q p → ⊥) → p ≡ q
-same_path [] [] n m = refl
-same_path [] (k ∷ ks) n m = absurd (n tt)
-same_path (j ∷ js) [] n m = absurd (m tt)
-same_path (j ∷ js) (k ∷ ks) n m =
-    by_case (cases_order j k) (λ same. same_path js ks (λ h. n (inr (same, h))) (λ h. m (inr (sym same, h))))
-  where
-    by_case : (j ≡ k) ⊎ ((j < k) ⊎ (k < j)) → (j ≡ k → js ≡ ks) → (j ∷ js) ≡ (k ∷ ks)
-    by_case (inr (inl less)) rest = absurd (n (inl less))
-    by_case (inr (inr more)) rest = absurd (m (inl more))
-    by_case (inl same) rest = rw (same, rest same) refl
+use Rattle.fb_value.proofs.reached.PathsAreInOrder.{same_path}
 
 module _ (L : LaidSchema) (b : Bytes) (most : Bounds) where
   -- one fault stands at the end of a path

@@ -10,7 +10,7 @@ use Rattle.fb_schema.specs.Schema.{DeclaredType, DeclaredSchema, body_at, slots_
 use Rattle.fb_schema.specs.WellDeclared.{IsBody, IsPart, IsShape, KindNames, MayBeElement}
 use Rattle.fb_layout.specs.Laid.{LaidSchema, Slot, StoredKind, scalar_kind, struct_kind, table_kind, text_kind}
 use Rattle.fb_layout.specs.Laid.{StoredShape, one_of, vector_of, stored_kind, stored_shape, slot_of, slots_of, kind_in}
-use Rattle.fb_layout.specs.Laid.{parts_of, struct_at, size_of}
+use Rattle.fb_layout.specs.Laid.{kinds_of, parts_of, struct_at, size_of}
 use Rattle.fb_layout.specs.WellMade.{StandInOrder, IsWellMade}
 use Rattle.fb_value.specs.Places.{Target, vector_part, Sort, ref_place, part_place, inline_place}
 
@@ -62,10 +62,6 @@ IsGood most (part_place X) = ⊥
 IsGood most (inline_place kind) = IsInline most kind
 IsGood most _ = Unit {0}
 
--- the kinds of declared fields
-kinds_in : DeclaredSchema → List DeclaredField → List StoredKind
-kinds_in S fs = map (λ f. kind_in (stored_shape S f.shape)) fs
-
 -- One declared part of a struct, in front of lower ones.
 part_lower : (S : DeclaredSchema) (s o : ℕ) (shape : Shape) (ks : List StoredKind) (os : List ℕ) → IsPart S s shape
     → LowerParts s ks os → LowerParts s (kind_in (stored_shape S shape) ∷ ks) (o ∷ os)
@@ -77,8 +73,7 @@ part_lower S s o _ ks os is rest = absurd is
 -- The declared parts of a struct that stand in order are lower ones.
 parts_lower : (L : LaidSchema) (s p end : ℕ) (fs : List DeclaredField) (os : List ℕ)
     → ((k : ℕ) (f : DeclaredField) → slice_get fs k ≡ Some f → IsPart L.schema s f.shape)
-    → StandInOrder L p (kinds_in L.schema fs) os end → LowerParts s (kinds_in L.schema fs) os
-unfolding kinds_in
+    → StandInOrder L p (kinds_of L.schema fs) os end → LowerParts s (kinds_of L.schema fs) os
 parts_lower L s p end [] os are stand = tt
 parts_lower L s p end (f ∷ fs) [] are stand = absurd stand
 parts_lower L s p end (f ∷ fs) (o ∷ os) are stand =
@@ -114,7 +109,6 @@ module _ (L : LaidSchema) (made : IsWellMade L) where
   -- The parts of a declared type are lower, whatever its body.
   body_lower : (s : ℕ) (body : DeclaredBody) → body_at L.schema s ≡ body → IsBody L.schema s body
       → LowerParts s (map (λ f. kind_in (stored_shape L.schema f.shape)) (parts_in body)) (struct_at L s).offsets
-  unfolding kinds_in
   body_lower s (struct_body fs align) e is =
       let struct : IsTrue (is_struct (body_at L.schema s)) = rw e refl in
       let laid = made.sized.structs s struct in

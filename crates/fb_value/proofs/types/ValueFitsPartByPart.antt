@@ -1,18 +1,12 @@
 -- What fits, part by part.
-use Rattle.std.proofs.Common.{◌≡◌, ◌↔◌, ℕ, suc, List, [], ◌∷◌, length, map, Option, None, Some, refl, sym, ap}
-use Rattle.fb_schema.specs.declared.types.FieldInfo.{FieldInfo}
-use Rattle.fb_schema.specs.Seen.{field_seen}
+use Rattle.std.proofs.Common.{◌≡◌, ◌↔◌, ℕ, suc, List, [], ◌∷◌, length, Option, None, Some, refl, sym, ap}
 use Rattle.fb_layout.specs.Laid.{LaidSchema, Slot, slots_of, parts_of, StoredKind, struct_kind, table_kind, StoredShape}
-use Rattle.fb_layout.specs.Laid.{one_of, stored_shape, kind_in}
+use Rattle.fb_layout.specs.Laid.{one_of}
 use Rattle.fb_value.specs.Datum.{a_struct, a_table, Parts, SlotEntries}
 use Rattle.fb_value.specs.Wanted.{struct_wanted, table_wanted}
 use Rattle.fb_value.specs.View.{parts_view, entries_view}
 use Rattle.fb_value.specs.Fits.{Fits, PartsFit, EntriesFit}
 use Rattle.fb_value.specs.declared.values.Value.{Value}
-
--- the kinds of some fields
-abbrev pub kinds_seen : LaidSchema → List FieldInfo → List StoredKind
-kinds_seen L fs = map (λ f. kind_in (stored_shape L.schema f.shape)) (map field_seen fs)
 
 -- one for each
 pub parts_count : (L : LaidSchema) (ks : List StoredKind) (vs : List Value) → PartsFit L ks (parts_view vs)

@@ -10,10 +10,7 @@ use Rattle.fb_declare.specs.declared.attribute_faults.AttributeHost.{AttributeHo
 use Rattle.fb_declare.specs.NameSet.{is_met}
 use Rattle.fb_declare.proofs.Least.{least_of_append}
 use Rattle.fb_declare.proofs.attribute_faults.metadata_fault.Goals as goal
-
-or_false : (b : Bool) → (b || false) ≡ b
-or_false true = refl
-or_false false = refl
+use Rattle.std.proofs.Math.Bool.{or-false}
 
 -- of two attributes
 two : (declared : Name → Bool) (host : AttributeHost) (all : List AttributeRead) (a b : AttributeRead) (again : Bool)
@@ -27,7 +24,7 @@ two declared host (x ∷ y ∷ []) a b again long at_a at_b e =
     let rule = attribute_faults declared host in
     let told : again ≡ (bytes_eq y.name.bytes x.name.bytes || false) = e
     ∙ (λ j. bytes_eq (at_b j).name.bytes (at_a j).name.bytes)
-    ∙ sym (or_false (bytes_eq y.name.bytes x.name.bytes)) in
+    ∙ sym (or-false (bytes_eq y.name.bytes x.name.bytes)) in
     (λ j. earlier (least_of (rule false (at_a j))) (least_of (rule (told j) (at_b j))))
     ∙ sym (least_of_append (rule false x) (rule (bytes_eq y.name.bytes x.name.bytes || false) y))
     ∙ ap (λ fs. least_of (rule false x ++ fs)) (sym (append-nil (rule (bytes_eq y.name.bytes x.name.bytes || false) y)))

@@ -1,13 +1,14 @@
 use Rattle.std.proofs.Common.{[], ◌∷◌, ◌++◌, map, option_map, sym, ap, ◌∙◌}
+use Rattle.std.proofs.lemmas.List.{map_push}
 use Rattle.fb_schema.specs.Seen.{type_seen}
 use Rattle.fb_layout.specs.Known.{sizes_seen, known_struct, known_from}
-use Rattle.fb_layout.proofs.structs.OneStepMore.{known_next, known_all, map_pushed}
+use Rattle.fb_layout.proofs.structs.OneStepMore.{known_next, known_all}
 use Rattle.fb_layout.proofs.structs.structs_of.Goals as goal
 
 pub loop-info-preserved : goal.loop-info-preserved
 loop-info-preserved c =
     let seen = map (option_map sizes_seen) c.loop-info.structs.items in
-    let more = ap (map (option_map sizes_seen)) c.in_ok-push.ensures.items ∙ map_pushed (option_map sizes_seen)
+    let more = ap (map (option_map sizes_seen)) c.in_ok-push.ensures.items ∙ map_push (option_map sizes_seen)
     c.loop-info.structs.items c.in_ok-sizes.sizes
     ∙ ap (λ s. seen ++ s ∷ [])
     (c.in_ok-sizes.ensures

@@ -8,8 +8,8 @@ returns-in-Some g c =
     let items = c.args.items.now in
     let item = c.in-Some.item in
     let there = got items c.args.place (Some item) c.in-Some.ensures.lookup.0 c.in-Some.ensures.lookup.1 in
-    is_named g.T.Named.name items c.args.place c.args.name.now item.now c.is_same.result there
-    (rw c.name.ensures at c.is_same.ensures)
+    is_named g.T.Named.name items c.args.place c.args.name.now item.now c.eq.result there
+    (rw c.name.ensures at c.eq.ensures)
 
 pub returns-in-None : goal.returns-in-None
 returns-in-None g c =

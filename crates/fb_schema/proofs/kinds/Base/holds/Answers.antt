@@ -8,7 +8,8 @@ use Rattle.fb_schema.specs.WellDeclared.{InRange}
 use Rattle.fb_schema.specs.declared.kinds.Base.{Base}
 use Rattle.fb_schema.specs.declared.kinds.Base.TheVariants as base
 use Rattle.fb_schema.proofs.kinds.Base.holds.Goals as goal
-use Rattle.fb_schema.proofs.kinds.Base.holds.Goals.{in-Bool, in-I8, in-U8, in-I16, in-U16, in-I32, in-U32, in-I64, in-U64}
+use Rattle.fb_schema.proofs.kinds.Base.holds.Goals.{in-Bool, in-I8, in-U8, in-I16, in-U16, in-I32, in-U32, in-I64}
+use Rattle.fb_schema.proofs.kinds.Base.holds.Goals.{in-U64}
 
 -- the least and the greatest number of a type
 abbrev bounds : Base → ℤ × ℤ
@@ -104,7 +105,8 @@ returns-then-least-number c =
       | in-I64 w ↦ given_by _ base.I64 _ _ _ w.in-I64.is w.least-is w.from-in-I64.ensures w.from-in-I64-2.ensures
       | in-U64 w ↦ given_by _ base.U64 _ (pos 0) _ w.in-U64.is w.least-is refl w.from-in-U64.ensures
     ] in
-    let exact = from_least c.args.self c.args.number _ c.match-self.least (to_z-of_z w128 c.args.number c.ranges.number) is c.if-least-number.true in
+    let exact = from_least c.args.self c.args.number _ c.match-self.least
+    (to_z-of_z w128 c.args.number c.ranges.number) is c.if-least-number.true in
     record { test = exact; range = ranged c.args.self c.args.number _ exact }
 
 pub returns-else-least-number : goal.returns-else-least-number
@@ -120,5 +122,6 @@ returns-else-least-number c =
       | in-I64 w ↦ given_by _ base.I64 _ _ _ w.in-I64.is w.least-is w.from-in-I64.ensures w.from-in-I64-2.ensures
       | in-U64 w ↦ given_by _ base.U64 _ (pos 0) _ w.in-U64.is w.least-is refl w.from-in-U64.ensures
     ] in
-    let exact = below_least c.args.self c.args.number _ c.match-self.least (to_z-of_z w128 c.args.number c.ranges.number) is c.if-least-number.false in
+    let exact = below_least c.args.self c.args.number _ c.match-self.least
+    (to_z-of_z w128 c.args.number c.ranges.number) is c.if-least-number.false in
     record { test = exact; range = ranged c.args.self c.args.number _ exact }

@@ -23,7 +23,7 @@ loop-info-preserved c =
     let firsts_are : c.push.new.self.items ≡ firsts ++ length places ∷ [] = rw count at c.in_ok-push.ensures.items in
     record {
       count = rw firsts_are (omega (arith, c.loop-info.invariant.count, length-append firsts (length places ∷ [])));
-      each = rw (places_are, firsts_are) (type_more c.args.types.now c.loop-info.info-index c.info-item.result places more
-          firsts c.loop-info-test.true c.info-item.is c.loop-info.invariant.count c.loop-info.invariant.each
+      each = rw (places_are, firsts_are) (type_more c.args.types.now c.loop-info.info-index c.info-item.result places
+          more firsts c.loop-info-test.true c.info-item.is c.loop-info.invariant.count c.loop-info.invariant.each
           (rw numbers c.in_ok-more.ensures));
     }

@@ -22,7 +22,8 @@ placed types names name at listed place = place
 
 pub position-requires-clause-indexed : goal.position-requires-clause-indexed
 position-requires-clause-indexed c =
-    rw (← (names_lent c.self.inside.types.items c.as_slice.result.now c.as_slice.ensures.value)) (c.full_names-names.ensures (map type_seen c.self.inside.types.items) c.self.invariant.names)
+    rw (← (names_lent c.self.inside.types.items c.as_slice.result.now c.as_slice.ensures.value))
+    (c.full_names-names.ensures (map type_seen c.self.inside.types.items) c.self.invariant.names)
 
 pub position-requires-clause-distinct : goal.position-requires-clause-distinct
 position-requires-clause-distinct c =

@@ -2,7 +2,7 @@ use Rattle.std.proofs.Common.{rules, ◌≡◌, ◌≤◌, ◌-◌, ◌↔◌, t
 use Rattle.fb_index.specs.HashKeys.{digest_by}
 use Rattle.fb_schema.specs.Schema.{Name}
 use Rattle.fb_schema.proofs.FoundPlaces.{found_place, found_nowhere}
-use Rattle.fb_schema.proofs.name_index.Names.position.Goals as goal
+use Rattle.fb_schema.proofs.name_index.ScopeNames.position.Goals as goal
 
 pub returns-in_err-place : goal.returns-in_err-place
 returns-in_err-place g c =

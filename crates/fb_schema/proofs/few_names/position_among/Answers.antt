@@ -1,6 +1,6 @@
 use Rattle.std.proofs.Common.{◌≡◌, true, false, bytes_eq, get_or, ap, sym, ◌∙◌}
 use Rattle.fb_schema.proofs.Positions.{position-map, found_here, found_later, found_nowhere}
-use Rattle.fb_schema.proofs.name_index.position_among.Goals as goal
+use Rattle.fb_schema.proofs.few_names.position_among.Goals as goal
 
 pub returns-then-is_same : goal.returns-then-is_same
 returns-then-is_same g c =

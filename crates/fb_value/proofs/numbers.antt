@@ -1,0 +1,2 @@
+-- Numbers in bytes.
+pub mod BytesSumToTheirNumber
