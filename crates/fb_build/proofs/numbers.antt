@@ -1,2 +1,1 @@
-pub mod BytesSumToTheirNumber
 pub mod NumberReadsBack

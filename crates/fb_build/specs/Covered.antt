@@ -22,7 +22,7 @@ abbrev pub chunk_bytes : Chunk → Bytes
 chunk_bytes (piece_chunk kind bytes) = bytes
 chunk_bytes (zeros_chunk n) = replicate n 0
 
--- the pieces among chunks that stand one behind the other from a position on
+-- the pieces among chunks that follow each other from a position on
 abbrev pub pieces_among : ℕ → List Chunk → List Piece
 pieces_among p [] = []
 pieces_among p (piece_chunk kind bytes ∷ cs) =
@@ -48,7 +48,7 @@ abbrev pub EqualVtablesAreOne : Bytes → List ℕ → Type 0
 EqualVtablesAreOne b qs = (q r : ℕ) → is_among q qs ≡ true → is_among r qs ≡ true → vtable_at b q ≡ vtable_at b r
     → q ≡ r
 
--- The bytes are chunks, one behind the other: the pieces in which the value lies, each once, and short runs of zeros.
+-- The bytes are chunks, one after the other: the pieces in which the value lies, each once, and short runs of zeros.
 pub record IsMadeOf (L : LaidSchema) (b : Bytes) (v : Datum) : Type 0 where
   pub chunks : List Chunk
   pub joined : b ≡ flat_map chunk_bytes chunks
@@ -63,7 +63,7 @@ pub record IsCoveredBy (L : LaidSchema) (b : Bytes) (v : Datum) : Type 0 where
   pub tables : EachTableAt L b (IsTightTable L b) (root_place L).sort 0 v
   pub inline : EachInlineAt L b (IsTightInline L b) (root_place L).sort 0 v
 
--- Covered: the value that lies at the root takes all bytes, but for those of a count in front.
+-- Covered: the value that lies at the root takes all bytes, but for those of a size prefix.
 abbrev pub CoveredFramed : Bool → LaidSchema → Bytes → Type 0
 CoveredFramed prefixed L b = (v : Datum) × LiesAt L b (root_place L).sort (front_of prefixed) v
     × IsCoveredBy L (drop (front_of prefixed) b) v
@@ -71,7 +71,7 @@ CoveredFramed prefixed L b = (v : Datum) × LiesAt L b (root_place L).sort (fron
 abbrev pub Covered : LaidSchema → Bytes → Type 0
 Covered L b = CoveredFramed false L b
 
--- The length of a buffer, with the count in front, is a multiple of the greatest alignment of a part in which its value
+-- The length of a buffer, with its size prefix, is a multiple of the greatest alignment of a part in which its value
 -- lies.
 abbrev pub EndsAlignedFramed : Bool → LaidSchema → Bytes → Type 0
 EndsAlignedFramed prefixed L b = (v : Datum) × LiesAt L b (root_place L).sort (front_of prefixed) v

@@ -26,7 +26,7 @@ abbrev pub ZeroOutside : Type 0
 ZeroOutside = (L : LaidSchema) (b : Bytes) (v : Datum) → IsCoveredBy L b v → (i : ℕ)
     → AllPass (is_outside i) (pieces_of L b (reached_parts L b v)) → slice_index b i ≡ 0
 
--- Of as many bytes one behind the other as the greatest alignment, one is in a piece, where no piece is empty.
+-- Of as many bytes one after the other as the greatest alignment, one is in a piece, where no piece is empty.
 abbrev pub FewOutside : Type 0
 FewOutside =
     (L : LaidSchema) (b : Bytes) (v : Datum) → IsCoveredBy L b v

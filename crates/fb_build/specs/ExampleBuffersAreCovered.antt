@@ -25,9 +25,9 @@ pub record ExamplesAreCovered : Type 0 where
   pub identified : Covered identified_int test_bytes
   -- three tables of two types and a vector: one vtable, once, serves all
   pub pair : Covered table_vector pair_bytes
-  -- a union's member behind its code: two vtables, three zeros in the root's padding
+  -- a union's member after its code: two vtables, three zeros in the root's padding
   pub member : Covered two_members member_bytes
-  -- a struct in its table, with zeros behind its first and its last field
+  -- a struct in its table, with zeros after its first and its last field
   pub struct : Covered one_struct struct_bytes
   -- elements that are aligned to 16: longer runs of zeros, each below 16
   pub wide : Covered wide_structs wide_bytes

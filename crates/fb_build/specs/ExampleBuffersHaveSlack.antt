@@ -22,7 +22,7 @@ untrimmed_bytes = 0x0c ∷ 0 ∷ 0 ∷ 0 ∷ 8 ∷ 0 ∷ 8 ∷ 0 ∷ 4 ∷ 0 ∷
 abbrev pub wide_table_bytes : Bytes
 wide_table_bytes = set seven_bytes 8 0x0c
 
--- two fields of a table in the same four bytes, and four zeros behind them
+-- two fields of a table in the same four bytes, and four zeros after them
 abbrev pub one_place_bytes : Bytes
 one_place_bytes = 0x0c ∷ 0 ∷ 0 ∷ 0 ∷ 8 ∷ 0 ∷ 0x0c ∷ 0 ∷ 4 ∷ 0 ∷ 4 ∷ 0 ∷ 8 ∷ 0 ∷ 0 ∷ 0 ∷ 7 ∷ 0 ∷ 0 ∷ 0 ∷ 0 ∷ 0 ∷ 0 ∷ 0
     ∷ []
@@ -35,7 +35,7 @@ value_alone_bytes = 0x0c ∷ 0 ∷ 0 ∷ 0 ∷ 8 ∷ 0 ∷ 8 ∷ 0 ∷ 0 ∷ 0 �
 abbrev pub rubbish_in_table_bytes : Bytes
 rubbish_in_table_bytes = set member_bytes 17 9
 
--- a byte other than 0 behind the struct's first field
+-- a byte other than 0 after the struct's first field
 abbrev pub rubbish_in_struct_bytes : Bytes
 rubbish_in_struct_bytes = set struct_bytes 17 9
 

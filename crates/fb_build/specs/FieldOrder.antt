@@ -26,7 +26,7 @@ abbrev pub SameOfStored : (ℕ → Slot → Bool) → (ℕ → Slot → Bool) �
 SameOfStored t u fs xs = (k : ℕ) (f : Slot) (x : Option Datum) → slice_get fs k ≡ Some f → slice_get xs k ≡ Some x
     → is_stored f x ≡ true → t k f ≡ u k f
 
--- A link is a slot plus one: the next slot behind all those that pass a test.
+-- A link is a slot plus one: the next slot after all those that pass a test.
 pub record NamesNextSlot (L : LaidSchema) (laid : ℕ → Slot → Bool) (fs : List Slot) (xs : List (Option Datum))
     (link : ℕ) : Type 0 where
   pub slot : ℕ

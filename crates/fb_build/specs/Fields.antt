@@ -18,7 +18,7 @@ abbrev pub TargetEnd : LaidSchema → ℕ → Bytes → Option Target → ℕ �
 TargetEnd L m s None e d = Unit {0}
 TargetEnd L m s (Some X) e d = LaidInTail L m s (part_place X) e d
 
--- The end-count of a stored slot: of its field once that is laid, which is behind `low`, of what it names before.
+-- The end-count of a stored slot: of its field once that is laid, which is after `low`, of what it names before.
 abbrev pub StoredEnd : LaidSchema → ℕ → ℕ → Bytes → Bool → Slot → Option Datum → ℕ → Type 0
 StoredEnd L low m s laid f None e = ⊥
 StoredEnd L low m s true f (Some d) e = (low < e) × LaidInTail L m s (sort_for f.shape d) e d

@@ -1,4 +1,4 @@
--- The bound on a buffer's length, with the count in front where it has one.
+-- The bound on a buffer's length, with its size prefix where it has one.
 use Rattle.std.specs.Prelude.{ℕ, ◌+◌, Bool, true, false}
 use Rattle.fb_layout.specs.Laid.{LaidSchema}
 use Rattle.fb_value.specs.Datum.{Datum}

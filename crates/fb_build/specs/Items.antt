@@ -11,7 +11,7 @@ use Rattle.fb_build.specs.Fields.{TargetEnd, target_for}
 use Rattle.fb_build.specs.CoveredTails.{IsTightInTail}
 use Rattle.fb_tape.specs.InlineBytes.{IsTightInline, EachInlineItem}
 
--- Elements lie one behind the other, from the first byte of a tail on, their tables have nothing in slots that aren't
+-- Elements lie one after the other, from the first byte of a tail on, their tables have nothing in slots that aren't
 -- in use, and they, their structs and their numbers have no slack.
 pub record ItemsEnd (L : LaidSchema) (m : ℕ) (s : Bytes) (kind : StoredKind) (ds : Parts) : Type 0 where
   pub lie : LiesItemsBy (from_end s m) L s kind 0 ds

@@ -6,7 +6,7 @@ use Rattle.std.specs.Prelude.{Option, None, Some}
 abbrev pub zeros_to : ℕ → ℕ → ℕ
 zeros_to align count = (align - count % align) % align
 
--- Data are aligned behind their count, which takes 4 bytes.
+-- Data are aligned after their count, which takes 4 bytes.
 abbrev pub data_end : ℕ → ℕ → ℕ → ℕ
 data_end align size laid = laid + (zeros_to align (laid + (size - 4)) + size)
 
@@ -24,7 +24,7 @@ first_end size is_known laid = laid + (if is_known then 4 else 4 + size)
 abbrev pub vtable_end : ℕ → ℕ → ℕ → ℕ → ℕ
 vtable_end size number known laid = first_end size (nat_lt number known) laid
 
--- what is behind the fields of a table, from its end on
+-- what is after the fields of a table, from its end on
 abbrev pub closed_end : ℕ → Bool → ℕ → ℕ
 closed_end size is_known laid = first_end size is_known (laid + zeros_to 4 laid)
 

@@ -123,12 +123,12 @@ pub record NewVtable (known : List Bytes) (before after : List ℕ) (old new vta
   pub places : after ≡ before ++ (length new ∷ [])
   pub bytes : new ≡ vtable ++ (little_bytes 4 (length vtable) ++ old)
 
--- behind the root's reference
+-- after the root's reference
 abbrev pub identifier_bytes : Option (List ℕ) → Bytes
 identifier_bytes None = []
 identifier_bytes (Some id) = id
 
--- From one tail to a later one the identifier was laid, if there is one, and few zeros behind it.
+-- From one tail to a later one the identifier was laid, if there is one, and few zeros after it.
 pub record HeaderFront (identifier : Option (List ℕ)) (a b : TailSeen) : Type 0 where
   pub zeros : ℕ
   pub under : zeros < a.most

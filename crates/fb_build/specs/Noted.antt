@@ -9,7 +9,7 @@ use Rattle.fb_tape.specs.OpenFields.{OpenField, IsOpenIf, IsInlineField, AreOpen
 use Rattle.fb_tape.specs.Tapes.{Taped, Waits}
 use Rattle.fb_build.specs.Fields.{is_stored}
 
--- Parts wait behind those that waited, and take so much room.
+-- Parts wait after those that waited, and take so much room.
 pub record AddsParts (a b : Taped) (parts : List NamedPart) (room : ℕ) : Type 0 where
   pub waits : (others : List NamedPart) → Waits a others → Waits b (others ++ parts)
   pub sum : at_most_usize b.room ≡ at_most_usize (a.room + room)

@@ -103,7 +103,7 @@ vtables_of b xs = each_once (tables_vtables b xs)
 
 -- what a stretch of bytes is
 pub data PieceKind : Type 0 where
-  -- the root's reference, and the identifier behind it
+  -- the root's reference, and the identifier after it
   whole_header : PieceKind
   -- a table's own bytes, a vector or a text
   whole_part : PieceKind

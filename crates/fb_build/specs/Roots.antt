@@ -13,6 +13,6 @@ pub record IsRoot (L : LaidSchema) (o : TailSeen) (places : List ℕ) (e : ℕ) 
   pub lies : LaidInTail L o.most o.bytes (part_place (table_part L.schema.root)) e d
   pub made : IsMade L o places (parts_in_tail L o.bytes (table_part L.schema.root) e d)
 
--- the identifier stands behind the root's reference
+-- the identifier stands after the root's reference
 abbrev pub IsIdentified : Bytes → Bytes → Type 0
 IsIdentified b id = (8 ≤ length b) × (take 4 (drop 4 b) ≡ id)

@@ -1,6 +1,6 @@
 -- The fields that a table stores, told by its vtable.
 -- From the FlatBuffers documentation, "FlatBuffer Internals": Tables (a vtable's first numbers are its own size and the
--- table's, and a field that isn't stored has 0), Unions (a code, 0 for no member, and the member behind it).
+-- table's, and a field that isn't stored has 0), Unions (a code, 0 for no member, and the member after it).
 use Rattle.std.specs.Prelude.{ℕ, suc, ◌+◌, ◌-◌, ◌≡◌, ◌≢◌, ◌<◌, ◌≤◌, ◌⊎◌, Bool, true, false, ◌||◌, nat_lt, List, [], ◌∷◌}
 use Rattle.std.specs.Prelude.{slice_get, sum_by, if◌then◌else◌, Option, None, Some, ℤ, pos}
 use Rattle.fb_schema.specs.Alignments.{base_size}
@@ -75,7 +75,7 @@ abbrev pub StandsApartFrom : LaidSchema → StoredSlot → List StoredSlot → T
 StandsApartFrom L x [] = Unit {0}
 StandsApartFrom L x (y ∷ ys) = StandApart L x y × StandsApartFrom L x ys
 
--- Fields stand behind the first number of a table of a size and inside of it, and no two share a byte.
+-- Fields stand after the first number of a table of a size and inside of it, and no two share a byte.
 abbrev pub AllStandApart : LaidSchema → ℕ → List StoredSlot → Type 0
 AllStandApart L size [] = Unit {0}
 AllStandApart L size (x ∷ xs) = (4 ≤ x.at) × (x.at + inline_size L x.slot.shape ≤ size) × StandsApartFrom L x xs
@@ -97,7 +97,7 @@ AllHoldBits b p (x ∷ xs) = HoldsBit b (p + x.at) x.slot.shape × AllHoldBits b
 abbrev pub HoldsBits : LaidSchema → Bytes → ℕ → ℕ → Type 0
 HoldsBits L b t p = AllHoldBits b p (stored_of L b t p)
 
--- A union's value is stored only behind a stored code other than 0.
+-- A union's value is stored only after a stored code other than 0.
 abbrev pub CodesItsMembers : LaidSchema → Bytes → ℕ → ℕ → Type 0
 CodesItsMembers L b t p = (k : ℕ) (f : Slot) (u : ℕ) → slice_get (slots_of L t) k ≡ Some f
     → f.shape ≡ one_of (union_kind u) → is_present b p k ≡ true → code_at b p (k - 1) ≢ 0

@@ -54,7 +54,7 @@ buffer_end front L t = header_end front L.schema.identifier (tape_most t) (tape_
 
 -- ---- the operations that are left
 
--- The parts that wait are those that the operations so far leave. The parts qs will wait behind the others, and for
+-- The parts that wait are those that the operations so far leave. The parts qs will wait after the others, and for
 -- these the tail has room.
 pub record IsLaidUpTo (L : LaidSchema) (vtables : List Bytes) (ops : List Op) (notes : List NotedField) (bytes : Bytes)
     (qs : List NamedPart) (a : Laying) : Type 0 where

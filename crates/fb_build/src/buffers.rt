@@ -2,6 +2,7 @@
 ghost use Rattle.std.specs.Prelude.{◌≡◌, ◌≤◌, ◌<◌, IfOk, IfErr, length};
 ghost use Rattle.fb_value.specs.Datum.{Datum};
 ghost use Rattle.fb_value.specs.Num.{Bytes};
+ghost use Rattle.fb_value.specs.Bounds.{most_bytes};
 ghost use Rattle.fb_build.specs.FramedRoom.{framed_room};
 ghost use Rattle.fb_build.specs.NotedRoots.{NotesRoot};
 ghost use Rattle.fb_build.specs.Planned.{IsLaidBy, IsRootLaid};
@@ -29,11 +30,11 @@ pub fn plan_root<'l>(
     ensures short { IfOk result (λ plan. (b : Bytes) → IsLaidBy plan b
         → (d : Datum) → NotesRoot layout.now tape.entry d → length b ≤ framed_room prefixed layout.now d) }
     ensures small { IfOk result (λ plan. (d : Datum) → NotesRoot layout.now tape.entry d
-        → framed_room prefixed layout.now d ≤ 2147483647) }
+        → framed_room prefixed layout.now d ≤ most_bytes) }
     ensures too_big { IfErr result (λ e. (d : Datum) → NotesRoot layout.now tape.entry d → e ≡ TooBig
-        → 2147483647 < framed_room prefixed layout.now d) }
+        → most_bytes < framed_room prefixed layout.now d) }
     ensures memory { IfErr result (λ e. (d : Datum) → NotesRoot layout.now tape.entry d → e ≡ Memory
-        → framed_room prefixed layout.now d ≤ 2147483647) }
+        → framed_room prefixed layout.now d ≤ most_bytes) }
 {
     // What is too big is so whatever memory there is.
     let Some(_) = buffer_room(layout, tape.room().saturating_add(front_of(prefixed))) else {

@@ -7,6 +7,7 @@ ghost use Rattle.fb_build.specs.Lengths.{data_end, references_end, fields_end, t
 ghost use Rattle.fb_build.specs.NotesLaid.{notes_references, notes_size};
 ghost use Rattle.fb_build.specs.Steps.{MayLayNext, Steps};
 ghost use Rattle.fb_build.specs.TapeLaid.{IsFresh};
+ghost use Rattle.fb_value.specs.Bounds.{most_bytes};
 
 use crate::tail::{Tail, laid_is_short};
 use crate::taped_fields::lay_fields;
@@ -31,7 +32,7 @@ impl Laying {
         parts: usize,
         vtables: usize,
     ) -> Result<Laying, AllocError>
-        requires short { end ≤ 2147483647 }
+        requires short { end ≤ most_bytes }
         ensures room { IfOk result (λ l. l.tail.free ≡ end) }
         ensures reserved { IfOk result (λ l. parts ≤ vec_capacity l.waiting) }
         ensures places { IfOk result (λ l. vtables ≤ vec_capacity l.places) }

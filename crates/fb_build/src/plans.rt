@@ -1,7 +1,7 @@
 //! What is to be laid, with all the memory that laying it takes.
 ghost use Rattle.std.specs.Prelude.{Bool, List, Option, ◌≡◌, ◌≤◌, ◌+◌, ◌-◌, length, IfOk};
 ghost use Rattle.fb_layout.specs.Widths.{greatest};
-ghost use Rattle.fb_value.specs.Bounds.{Bounds};
+ghost use Rattle.fb_value.specs.Bounds.{Bounds, most_bytes};
 ghost use Rattle.fb_value.specs.Counts.{cells, depth};
 ghost use Rattle.fb_value.specs.Datum.{Datum, a_table};
 ghost use Rattle.fb_value.specs.Holds.{HoldsFramed, front_of};
@@ -55,7 +55,7 @@ impl<'l> TapePlan<'l> {
     ) -> Result<TapePlan<'l>, AllocError>
         requires layout { tape.layout ≡ layout.now }
         requires means { SomeRoot tape }
-        requires room { front_of prefixed + (tape.room + (8 + (greatest layout.now - 1))) ≤ 2147483647 }
+        requires room { front_of prefixed + (tape.room + (8 + (greatest layout.now - 1))) ≤ most_bytes }
         ensures layout { IfOk result (λ p. p.layout ≡ layout.now) }
         ensures tape { IfOk result (λ p. p.tape ≡ tape.entry) }
         ensures prefixed { IfOk result (λ p. p.prefixed ≡ prefixed) }

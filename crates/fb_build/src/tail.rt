@@ -2,6 +2,7 @@
 ghost use Rattle.std.specs.Prelude.{◌≡◌, ◌≤◌, ◌<◌, ◌+◌, ◌-◌, ◌%◌, ◌++◌};
 ghost use Rattle.std.specs.Prelude.{length, replicate, max, true};
 ghost use Rattle.fb_value.specs.Num.{divides};
+ghost use Rattle.fb_value.specs.Bounds.{most_bytes};
 ghost use Rattle.byteorder.specs.Endian.{little_bytes};
 ghost use Rattle.fb_layout.specs.Sizes.{IsAlignment};
 ghost use Rattle.fb_build.specs.Tails.{Grows};
@@ -22,6 +23,7 @@ pub(crate) struct Tail {
 impl Model for Tail {
     ghost use Rattle.std.specs.Prelude.{◌≡◌, ◌≤◌, ◌+◌, ◌++◌, length, take, drop, replicate};
     ghost use Rattle.fb_layout.specs.Sizes.{IsAlignment};
+    ghost use Rattle.fb_value.specs.Bounds.{most_bytes};
     ghost use Rattle.fb_build.specs.Tails.{TailSeen};
 
     ghost Value = { TailSeen };
@@ -33,14 +35,14 @@ impl Model for Tail {
     } };
 
     ghost invariant = { λ t. (t.free ≤ length t.block.items)
-        × (length t.block.items ≤ 2147483647)
+        × (length t.block.items ≤ most_bytes)
         × (take t.free t.block.items ≡ replicate t.free 0) × IsAlignment t.most };
 }
 
 impl Tail {
     /// A block of zeros.
     pub(crate) fn new(block: Vec<u8>) -> Tail
-        requires short { length block.items ≤ 2147483647 }
+        requires short { length block.items ≤ most_bytes }
         requires zeros { block.items ≡ replicate (length block.items) 0 }
         ensures free { result.free ≡ length block.items }
         ensures bytes { length result.bytes ≡ 0 }
@@ -57,7 +59,7 @@ impl Tail {
     /// How many bytes are laid.
     pub(crate) fn count(&self) -> usize
         ensures exact { result ≡ length self.now.bytes }
-        ensures short { self.now.free + result ≤ 2147483647 }
+        ensures short { self.now.free + result ≤ most_bytes }
     {
         self.block.len() - self.free
     }
@@ -172,7 +174,7 @@ impl Tail {
 
 /// What is laid and what is free are short together: a block is shorter than 2 GiB.
 pub(crate) fn laid_is_short(tail: &Tail)
-    ensures { tail.now.free + length tail.now.bytes ≤ 2147483647 }
+    ensures { tail.now.free + length tail.now.bytes ≤ most_bytes }
 {
     let _count = tail.count();
 }

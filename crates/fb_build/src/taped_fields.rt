@@ -45,7 +45,7 @@ pub(crate) struct Taken {
 }
 
 /// Counts what some fields take.
-pub(crate) fn taken_by(notes: &[NotedField]) -> Taken
+pub(crate) fn count_notes(notes: &[NotedField]) -> Taken
     requires few { length notes.now ≤ 65535 }
     ensures bytes { result.bytes ≡ notes_bytes notes.now }
     ensures references { result.references ≡ notes_references notes.now }

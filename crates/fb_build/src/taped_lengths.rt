@@ -4,6 +4,7 @@ ghost use Rattle.byteorder.specs.Endian.{little_number};
 ghost use Rattle.fb_layout.specs.Sizes.{IsAlignment};
 ghost use Rattle.fb_layout.specs.Widths.{greatest};
 ghost use Rattle.fb_value.specs.Num.{Bytes};
+ghost use Rattle.fb_value.specs.Bounds.{most_bytes};
 ghost use Rattle.fb_tape.specs.NamedParts.{NamedPart};
 ghost use Rattle.fb_tape.specs.Tapes.{Lays, known_after};
 ghost use Rattle.fb_tape.specs.declared.ops.NotedField.{NotedField};
@@ -18,7 +19,7 @@ use fb_tape::{Op, Tape};
 /// What is counted of the operations so far: how many bytes are laid, what they are padded to at most, and how many
 /// vtables have come.
 #[derive(Clone, Copy)]
-struct Counted {
+struct TapeLength {
     laid: usize,
     most: usize,
     known: usize,
@@ -30,7 +31,7 @@ fn data_end(align: usize, size: usize, laid: usize) -> usize
     requires low { align ≤ 65535 }
     requires counted { 4 ≤ size }
     requires short { size ≤ 68719476736 }
-    requires small { laid ≤ 2147483647 }
+    requires small { laid ≤ most_bytes }
     ensures exact { result ≡ data_end align size laid }
 {
     laid + (zeros_to(align, laid + (size - 4)) + size)
@@ -41,7 +42,7 @@ fn table_end(align: usize, vtable: &[u8], is_known: bool, laid: usize) -> usize
     requires power { IsAlignment align }
     requires low { align ≤ 65535 }
     requires long { 4 ≤ length vtable.now }
-    requires small { laid ≤ 2147483647 }
+    requires small { laid ≤ most_bytes }
     ensures exact { result
         ≡ sized_end align (little_number 2 (take 2 (drop 2 vtable.now))) (length vtable.now) is_known laid }
 {
@@ -51,9 +52,9 @@ fn table_end(align: usize, vtable: &[u8], is_known: bool, laid: usize) -> usize
 }
 
 /// Counts an operation.
-fn count_op(before: Counted, tape: &Tape, op: Op) -> Counted
+fn count_op(before: TapeLength, tape: &Tape, op: Op) -> TapeLength
     requires some { SomeOp tape.now.layout tape.now.vtables op }
-    requires small { before.laid ≤ 2147483647 }
+    requires small { before.laid ≤ most_bytes }
     requires power { IsAlignment before.most }
     ensures laid { (room : ℕ) (ps qs : List NamedPart) (notes : List NotedField) (bytes : Bytes)
         → Lays tape.now.layout tape.now.vtables op room ps notes bytes qs
@@ -63,12 +64,12 @@ fn count_op(before: Counted, tape: &Tape, op: Op) -> Counted
     ensures known { result.known ≡ known_after before.known op }
 {
     match op {
-        Op::Data { align, size } => Counted {
+        Op::Data { align, size } => TapeLength {
             laid: data_end(align.bytes(), size as usize, before.laid),
             most: before.most.max(align.bytes()),
             known: before.known,
         },
-        Op::References { count } => Counted {
+        Op::References { count } => TapeLength {
             laid: data_end(4, 4 + count as usize * 4, before.laid),
             most: before.most.max(4),
             known: before.known,
@@ -76,7 +77,7 @@ fn count_op(before: Counted, tape: &Tape, op: Op) -> Counted
         Op::Table { align, vtable, .. } => {
             let number = vtable as usize;
             let own = tape.vtable(number);
-            Counted {
+            TapeLength {
                 laid: table_end(align.bytes(), own, number < before.known, before.laid),
                 most: before.most.max(align.bytes()),
                 known: before.known.max(number + 1),
@@ -86,10 +87,10 @@ fn count_op(before: Counted, tape: &Tape, op: Op) -> Counted
 }
 
 /// Counts a tape.
-fn count_tape(layout: &Layout, tape: &Tape) -> Counted
+fn count_tape(layout: &Layout, tape: &Tape) -> TapeLength
     requires layout { tape.now.layout ≡ layout.now }
     requires means { SomeLay tape.now }
-    requires short { tape.now.room ≤ 2147483647 }
+    requires short { tape.now.room ≤ most_bytes }
     ensures laid { result.laid ≡ tape_end tape.now }
     ensures bound { result.laid ≤ tape.now.room }
     ensures most { result.most ≡ tape_most tape.now }
@@ -97,7 +98,7 @@ fn count_tape(layout: &Layout, tape: &Tape) -> Counted
 {
     layout_is_well_made(layout);
     let ops = tape.ops();
-    let mut counted = Counted {
+    let mut counted = TapeLength {
         laid: 0,
         most: 4,
         known: 0,
@@ -113,12 +114,12 @@ pub(crate) fn buffer_end(layout: &Layout, tape: &Tape, front: usize) -> usize
     requires low { front ≤ 4 }
     requires layout { tape.now.layout ≡ layout.now }
     requires means { SomeLay tape.now }
-    requires short { tape.now.room ≤ 2147483647 }
+    requires short { tape.now.room ≤ most_bytes }
     ensures exact { result ≡ buffer_end front layout.now tape.now }
     ensures bound { result ≤ front + (tape.now.room + (8 + (greatest layout.now - 1))) }
 {
     layout_is_well_made(layout);
-    let Counted { laid, most, .. } = count_tape(layout, tape);
+    let TapeLength { laid, most, .. } = count_tape(layout, tape);
     let header = match layout.schema().identifier() {
         Some(_) => 8 + front,
         None => 4 + front,

@@ -12,13 +12,13 @@ ghost use Rattle.fb_build.specs.Tails.{Grows};
 ghost use Rattle.fb_build.specs.Waiting.{AreWaiting};
 
 use crate::laying::{Laying, TableFields, lay_data, lay_references, lay_table};
-use crate::taped_fields::taken_by;
+use crate::taped_fields::count_notes;
 use crate::taped_vtables::NumberedVtable;
 use fb_layout::{Layout, layout_is_well_made};
 use fb_tape::{NotedField, Op, Tape};
 
 /// The fields from an index on.
-#[tactic(auto, using(crate::proofs::taped::NotedFieldsAreLaidInTurn::all_left))]
+#[tactic(auto, using(std::proofs::lemmas::List::take_rest))]
 fn fields_from(fields: &[NotedField], at: usize) -> &[NotedField]
     requires within { at ≤ length fields.now }
     ensures exact { result.now ≡ drop at fields.now }
@@ -27,7 +27,7 @@ fn fields_from(fields: &[NotedField], at: usize) -> &[NotedField]
 }
 
 /// The bytes from an index on.
-#[tactic(auto, using(crate::proofs::taped::NotedFieldsAreLaidInTurn::all_left))]
+#[tactic(auto, using(std::proofs::lemmas::List::take_rest))]
 fn bytes_from(bytes: &[u8], at: usize) -> &[u8]
     requires within { at ≤ length bytes.now }
     ensures exact { result.now ≡ drop at bytes.now }
@@ -81,7 +81,7 @@ fn lay_op(laying: &mut Laying, tape: &Tape, op: Op, fields: &[NotedField], bytes
         } => {
             let number = vtable as usize;
             let notes = &fields[..count as usize];
-            let taken = taken_by(notes);
+            let taken = count_notes(notes);
             let own = &bytes[..taken.bytes];
             let vtable = NumberedVtable::new(tape, number);
             let fields = TableFields {

@@ -1,6 +1,5 @@
 pub mod PiecesAreRead
 pub mod MembersAreInTheText
-pub mod NamedSlotIsFound
 pub mod OneMemberMore
 pub mod TextsAreAtTheirSlots
 pub mod NextMemberIsPut

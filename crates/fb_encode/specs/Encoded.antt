@@ -3,7 +3,7 @@
 use Rattle.std.specs.Prelude.{◌≤◌, ◌<◌, Bool, length}
 use Rattle.serde_json.specs.Data.{Data}
 use Rattle.fb_layout.specs.Laid.{LaidSchema}
-use Rattle.fb_value.specs.Bounds.{Bounds}
+use Rattle.fb_value.specs.Bounds.{Bounds, most_bytes}
 use Rattle.fb_value.specs.Counts.{cells, depth}
 use Rattle.fb_value.specs.Datum.{Datum}
 use Rattle.fb_value.specs.Fits.{FitsRoot}
@@ -21,13 +21,13 @@ use Rattle.fb_encode.specs.declared.faults.EncodeFault.{EncodeFault}
 use Rattle.fb_encode.specs.declared.faults.EncodeFault.TheVariants.{Json, Build}
 
 -- Exactly the value that the tree means lies in the bytes, only slots in use have something, each byte belongs to the
--- value or is one of few zeros, or to the count in front of a prefixed buffer, and they are no longer than its room.
+-- value or is one of few zeros, or to the size prefix, and they are no longer than its room.
 pub record IsEncodedFramed (prefixed : Bool) (L : LaidSchema) (most : Bounds) (unknown : Bool) (t : Data) (b : Bytes)
     : Type 0 where
   pub value : Datum
   pub means : Means L most unknown t value
   pub fits : FitsRoot L value
-  pub small : framed_room prefixed L value ≤ 2147483647
+  pub small : framed_room prefixed L value ≤ most_bytes
   pub holds : (bounds : Bounds) (raw : Bool) → depth value ≤ bounds.depth → cells value ≤ bounds.cells
       → HoldsFramed prefixed L bounds raw b value
   pub old_slots : OnlyOldBehind (front_of prefixed) L b
@@ -50,6 +50,6 @@ TreeRefused L most unknown t f = BreaksARule L most unknown t f
 abbrev pub EncodeRefusedFramed : Bool → LaidSchema → Bounds → Bool → Data → EncodeFault → Type 0
 EncodeRefusedFramed prefixed L most unknown t (Json f) = TreeRefused L most unknown t f
 EncodeRefusedFramed prefixed L most unknown t (Build the_build.TooBig) =
-    (d : Datum) × Means L most unknown t d × (2147483647 < framed_room prefixed L d)
+    (d : Datum) × Means L most unknown t d × (most_bytes < framed_room prefixed L d)
 EncodeRefusedFramed prefixed L most unknown t (Build the_build.Memory) =
-    (d : Datum) × Means L most unknown t d × (framed_room prefixed L d ≤ 2147483647)
+    (d : Datum) × Means L most unknown t d × (framed_room prefixed L d ≤ most_bytes)

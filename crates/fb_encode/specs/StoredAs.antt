@@ -8,10 +8,10 @@ use Rattle.fb_schema.specs.Schema.{DeclaredSchema}
 use Rattle.fb_layout.specs.Laid.{stored_shape}
 use Rattle.fb_json.specs.SlotMembers.{is_of_union}
 use Rattle.fb_build.specs.Fields.{is_reference}
-use Rattle.fb_encode.specs.declared.entries.Stored.{Stored}
-use Rattle.fb_encode.specs.declared.entries.Stored.TheVariants.{WithItsValue, Inline, Reference, Member}
+use Rattle.fb_encode.specs.declared.entries.StoredForm.{StoredForm}
+use Rattle.fb_encode.specs.declared.entries.StoredForm.TheVariants.{WithItsValue, Inline, Reference, Member}
 
-abbrev pub IsStoredAs : Shape → Stored → Type 0
+abbrev pub IsStoredAs : Shape → StoredForm → Type 0
 IsStoredAs shape WithItsValue = (u : TypeId) × (shape ≡ One (Code u))
 IsStoredAs shape (Inline kind) = (shape ≡ One kind) × (is_of_union shape ≡ false)
     × ((S : DeclaredSchema) → is_reference (stored_shape S shape) ≡ false)

@@ -21,7 +21,7 @@ use Rattle.fb_encode.specs.declared.faults.TextFault.TheVariants as the_text
 abbrev pub IsJsonOf : List ℕ → Data → Type 0
 IsJsonOf json t = IsReadAs 127 json t
 
--- The bytes are a buffer of the tree that the text is read as, with a count in front or without.
+-- The bytes are a buffer of the tree that the text is read as, with a size prefix or without.
 abbrev pub IsTextEncoded : Bool → LaidSchema → Bounds → Bool → List ℕ → Bytes → Type 0
 IsTextEncoded prefixed L most unknown json b =
     (t : Data) × IsJsonOf json t × IsEncodedFramed prefixed L most unknown t b
@@ -45,7 +45,7 @@ TextRefused prefixed L most unknown json the_text.Memory = ⊤
 TextRefused prefixed L most unknown json (Encode f) =
     (t : Data) × IsJsonOf json t × EncodeRefusedFramed prefixed L most unknown t f
 
--- It is refused before anything is laid, with a count in front or without.
+-- It is refused before anything is laid, with a size prefix or without.
 abbrev pub IsUnread : LaidSchema → Bounds → Bool → List ℕ → TextFault → Type 0
 IsUnread L most unknown json f = (prefixed : Bool) → TextRefused prefixed L most unknown json f
 

@@ -25,6 +25,19 @@ pub(crate) struct Elements {
 }
 
 impl Elements {
+    /// What is wanted of a value of this shape at the vector's place.
+    fn wanted_as(self, shape: Shape, left: u32) -> Wanted
+        ensures { result ≡ record { shape = shape; place = self.place; levels = self.levels; left = left } }
+    {
+        let Elements { place, levels, .. } = self;
+        Wanted {
+            shape,
+            place,
+            levels,
+            left,
+        }
+    }
+
     /// What is wanted of the vector, for which so many cells are left.
     pub(crate) fn vector(self, left: u32) -> Wanted
         ensures shape { result.shape ≡ Many self.kind }
@@ -32,17 +45,7 @@ impl Elements {
         ensures levels { result.levels ≡ self.levels }
         ensures left { result.left ≡ left }
     {
-        let Elements {
-            kind,
-            place,
-            levels,
-        } = self;
-        Wanted {
-            shape: Shape::Many(kind),
-            place,
-            levels,
-            left,
-        }
+        self.wanted_as(Shape::Many(self.kind), left)
     }
 
     /// What is wanted of an element, for which so many cells are left.
@@ -52,17 +55,7 @@ impl Elements {
         ensures levels { result.levels ≡ self.levels }
         ensures left { result.left ≡ left }
     {
-        let Elements {
-            kind,
-            place,
-            levels,
-        } = self;
-        Wanted {
-            shape: Shape::One(kind),
-            place,
-            levels,
-            left,
-        }
+        self.wanted_as(Shape::One(self.kind), left)
     }
 }
 

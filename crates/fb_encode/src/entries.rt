@@ -19,7 +19,9 @@ ghost use Rattle.fb_encode.specs.TreesNoted.{IsEntryNoted, IsPart, IsSlot};
 use crate::elements::drop_number;
 use crate::parts::{note_object, note_part};
 use fb_build::{Noting, is_default};
-use fb_json::{JsonFault, Place, Room, Source, is_null, number_of, struct_parts, without};
+use fb_json::{
+    JsonFault, Place, Room, Source, entry_without_member, is_null, number_of, struct_parts,
+};
 use fb_layout::layout_is_well_made;
 use fb_schema::{FieldInfo, Kind, Shape, TypeId};
 use fb_tape::OpenFields;
@@ -50,7 +52,7 @@ impl SlotRead<'_> {
 
 /// What a slot stores of its member.
 #[derive(Clone, Copy)]
-enum Stored {
+enum StoredForm {
     /// A union's code, which is stored with the union's value.
     WithItsValue,
     /// A number or a struct.
@@ -62,17 +64,17 @@ enum Stored {
 }
 
 /// What a slot of a shape stores.
-fn stored_as(shape: Shape) -> Stored
+fn stored_as(shape: Shape) -> StoredForm
     ensures { IsStoredAs shape result }
 {
     let Shape::One(kind) = shape else {
-        return Stored::Reference;
+        return StoredForm::Reference;
     };
     match kind {
-        Kind::Scalar(_) | Kind::Enum(_) | Kind::Struct(_) => Stored::Inline(kind),
-        Kind::Text | Kind::Table(_) => Stored::Reference,
-        Kind::Union(union) => Stored::Member(union),
-        Kind::Code(_) => Stored::WithItsValue,
+        Kind::Scalar(_) | Kind::Enum(_) | Kind::Struct(_) => StoredForm::Inline(kind),
+        Kind::Text | Kind::Table(_) => StoredForm::Reference,
+        Kind::Union(union) => StoredForm::Member(union),
+        Kind::Code(_) => StoredForm::WithItsValue,
     }
 }
 
@@ -223,12 +225,12 @@ fn note_present(
 {
     layout_is_well_made(source.layout);
     match stored_as(slot.field.shape) {
-        Stored::WithItsValue => Ok(left),
-        Stored::Inline(kind) => {
+        StoredForm::WithItsValue => Ok(left),
+        StoredForm::Inline(kind) => {
             note_inline(source, &mut noting.opened, slot, kind, tree, levels, left)
         }
-        Stored::Reference => note_reference(source, noting, slot, tree, levels, left),
-        Stored::Member(union) => note_member(source, noting, slot, union, tree, levels, left),
+        StoredForm::Reference => note_reference(source, noting, slot, tree, levels, left),
+        StoredForm::Member(union) => note_member(source, noting, slot, union, tree, levels, left),
     }
 }
 
@@ -265,10 +267,10 @@ pub(crate) fn note_slot(
         return Ok(left);
     }
     let Some(tree) = tree else {
-        return left_of(without(slot.field, slot.place(), slot.code, left));
+        return left_of(entry_without_member(slot.field, slot.place(), slot.code, left));
     };
     if is_null(tree) {
-        return left_of(without(slot.field, slot.place(), slot.code, left));
+        return left_of(entry_without_member(slot.field, slot.place(), slot.code, left));
     }
     note_present(source, noting, slot, tree, levels, left)
 }

@@ -14,7 +14,7 @@ ghost use Rattle.fb_encode.specs.TreesNoted.{AddsInline};
 
 use crate::elements::{Elements, push_elements};
 use crate::excerpts::{TextWalk, note_at_once};
-use crate::reader::{Excerpt, MOST_BRACKETS};
+use crate::reader::Excerpt;
 use crate::runs::{AfterElements, elements_of, elements_read, left_for, once_runs_read};
 use crate::slot_texts::piece_of;
 use crate::stand_ins::stand_in;
@@ -22,7 +22,7 @@ use crate::steps::trace_elements;
 use crate::unnoted::Unnoted;
 use fb_json::Source;
 use fb_pieces::{
-    Run, cut_array, cut_array_is_read, cut_array_is_utf8, elements_make_the_array,
+    MOST_BRACKETS, Run, cut_array, cut_array_is_read, cut_array_is_utf8, elements_make_the_array,
     text_is_read_without_brackets,
 };
 use fb_schema::Shape;

@@ -14,7 +14,7 @@ ghost use Rattle.fb_json.specs.Meant.{Look, if_known, meant, names_known, table_
 ghost use Rattle.fb_json.specs.SlotMembers.{looked_up};
 ghost use Rattle.fb_pieces.specs.Reads.{read_at};
 ghost use Rattle.fb_pieces.specs.ReadByPieces.{IsCutIntoMembers};
-ghost use Rattle.fb_encode.specs.declared.entries.Stored.TheVariants.{Reference};
+ghost use Rattle.fb_encode.specs.declared.entries.StoredForm.TheVariants.{Reference};
 ghost use Rattle.fb_encode.specs.Found.{IfFault, IfFound, found_of};
 ghost use Rattle.fb_encode.specs.SlotTexts.{AreTextsRead, IsSlotNotedOr, text_found};
 ghost use Rattle.fb_encode.specs.StoredAs.{IsStoredAs};
@@ -24,14 +24,16 @@ ghost use Rattle.fb_encode.specs.TreesNoted.{IsPart, IsSlot};
 use crate::entries::{SlotRead, note_slot};
 use crate::excerpts::{TextWalk, Wanted, note_at_once, note_excerpt};
 use crate::outlines::container_of;
-use crate::reader::{Excerpt, MOST_BRACKETS, Reader, Unread, innermost};
+use crate::reader::{Excerpt, Reader, Unread, innermost};
 use crate::slot_texts::{SlotTexts, members_of, pass_by_text, texts_by_slot};
 use crate::stand_ins::stand_in;
 use crate::steps::{after_step, trace_member};
 use crate::unnoted::Unnoted;
 use fb_json::{JsonFault, Room, Source, Step, code_of_slot, is_absent};
 use fb_layout::layout_is_well_made;
-use fb_pieces::{cut_object_is_read, cut_object_is_utf8, text_is_read_without_brackets};
+use fb_pieces::{
+    MOST_BRACKETS, cut_object_is_read, cut_object_is_utf8, text_is_read_without_brackets,
+};
 use fb_schema::{Kind, Shape, TypeId};
 use serde_json::Value as Json;
 

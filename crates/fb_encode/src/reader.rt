@@ -9,14 +9,11 @@ ghost use Rattle.fb_encode.specs.Outlines.{IsOutlined};
 ghost use Rattle.fb_encode.specs.TextsRead.{IsRead, IsReadAs, IsRunReadAs};
 
 use crate::outlines::{Container, container_of};
-use fb_pieces::{Cuts, count_elements, is_json_at, leading_blanks, string_of};
+use fb_pieces::{Cuts, MOST_BRACKETS, count_elements, is_json_at, leading_blanks, string_of};
 use fb_schema::{Kind, Shape};
 use json::Scratch;
 use serde_json::Value as Json;
 use std::alloc::{AllocError, Global};
-
-/// The brackets that may be open at once in a JSON text.
-pub(crate) const MOST_BRACKETS: u8 = 127;
 
 /// Why a text wasn't read piece by piece.
 #[derive(Clone, Copy)]

@@ -10,11 +10,13 @@ ghost use Rattle.fb_schema.specs.declared.kinds.Shape.TheVariants.{One};
 ghost use Rattle.fb_json.specs.Meant.{names_known};
 ghost use Rattle.fb_encode.specs.StandIns.{IsFieldPut, IsStandIn};
 
-use crate::reader::{Excerpt, MOST_BRACKETS, Reader, Unread, innermost};
+use crate::reader::{Excerpt, Reader, Unread, innermost};
 use crate::slot_texts::{SlotTexts, members_of, texts_by_slot};
 use fb_json::Source;
 use fb_layout::layout_is_well_made;
-use fb_pieces::{cut_object_is_read, cut_object_is_utf8, text_is_read_without_brackets};
+use fb_pieces::{
+    MOST_BRACKETS, cut_object_is_read, cut_object_is_utf8, text_is_read_without_brackets,
+};
 use fb_schema::{FieldInfo, Kind, Shape, TypeId};
 use serde_json::{Map, Value as Json};
 use std::alloc::AllocError;

@@ -21,15 +21,15 @@ pub(crate) fn after_step<T>(
     ensures { IfFound result (λ same. found_of found ≡ Some same) }
 {
     if let Err(Unnoted::Fault(fault)) = found {
-        if let JsonFault::Memory = trail.after(step, fault) {
+        if let JsonFault::Memory = trail.push_step(step, fault) {
             return Err(Unnoted::Unread(Unread::Memory));
         }
     }
     found
 }
 
-/// Whether a trail has the steps of a walk, or memory ran out.
-fn kept(walked: Result<u32, JsonFault>) -> Result<(), Unread> {
+/// Fails if a walk ran out of memory, so that the trail lacks steps.
+fn check_memory(walked: Result<u32, JsonFault>) -> Result<(), Unread> {
     match walked {
         Err(JsonFault::Memory) => Err(Unread::Memory),
         _ => Ok(()),
@@ -52,7 +52,7 @@ pub(crate) fn trace_tree(
         levels,
         left,
     } = wanted;
-    kept(trace(source, trail, tree, shape, place, Room { levels, left }))
+    check_memory(trace(source, trail, tree, shape, place, Room { levels, left }))
 }
 
 /// Adds the steps from a slot's member to its fault.
@@ -72,7 +72,7 @@ pub(crate) fn trace_member(
         place,
         code: slot.code,
     };
-    kept(trace_slot(source, trail, slot, tree, room))
+    check_memory(trace_slot(source, trail, slot, tree, room))
 }
 
 /// Adds the steps to the first fault of some elements of a vector, which come after others.
@@ -98,7 +98,7 @@ pub(crate) fn trace_elements(
             Ok(rest) => left = rest,
             Err(fault) => {
                 let step = Step::Element(after.count.saturating_add(i));
-                return kept(Err(trail.after(step, fault)));
+                return check_memory(Err(trail.push_step(step, fault)));
             }
         }
     }

@@ -12,12 +12,12 @@ ghost use Rattle.fb_encode.specs.TextsRead.{IsRead};
 
 use crate::excerpts::{TextWalk, Wanted, note_excerpt};
 use crate::faults::{EncodeFault, TextFault};
-use crate::reader::{Excerpt, MOST_BRACKETS, Reader, Unread};
+use crate::reader::{Excerpt, Reader, Unread};
 use crate::trees::{note_root, plan_noted};
 use crate::unnoted::Unnoted;
 use fb_build::{Noting, TapePlan};
 use fb_json::{JsonFault, Place, Source, Trail, first_fault_refuses, only_what_is_meant};
-use fb_pieces::is_json_at;
+use fb_pieces::{MOST_BRACKETS, is_json_at};
 use fb_schema::{Kind, Shape};
 use fb_tape::Tape;
 use fb_value::Limits;
@@ -107,7 +107,7 @@ fn note_in_pieces<'l>(
     ensures refused { IfErr result (λ e. IfFault e (λ f.
         IsUnread source.entry.layout.now limits source.entry.unknown json.now (first_fault f))) }
 {
-    let mut walk = walk_over(source, json, piece, Trail::unkept())?;
+    let mut walk = walk_over(source, json, piece, Trail::none())?;
     note_pieces(source, &mut walk, json, limits)?;
     Ok(walk.into_tape())
 }
@@ -197,7 +197,7 @@ fn plan_tape<'l>(
 ///
 /// A text of more than `piece` bytes is read in pieces of some `piece` bytes, and each is dropped before the next is
 /// read. Which they are changes nothing of the result. The error is that of the text, then that of its first fault, and
-/// then that of the value's size. A `prefixed` buffer has the count of its bytes in front.
+/// then that of the value's size. A `prefixed` buffer has a size prefix.
 pub fn encode_text(
     source: Source,
     json: &[u8],

@@ -15,14 +15,14 @@ ghost use Rattle.fb_encode.specs.TreesNoted.{AddsTargets};
 use crate::elements::Elements;
 use crate::excerpts::{TextWalk, note_at_once, note_excerpt};
 use crate::parts::note_targets;
-use crate::reader::{Excerpt, MOST_BRACKETS};
+use crate::reader::Excerpt;
 use crate::runs::{AfterElements, elements_of, elements_read, left_for, once_runs_read};
 use crate::slot_texts::piece_of;
 use crate::steps::{after_step, trace_elements};
 use crate::unnoted::Unnoted;
 use fb_json::{Source, Step};
 use fb_pieces::{
-    Run, cut_array, cut_array_is_read, cut_array_is_utf8, elements_make_the_array,
+    MOST_BRACKETS, Run, cut_array, cut_array_is_read, cut_array_is_utf8, elements_make_the_array,
     text_is_read_without_brackets,
 };
 use serde_json::Value as Json;

@@ -6,7 +6,6 @@ pub mod EntriesSpendTheirCells
 pub mod FaultIsABrokenRule
 pub mod FaultOfALeafIsABrokenRule
 pub mod FaultOfAnEntryIsABrokenRule
-pub mod HeldNumberIsInRange
 pub mod LeavesSpendTheirCells
 pub mod LimitFaultIsOverTheLimit
 pub mod MeantLeafIsComputed

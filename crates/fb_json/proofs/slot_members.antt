@@ -2,4 +2,3 @@
 pub mod FewOrMany
 pub mod MemberIsAllowed
 pub mod MemberIsPutAtItsSlot
-pub mod NamedSlotIsFound

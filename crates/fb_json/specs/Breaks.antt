@@ -80,7 +80,7 @@ ToldBreaks S u (array ts) at (WrongShape p) = p ≡ at
 ToldBreaks S u (object ms) at (WrongShape p) = p ≡ at
 ToldBreaks S u _ at _ = ⊥
 
--- the code that is told behind slot k, where one was told before these slots
+-- the code that is told after slot k, where one was told before these slots
 abbrev pub ToldBehind : DeclaredSchema → Members → ℕ → List DeclaredField → ℕ → ℕ → Type 0
 ToldBehind S ms before [] k c = ⊥
 ToldBehind S ms before (f ∷ fs) zero c = CodeAt S ms f f.deprecated f.shape before c

@@ -122,7 +122,7 @@ abbrev mutual
       × EachMeans L unknown ts kind ds
   EachMeans L unknown _ kind _ = ⊥
 
-  -- one entry for each slot, behind the code that was told last
+  -- one entry for each slot, after the code that was told last
   pub SlotsMean : LaidSchema → Bool → Members → ℕ → List DeclaredField → SlotEntries → Type 0
   SlotsMean L unknown ms before [] no_entries = Unit {0}
   SlotsMean L unknown ms before (f ∷ fs) (absent_entry es) =

@@ -31,7 +31,11 @@ pub(crate) fn default_of(slot: &FieldInfo) -> Option<Value>
 }
 
 /// The entry of a slot that has no member.
-fn absent(slot: &FieldInfo, place: Place, left: u32) -> Result<(Option<Value>, u32), JsonFault>
+fn entry_by_default(
+    slot: &FieldInfo,
+    place: Place,
+    left: u32,
+) -> Result<(Option<Value>, u32), JsonFault>
     requires { slot.now.deprecated ≡ false }
     ensures { (S : DeclaredSchema) → let s = slot_of S (field_seen slot.now) in
         Gives (λ x. (option_map view x.0, x.1)) result
@@ -72,7 +76,7 @@ pub fn is_absent(slot: &FieldInfo, tree: Option<&Json>) -> bool
 
 /// The entry of a slot in use that has no member.
 #[tactic(auto, unfolding(crate::specs::Meant::union_meant, crate::specs::Meant::plain_meant))]
-pub fn without(
+pub fn entry_without_member(
     slot: &FieldInfo,
     place: Place,
     code: u8,
@@ -89,9 +93,9 @@ pub fn without(
             if code != 0 {
                 return Err(JsonFault::UnionMismatch(place));
             }
-            absent(slot, place, left)
+            entry_by_default(slot, place, left)
         }
-        _ => absent(slot, place, left),
+        _ => entry_by_default(slot, place, left),
     }
 }
 

@@ -45,7 +45,7 @@ pub fn struct_parts(
     let Some(members) = tree.as_object() else {
         return Err(JsonFault::WrongShape(place));
     };
-    let left = struct_of(source, &mut Trail::unkept(), members, owner, room, parts)?;
+    let left = struct_of(source, &mut Trail::none(), members, owner, room, parts)?;
     Ok(left)
 }
 

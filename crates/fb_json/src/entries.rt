@@ -12,7 +12,7 @@ ghost use Rattle.fb_json.specs.Outcome.{Gives};
 ghost use Rattle.fb_json.specs.Meant.{Look, as_member, entry_meant, meant, unless_null, used_meant};
 ghost use Rattle.fb_json.specs.SlotMembers.{looked_up};
 
-use crate::absent::{is_null, without};
+use crate::absent::{entry_without_member, is_null};
 use crate::faults::{JsonFault, Place};
 use crate::room::Room;
 use crate::source::Source;
@@ -55,7 +55,7 @@ pub(crate) fn entry(
     }
     match tree {
         Some(tree) if !is_null(tree) => with_tree(source, trail, slot, tree, room),
-        _ => without(slot.field, slot.place, slot.code, room.left),
+        _ => entry_without_member(slot.field, slot.place, slot.code, room.left),
     }
 }
 

@@ -23,7 +23,7 @@ mod tables;
 mod trail;
 mod tree;
 
-pub use absent::{is_absent, is_null, without};
+pub use absent::{entry_without_member, is_absent, is_null};
 pub use codes::code_of_slot;
 pub use elements::{number_of, struct_parts};
 pub use entries::TableSlot;

@@ -54,7 +54,7 @@ pub fn value_of(
     let Some(members) = tree.as_object() else {
         return Err(JsonFault::WrongShape(place));
     };
-    let read = table(source, &mut Trail::unkept(), members, root, place, room);
+    let read = table(source, &mut Trail::none(), members, root, place, room);
     match read {
         Ok((value, _)) => Ok(value),
         Err(fault) => Err(fault),

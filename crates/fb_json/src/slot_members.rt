@@ -1,6 +1,6 @@
 //! The members of a table by its slots, or of a struct by its fields.
-ghost use Rattle.std.specs.Prelude.{◌≡◌, ◌<◌, ◌||◌, [], None, Some, bytes_eq, find, length, map, option_copied};
-ghost use Rattle.std.specs.Prelude.{option_map, replicate, set, slice_get, IfOk};
+ghost use Rattle.std.specs.Prelude.{◌≡◌, ◌<◌, ◌||◌, [], None, Some, length, map, option_copied, option_map};
+ghost use Rattle.std.specs.Prelude.{replicate, set, slice_get, IfOk};
 ghost use Rattle.serde_json.specs.View.{members_view};
 ghost use Rattle.fb_schema.specs.Schema.{body_at};
 ghost use Rattle.fb_schema.specs.Seen.{field_seen};
@@ -13,13 +13,10 @@ use crate::faults::{JsonFault, Place};
 use crate::members::is_allowed;
 use crate::numbered_members::NumberedMembers;
 use crate::source::Source;
-use fb_schema::{FieldInfo, Schema, TypeId};
+use fb_schema::{FEW_NAMES, FieldInfo, Schema, TypeId, field_among};
 use serde_json::{Map, Value as Json};
 use std::alloc::{AllocError, Global};
 use std::marker::Model;
-
-/// The names of so many slots are looked through; more are found by their digests.
-const FEW: usize = 16;
 
 /// The members of a table by its slots, or of a struct by its fields. Those of few slots stand in places that take no
 /// memory.
@@ -67,7 +64,7 @@ impl<'t> SlotMembers<'t> {
         requires within { slot < length self.now }
         ensures is { slice_get self.now slot ≡ Some result }
     {
-        if self.slots <= FEW {
+        if self.slots <= FEW_NAMES {
             let few = &self.few[..];
             return few[slot];
         }
@@ -82,7 +79,7 @@ impl<'t> SlotMembers<'t> {
             self.few = [None; 16];
         }
         self.slots = slots;
-        if slots > FEW {
+        if slots > FEW_NAMES {
             self.many.begin(alloc, slots, members)?;
         }
         Ok(())
@@ -93,7 +90,7 @@ impl<'t> SlotMembers<'t> {
     fn put(&mut self, slot: usize, tree: &'t Json) -> Result<(), AllocError>
         ensures { IfOk result (λ done. self.new ≡ set self.old slot (Some tree.entry)) }
     {
-        if self.slots > FEW {
+        if self.slots > FEW_NAMES {
             return self.many.put(slot, tree);
         }
         if slot < self.slots {
@@ -104,38 +101,7 @@ impl<'t> SlotMembers<'t> {
     }
 }
 
-/// Whether two names are one. Most that aren't differ in their length or in their first byte, and most are short.
-#[inline(always)]
-fn is_same(one: &str, other: &str) -> bool
-    ensures { result ≡ bytes_eq one.now other.now }
-{
-    let (one, other) = (one.as_bytes(), other.as_bytes());
-    if one.len() != other.len() {
-        return false;
-    }
-    for k in 0..one.len() {
-        if one[k] != other[k] {
-            return false;
-        }
-    }
-    true
-}
-
-/// The first of some slots that has a name.
-#[inline(always)]
-fn slot_named<'s>(slots: &'s [FieldInfo], name: &str) -> Option<&'s FieldInfo>
-    ensures { option_map field_seen (option_copied result)
-        ≡ find (λ f. bytes_eq name.now f.name) (map field_seen slots.now) }
-{
-    for slot in slots {
-        if is_same(name, slot.name.as_str()) {
-            return Some(slot);
-        }
-    }
-    None
-}
-
-/// The field of a table or struct that has a name. The names of few slots are looked through.
+/// The field of a table or struct that has a name. The names of few slots are compared one after another.
 #[inline(always)]
 fn field_of<'s>(
     schema: &'s Schema,
@@ -147,10 +113,10 @@ fn field_of<'s>(
     ensures { option_map field_seen (option_copied result)
         ≡ field_named (body_at schema.now owner.0) name.now }
 {
-    if slots.is_empty() || slots.len() > FEW {
+    if slots.is_empty() || slots.len() > FEW_NAMES {
         return schema.field_by_name(owner, name);
     }
-    slot_named(slots, name)
+    field_among(slots, name)
 }
 
 /// Puts each member of a table or struct at its slot, where each has the name of a field in use or any name is let

@@ -118,7 +118,7 @@ fn parts(
                 found.push_reserved(part);
                 left = rest;
             }
-            Err(fault) => return Err(trail.after(Step::Field(owner, k as u16), fault)),
+            Err(fault) => return Err(trail.push_step(Step::Field(owner, k as u16), fault)),
         }
     }
     Ok(left)

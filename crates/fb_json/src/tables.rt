@@ -98,7 +98,7 @@ fn entries(
         }
         match code_of_slot(source, slot, tree, place, code) {
             Ok(told) => code = told,
-            Err(fault) => return Err(trail.after(Step::Slot(owner, k as u16), fault)),
+            Err(fault) => return Err(trail.push_step(Step::Slot(owner, k as u16), fault)),
         }
         let room = Room { left, ..room };
         let slot = TableSlot {
@@ -111,7 +111,7 @@ fn entries(
                 found.push_reserved(entry);
                 left = rest;
             }
-            Err(fault) => return Err(trail.after(Step::Slot(owner, k as u16), fault)),
+            Err(fault) => return Err(trail.push_step(Step::Slot(owner, k as u16), fault)),
         }
     }
     Ok((found, left))

@@ -26,7 +26,7 @@ impl Trail {
     ghost use Rattle.fb_json.specs.declared.faults.JsonFault.TheVariants.{Memory};
 
     /// A trail that is not kept.
-    pub fn unkept() -> Trail
+    pub fn none() -> Trail
         ensures { result ≡ None }
     {
         Trail { steps: None }
@@ -47,7 +47,7 @@ impl Trail {
     }
 
     /// The fault after this step, which is added before the others; `Memory` where that is refused.
-    pub fn after(&mut self, step: Step, fault: JsonFault) -> JsonFault
+    pub fn push_step(&mut self, step: Step, fault: JsonFault) -> JsonFault
         ensures step { (result ≡ Memory)
             ⊎ ((result ≡ fault) × (self.new ≡ option_map (λ steps. step ∷ steps) self.old)) }
         ensures unkept { self.old ≡ None → result ≡ fault }

@@ -101,7 +101,7 @@ fn items(
                 found.push_reserved(item);
                 left = rest;
             }
-            Err(fault) => return Err(trail.after(Step::Element(i), fault)),
+            Err(fault) => return Err(trail.push_step(Step::Element(i), fault)),
         }
     }
     Ok((found, left))

@@ -1,5 +1,4 @@
 pub mod BytesAreOnlyAdded
-pub mod BytesSumToTheirNumber
 pub mod FieldsStandInTheirStruct
 pub mod InlineKindsAreNumbersOrStructs
 pub mod NumberStandsInItsBytes

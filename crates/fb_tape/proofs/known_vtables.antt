@@ -1,2 +1,2 @@
-mod OneMoreIsKnown
+pub mod OneMoreIsKnown
 mod WordsTellBytes

@@ -1,1 +1,4 @@
+pub mod OffsetsAreTrimmed
+pub mod OpenFieldsAreAdded
+pub mod SizesOfWhatIsStored
 pub mod StoredFieldsFit

@@ -91,17 +91,17 @@ abbrev mutual
 abbrev pub EachInlineAt : LaidSchema → Bytes → (StoredKind → ℕ → Type 0) → Sort → ℕ → Datum → Type 0
 EachInlineAt L b P sort p d = EachInlineBehind L b P sort p d (λ X q. EachInline L b P X q d)
 
--- The bytes of a number or a struct: whatever is behind them, the value lies in them, and nothing in them is spare.
+-- The bytes of a number or a struct: whatever is after them, the value lies in them, and nothing in them is spare.
 pub record AreInlineBytes (L : LaidSchema) (kind : StoredKind) (d : Datum) (bytes : Bytes) : Type 0 where
   pub long : length bytes ≡ size_of L kind
   pub lies : (behind : Bytes) → LiesInline L (bytes ++ behind) kind 0 d
   pub tight : (behind : Bytes) → EachInlineIn L (IsTightInline L (bytes ++ behind)) kind 0 d
 
--- Such bytes were added behind others.
+-- Such bytes were added after others.
 abbrev pub AddsInline : LaidSchema → StoredKind → Datum → Bytes → Bytes → Type 0
 AddsInline L kind d before after = (own : Bytes) × (after ≡ before ++ own) × AreInlineBytes L kind d own
 
--- Nothing but more bytes behind came to those before.
+-- Only more bytes came, after those before.
 abbrev pub OnlyAdds : Bytes → Bytes → Type 0
 OnlyAdds before after = (own : Bytes) × (after ≡ before ++ own)
 

@@ -7,7 +7,7 @@ abbrev pub EachHasOneNumber : List Bytes → Type 0
 EachHasOneNumber known = (i j : ℕ) (vtable : Bytes) → slice_get known i ≡ Some vtable
     → slice_get known j ≡ Some vtable → i ≡ j
 
--- The vtable has this number now: it had it before, or is new and behind all others.
+-- The vtable has this number now: it had it before, or is new and after all others.
 pub record IsNumbered (before after : List Bytes) (vtable : Bytes) (number : ℕ) : Type 0 where
   pub is : slice_get after number ≡ Some vtable
   pub known : (after ≡ before) ⊎ ((after ≡ before ++ (vtable ∷ [])) × (number ≡ length before))

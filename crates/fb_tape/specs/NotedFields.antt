@@ -14,7 +14,7 @@ IsNoted L f d Reference bytes = (is_reference f.shape ≡ true) × (bytes ≡ []
 IsNoted L f d (Inline n) bytes =
     (is_reference f.shape ≡ false) × (n ≡ length bytes) × AreInlineBytes L (inline_kind f.shape) d bytes
 
--- The field of slot k is noted first, and `others` holds of what is noted behind it.
+-- The field of slot k is noted first, and `others` holds of what is noted after it.
 pub record IsNotedFirst (L : LaidSchema) (fs : List Slot) (xs : List (Option Datum)) (k : ℕ) (notes : List NotedField)
     (bytes : Bytes) (others : List NotedField → Bytes → Type 0) : Type 0 where
   pub field : Slot

@@ -36,7 +36,7 @@ AddsInlineField L slot kind d before after =
 abbrev pub reference_field : ℕ → OpenField
 reference_field slot = record { slot = slot; align = 4; note = Reference; bytes = [] }
 
--- The field of slot k, which stores a value, is first, and `others` holds of those behind it.
+-- The field of slot k, which stores a value, is first, and `others` holds of those after it.
 pub record IsOpenFirst (L : LaidSchema) (k : ℕ) (f : Slot) (x : Option Datum) (opens : List OpenField)
     (others : List OpenField → Type 0) : Type 0 where
   pub field : OpenField

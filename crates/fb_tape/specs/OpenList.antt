@@ -23,7 +23,7 @@ field_seen bytes x = record {
 abbrev pub open_seen : Inside → List OpenField
 open_seen o = map (field_seen o.bytes.items) o.fields.items
 
--- Fields have their bytes one behind the other, from a position on and up to an end.
+-- The bytes of fields follow each other, from a position on and up to an end.
 abbrev pub StandInTurn : ℕ → List Held → ℕ → Type 0
 StandInTurn p [] end = p ≤ end
 StandInTurn p (x ∷ xs) end = (p ≤ x.first) × StandInTurn (x.first + own_size x.note) xs end

@@ -47,7 +47,7 @@ IsSimple L (one_of (struct_kind s)) = IsStructThere L s
 IsSimple L (one_of kind) = Unit {0}
 IsSimple L (vector_of kind) = IsElement L kind
 
--- ---- what is stored: a union's code slot has no entry, and stores the code of the entry behind it
+-- ---- what is stored: a union's code slot has no entry, and stores the code of the entry after it
 
 abbrev pub code_in : Option Datum → Option ℕ
 code_in (Some (a_member c d)) = Some c
@@ -62,7 +62,7 @@ abbrev pub coded : Option ℕ → Option Datum
 coded None = None
 coded (Some c) = Some (a_number (pos c))
 
--- what a slot of a shape stores, whose entry is x, where the entry behind it has this code
+-- what a slot of a shape stores, whose entry is x, where the entry after it has this code
 abbrev pub stored_here : StoredShape → Option ℕ → Option Datum → Option Datum
 stored_here (one_of (code_kind u)) code x = coded code
 stored_here _ code x = x
@@ -149,7 +149,7 @@ size_above L a (f ∷ fs) (x ∷ xs) =
     (if is_stored f x && nat_lt a (inline_align L f.shape) then inline_size L f.shape else 0) + size_above L a fs xs
 size_above L a _ _ = 0
 
--- what a slot stores whose entry is some value, where the entry behind it has this code
+-- what a slot stores whose entry is some value, where the entry after it has this code
 abbrev pub entry_stored : LaidSchema → FieldInfo → Option ℕ → Option Value → Option Datum
 entry_stored L f code e = stored_here (stored_shape L.schema f.shape) code (option_map view e)
 

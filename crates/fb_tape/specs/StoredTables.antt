@@ -38,7 +38,7 @@ notes_of xs = map (λ x. x.note) xs
 abbrev pub bytes_of : List OpenField → Bytes
 bytes_of xs = flat_map (λ x. x.bytes) xs
 
--- Where slots stand in a table of a size, once fields are laid behind so many bytes of others: each stands where all
+-- Where slots stand in a table of a size, once fields are laid after so many bytes of others: each stands where all
 -- that is laid up to it ends, counted from the table's end.
 abbrev pub placed : ℕ → ℕ → List OpenField → List ℕ → List ℕ
 placed size laid [] slots = slots
@@ -50,7 +50,7 @@ abbrev pub put_number : Bytes → ℕ → ℕ → Bytes
 put_number bytes at n =
     slice_set (slice_set bytes (at + 1) (slice_index (little_bytes 2 n) 1)) at (slice_index (little_bytes 2 n) 0)
 
--- the same in the bytes of a vtable, which has each slot's number behind its own size and its table's
+-- the same in the bytes of a vtable, which has each slot's number after its own size and its table's
 abbrev pub told : ℕ → ℕ → List OpenField → Bytes → Bytes
 told size laid [] vtable = vtable
 told size laid (x ∷ xs) vtable = told size (laid + taken_by x.note) xs
@@ -69,7 +69,7 @@ pub record AreStored (L : LaidSchema) (fs : List Slot) (xs : List (Option Datum)
   pub small : fields_size L fs xs ≤ 65528
   pub few : length fs ≤ 32765
 
--- The fields of some slots were noted behind others.
+-- The fields of some slots were noted after others.
 pub record AddsNotes (L : LaidSchema) (fs : List Slot) (xs : List (Option Datum)) (ks : List ℕ)
     (notes new_notes : List NotedField) (bytes new_bytes : Bytes) (own_notes : List NotedField) (own_bytes : Bytes)
     : Type 0 where

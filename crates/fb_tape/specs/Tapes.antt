@@ -1,6 +1,6 @@
 -- What a tape means: which parts wait for who refers to them once its operations are laid one after the other.
 -- From the FlatBuffers documentation, "FlatBuffer Internals": Strings and vectors (a count in front of what is counted,
--- a zero behind a string), Tables.
+-- a zero after a string), Tables.
 use Rattle.std.specs.Prelude.{ℕ, suc, ◌+◌, ◌-◌, ◌*◌, ◌≡◌, ◌≤◌, ◌⊎◌, ◌++◌, max, true, false, List, [], ◌∷◌, length}
 use Rattle.std.specs.Prelude.{Option}
 use Rattle.std.specs.Prelude.{Some, slice_get}
@@ -15,6 +15,7 @@ use Rattle.fb_value.specs.Num.{Bytes}
 use Rattle.fb_value.specs.Places.{table_part, text_part, vector_part}
 use Rattle.fb_value.specs.Room.{table_room}
 use Rattle.fb_value.specs.View.{parts_in, entries_in}
+use Rattle.fb_value.specs.Bounds.{most_bytes}
 use Rattle.fb_tape.specs.Alignments.{aligned_to}
 use Rattle.fb_tape.specs.InlineBytes.{AreInlineBytes}
 use Rattle.fb_tape.specs.LayingOrder.{laying_order}
@@ -28,7 +29,7 @@ use Rattle.fb_tape.specs.declared.ops.Op.TheVariants.{Data, References, Table}
 
 -- ---- a text, or a vector of numbers or structs
 
--- A text, its count in front and a zero behind it.
+-- A text, its count in front and a zero after it.
 pub record IsTextData (part : NamedPart) (align : ℕ) (bytes : Bytes) : Type 0 where
   pub text : Bytes
   pub utf8 : IsUtf8 text
@@ -36,7 +37,7 @@ pub record IsTextData (part : NamedPart) (align : ℕ) (bytes : Bytes) : Type 0 
   pub align_is : align ≡ 4
   pub bytes_are : bytes ≡ little_bytes 4 (length text) ++ (text ++ (0 ∷ []))
 
--- A number or struct stands first, and `others` holds of what is behind it.
+-- A number or struct stands first, and `others` holds of what is after it.
 pub record IsElementFirst (L : LaidSchema) (kind : StoredKind) (d : Datum) (bytes : Bytes) (others : Bytes → Type 0)
     : Type 0 where
   pub own : Bytes
@@ -45,7 +46,7 @@ pub record IsElementFirst (L : LaidSchema) (kind : StoredKind) (d : Datum) (byte
   pub inline : AreInlineBytes L kind d own
   pub rest : others behind
 
--- Numbers or structs, one behind the other.
+-- Numbers or structs, one after the other.
 abbrev pub AreElementBytes : LaidSchema → StoredKind → List Datum → Bytes → Type 0
 AreElementBytes L kind [] bytes = bytes ≡ []
 AreElementBytes L kind (d ∷ ds) bytes = IsElementFirst L kind d bytes (λ behind. AreElementBytes L kind ds behind)
@@ -176,7 +177,7 @@ pub record Taped : Type 0 where
 
 -- Once the tape is laid, these parts wait. Nothing is said of one whose parts are too big for a buffer.
 abbrev pub Waits : Taped → List NamedPart → Type 0
-Waits t ps = t.room ≤ 2147483647 → Lay t.layout t.vtables 0 t.room [] t.ops t.notes t.bytes ps
+Waits t ps = t.room ≤ most_bytes → Lay t.layout t.vtables 0 t.room [] t.ops t.notes t.bytes ps
 
 -- The tape means a value of the root table: that alone waits.
 abbrev pub MeansRoot : Taped → List (Option Datum) → Type 0

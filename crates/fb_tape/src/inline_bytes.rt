@@ -117,7 +117,7 @@ pub(crate) fn push_inline(
     }
 }
 
-/// Adds the fields of a struct, with the zeros in front of and behind them.
+/// Adds the fields of a struct, with the zeros before and after them.
 #[cycle(inline)]
 pub(crate) fn push_struct(
     bytes: &mut Vec<u8>,

@@ -48,7 +48,7 @@ pub(crate) struct KnownVtables {
     digests: DigestIndex,
     ranges: Vec<VtableRange>,
     bytes: Vec<u8>,
-    // The one that was found last. It and the one behind it are compared first, since vtables come again in about the
+    // The one that was found last. It and the one after it are compared first, since vtables come again in about the
     // same order.
     last: usize,
 }
@@ -104,7 +104,7 @@ impl KnownVtables {
         number < self.ranges.len() && are_equal(self.vtable(number), vtable)
     }
 
-    /// The number behind that which was found last; behind the last of all is the first.
+    /// The number after that which was found last; after the last of all is the first.
     fn next(&self) -> usize {
         let next = self.last.saturating_add(1);
         if next < self.ranges.len() { next } else { 0 }

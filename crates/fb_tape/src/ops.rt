@@ -33,7 +33,7 @@ impl Alignment {
 pub enum Op {
     /// A text, or a vector of numbers or structs: the tape's next bytes, of which the first four are the count.
     Data {
-        /// What the bytes behind the count are aligned to.
+        /// What the bytes after the count are aligned to.
         align: Alignment,
         size: u32,
     },

@@ -4,24 +4,27 @@ ghost use Rattle.fb_layout.specs.Seen.{kind_seen};
 ghost use Rattle.fb_layout.specs.Widths.{greatest};
 ghost use Rattle.fb_value.specs.Room.{table_room, vector_room};
 ghost use Rattle.fb_value.specs.UpTo.{SomeUpTo, at_most_usize};
+ghost use Rattle.fb_value.specs.Bounds.{most_bytes};
 
 use fb_layout::Layout;
 use fb_schema::{Kind, TypeId};
+use fb_value::MOST_BYTES;
 
 // The root's reference and an identifier.
 const HEADER: usize = 8;
-
-// The greatest room: what a reference of 4 bytes with a sign can span.
-const MOST: usize = 2_147_483_647;
 
 /// An upper bound on the length of a buffer in bytes whose root takes so many; None exactly where it is over
 /// 2,147,483,647.
 pub fn buffer_room(layout: &Layout, root: usize) -> Option<u32>
     ensures { (bytes : ℕ) → root ≡ at_most_usize bytes
-        → SomeUpTo 2147483647 result ((8 + (greatest layout.now - 1)) + bytes) }
+        → SomeUpTo most_bytes result ((8 + (greatest layout.now - 1)) + bytes) }
 {
     let sum = (HEADER + (layout.greatest() as usize - 1)).saturating_add(root);
-    if sum <= MOST { Some(sum as u32) } else { None }
+    if sum <= MOST_BYTES {
+        Some(sum as u32)
+    } else {
+        None
+    }
 }
 
 /// The bytes that a text takes at most.

@@ -27,13 +27,13 @@ pub(crate) fn size_of(note: NotedField) -> u16
 
 /// The bytes that a table's fields take, and what their end is aligned to.
 #[derive(Clone, Copy)]
-pub(crate) struct Extent {
+pub(crate) struct FieldsExtent {
     size: u16,
     align: u16,
 }
 
 /// That of these fields.
-fn extent_of(opened: &OpenFields, first: usize) -> Extent
+fn extent_of(opened: &OpenFields, first: usize) -> FieldsExtent
     requires within { first ≤ length opened.now }
     requires small { taken (drop first opened.now) ≤ 65528 }
     ensures size { result.size ≡ taken (drop first opened.now) }
@@ -46,7 +46,7 @@ fn extent_of(opened: &OpenFields, first: usize) -> Extent
         size += size_of(field.note);
         align = align.max(field.align);
     }
-    Extent { size, align }
+    FieldsExtent { size, align }
 }
 
 /// How many slots there are up to the last that is stored.

@@ -13,6 +13,7 @@ ghost use Rattle.fb_value.specs.Places.{table_part, text_part, vector_part};
 ghost use Rattle.fb_value.specs.Room.{table_room, vector_room};
 ghost use Rattle.fb_value.specs.UpTo.{at_most_usize};
 ghost use Rattle.fb_value.specs.View.{view, parts_view, parts_in, entries_in};
+ghost use Rattle.fb_value.specs.Bounds.{most_bytes};
 ghost use Rattle.fb_tape.specs.InlineBytes.{IsInline};
 ghost use Rattle.fb_tape.specs.KnownVtables.{EachHasOneNumber};
 ghost use Rattle.fb_tape.specs.NamedParts.{NamedPart, elements_apart, entries_apart};
@@ -30,12 +31,9 @@ use crate::stored_tables::{Offsets, note_table};
 use byteorder::{ByteOrder, LittleEndian};
 use fb_layout::{Layout, layout_is_well_made};
 use fb_schema::{Kind, TypeId};
-use fb_value::Value;
+use fb_value::{MOST_BYTES, Value};
 use std::alloc::{AllocError, Global};
 use std::marker::Model;
-
-/// The bytes that a buffer has at most.
-const MOST_BYTES: usize = 2_147_483_647;
 
 // how many sizes there are in 32 bits
 const SIZES: usize = 4_294_967_296;
@@ -50,7 +48,7 @@ const FIRST_FIELDS: usize = 64;
 // the same for bytes
 const FIRST_BYTES: usize = 512;
 
-/// What is to be laid of a value, operation by operation, in the order of laying: a part comes behind all that it
+/// What is to be laid of a value, operation by operation, in the order of laying: a part comes after all that it
 /// refers to. Once the parts are too big for a buffer together nothing more is noted, and only their rooms are summed
 /// up.
 #[derive(Drop)]
@@ -59,7 +57,7 @@ pub struct Tape<'l> {
     ops: Vec<Op>,
     fields: Vec<NotedField>,
     bytes: Vec<u8>,
-    // how many of the bytes are those of an operation; behind them are those of a vector that isn't whole yet
+    // how many of the bytes are those of an operation; after them are those of a vector that isn't whole yet
     finished: usize,
     vtables: KnownVtables,
     // for one table at a time
@@ -132,7 +130,7 @@ impl<'l> Tape<'l> {
         self.fields.as_slice()
     }
 
-    /// What is laid of texts, vectors, numbers and structs, one behind the other.
+    /// What is laid of texts, vectors, numbers and structs, one after the other.
     pub fn bytes(&self) -> &[u8]
         ensures exact { result.now ≡ self.now.bytes }
     {
@@ -157,7 +155,7 @@ impl<'l> Tape<'l> {
 
     /// Whether the parts are too big for a buffer together.
     fn is_over(&self) -> bool
-        ensures exact { IsTrue result ↔ (2147483647 < self.now.room) }
+        ensures exact { IsTrue result ↔ (most_bytes < self.now.room) }
     {
         self.room > MOST_BYTES
     }
@@ -213,7 +211,7 @@ impl<'l> Tape<'l> {
         requires whole { self.old.unfinished ≡ [] }
         ensures waits { OnOk result ((ps : List NamedPart) → Waits self.old ps → Waits self.new ps) }
         ensures begun { OnOk result (self.old.room + vector_room self.old.layout (kind_seen self.old.layout kind) count
-            ≤ 2147483647 → IsUnfinished self.old.layout (kind_seen self.old.layout kind) count [] self.new.unfinished) }
+            ≤ most_bytes → IsUnfinished self.old.layout (kind_seen self.old.layout kind) count [] self.new.unfinished) }
         ensures room { OnOk result (self.new.room ≡ self.old.room) }
         ensures layout { self.new.layout ≡ self.old.layout }
     {
@@ -278,7 +276,7 @@ impl<'l> Tape<'l> {
         requires low { align_of self.old.layout (kind_seen self.old.layout kind) ≤ greatest self.old.layout }
         ensures waits { OnOk result ((ps : List NamedPart) (ds : List Datum) → count ≡ length ds
             → ItemsKnown self.old.layout (kind_seen self.old.layout kind) ds
-            → (self.old.room + vector_room self.old.layout (kind_seen self.old.layout kind) count ≤ 2147483647
+            → (self.old.room + vector_room self.old.layout (kind_seen self.old.layout kind) count ≤ most_bytes
             → IsUnfinished self.old.layout (kind_seen self.old.layout kind) count ds self.old.unfinished)
             → Waits self.old ps → Waits self.new (ps ++ (record {
               target = vector_part (kind_seen self.old.layout kind);

@@ -8,6 +8,7 @@ use Rattle.std.proofs.lemmas.List.Sorted.{IsPermutation-refl, IsPermutation-tran
 use Rattle.std.proofs.lemmas.List.Sorted.{IsPermutation-sym, IsPermutation-middle}
 use Rattle.fb_build.specs.Pieces.{is_among, each_once}
 use Rattle.fb_build.specs.CoveredSteps.{AreDistinct, OnceWhereDistinct}
+use Rattle.std.proofs.lemmas.Bool.{false_from_ne_true}
 
 pub same_bool : (x y : Bool) → (x ≡ true → y ≡ true) → (y ≡ true → x ≡ true) → x ≡ y
 same_bool true y h g = sym (h refl)
@@ -70,14 +71,10 @@ with_among x n us vs h = elim (either_among n us vs h) [
   | inr back ↦ back_among n us (x ∷ vs) (or_right _ _ back)
 ]
 
-false_of : (b : Bool) → (b ≡ true → ⊥) → b ≡ false
-false_of true h = absurd (h refl)
-false_of false h = refl
-
 distinct_without : (x : ℕ) (us vs : List ℕ) → AreDistinct (us ++ x ∷ vs) → AreDistinct (us ++ vs)
 distinct_without x [] vs h = h.1
 distinct_without x (m ∷ us) vs h =
-    (false_of _ (λ is. true≢false (sym (with_among x m us vs is) ∙ h.0)), distinct_without x us vs h.1)
+    (false_from_ne_true _ (λ is. true≢false (sym (with_among x m us vs is) ∙ h.0)), distinct_without x us vs h.1)
 
 not_among_without : (x : ℕ) (us vs : List ℕ) → AreDistinct (us ++ x ∷ vs) → is_among x (us ++ vs) ≡ false
 not_among_without x [] vs h = h.0

@@ -20,13 +20,13 @@ use Rattle.fb_build.specs.Covered.{IsCoveredBy}
 use Rattle.fb_build.specs.CoveredTails.{part_further, parts_in_tail}
 use Rattle.fb_build.specs.CoveredSteps.{AreDistinct, ChunksOfTail}
 use Rattle.fb_build.specs.Made.{laid_at, times_among, IsMade, LeadsEnd, identifier_bytes, HeaderFront}
-use Rattle.fb_build.proofs.tables.CodeSlotHasNoEntry.{got}
 use Rattle.fb_build.proofs.numbers.NumberReadsBack.{num_behind}
 use Rattle.fb_build.proofs.covered.ReachedVtablesAreInside.{reached_front_shown}
 use Rattle.fb_build.proofs.covered.TightTailIsCovered.{covered_shown}
 use Rattle.fb_build.proofs.covered.HeaderCompletesTheBuffer.{whole_shown}
 use Rattle.fb_build.proofs.covered.PartsInFrontAreAdded.{greatest_stay}
 use Rattle.fb_build.proofs.covered.PartAddsItself.{front_joined}
+use Rattle.fb_tape.proofs.stored.SizesOfWhatIsStored.{got}
 
 -- ---- each vtable once
 

@@ -13,10 +13,10 @@ use Rattle.fb_build.specs.Tails.{TailSeen}
 use Rattle.fb_build.specs.Made.{StaysInFront, laid_at, times_among, Adds}
 use Rattle.std.proofs.lemmas.Bool.{ne_eqb}
 use Rattle.std.proofs.lemmas.List.Sums.{sum_by-cons}
-use Rattle.fb_build.proofs.tail.WhatIsLaidStaysLaid.{lower}
 use Rattle.fb_build.proofs.covered.DistinctNumbersAreListedOnce.{same_bool, same_test, among_further}
 use Rattle.fb_build.proofs.covered.TightTailIsCovered.{before_moved}
 use Rattle.fb_build.proofs.covered.PartsInFrontAreAdded.{LaysInFront, made_laid}
+use Rattle.fb_layout.proofs.sizes.AlignmentsArePowersOfTwo.{lower}
 
 pub laid_further : (front s : Bytes) (places : List ℕ) → ((i : ℕ) → slice_index places i ≤ length s)
     → laid_at (front ++ s) places ≡ map (λ q. length front + q) (laid_at s places)

@@ -1,7 +1,6 @@
 -- What the slots of a table and the elements of a vector are aligned to.
 use Rattle.std.proofs.Common.{◌≡◌, ℕ, zero, suc, ◌<◌, ◌≤◌, true, IsTrue, List, [], ◌∷◌, map, Option, None, Some}
 use Rattle.std.proofs.Common.{slice_get, refl, arith}
-use Rattle.std.proofs.lemmas.Nat.{pow_pos}
 use Rattle.fb_schema.specs.declared.kinds.Kind.{Kind}
 use Rattle.fb_schema.specs.declared.kinds.Kind.TheVariants.{Scalar, Enum, Struct, Table, Text}
 use Rattle.fb_schema.specs.declared.kinds.Shape.{Shape}
@@ -20,9 +19,10 @@ use Rattle.fb_layout.proofs.sizes.AlignmentsArePowersOfTwo.{base_aligned, struct
 use Rattle.fb_layout.proofs.sizes.EachFieldTakesAByte.{struct_filled}
 use Rattle.fb_value.specs.Num.{divides}
 use Rattle.fb_build.specs.Fields.{IsStructThere, IsElement, IsSimple}
-use Rattle.fb_build.proofs.tail.WhatIsLaidStaysLaid.{four_power, self_divides}
+use Rattle.fb_build.proofs.tail.WhatIsLaidStaysLaid.{self_divides}
 use Rattle.fb_build.proofs.tail.MultiplesAdd.{times_divides}
 use Rattle.fb_layout.specs.Laid.{slots_of}
+use Rattle.fb_layout.proofs.sizes.AlignmentsArePowersOfTwo.{alignment_positive, four_aligned, one_aligned}
 
 -- what the slots of all tables hold is known
 abbrev pub IsSliced : LaidSchema → Type 0
@@ -82,14 +82,11 @@ all_known L made t k f at = fields_known L made (slots_in (body_at L.schema t))
 
 -- ---- alignments and sizes
 
-one_power : IsAlignment 1
-one_power = record { exponent = 0; few = omega arith; is = refl }
-
 pub simple_aligned : (L : LaidSchema) (shape : StoredShape) → IsSimple L shape → IsAlignment (inline_align L shape)
 simple_aligned L (one_of (scalar_kind b)) h = base_aligned b
 simple_aligned L (one_of (struct_kind s)) h = h.align
-simple_aligned L (one_of (code_kind u)) h = one_power
-simple_aligned L _ h = four_power
+simple_aligned L (one_of (code_kind u)) h = one_aligned
+simple_aligned L _ h = four_aligned
 
 pub simple_multiple : (L : LaidSchema) (shape : StoredShape) → IsSimple L shape
     → divides (inline_align L shape) (inline_size L shape) ≡ true
@@ -97,11 +94,8 @@ simple_multiple L (one_of (scalar_kind b)) h = self_divides (base_size b)
 simple_multiple L (one_of (struct_kind s)) h = h.multiple
 simple_multiple L _ h = refl
 
-pub aligned_some : (n : ℕ) → IsAlignment n → 0 < n
-aligned_some n is = rw is.is (pow_pos is.exponent)
-
 pub simple_some : (L : LaidSchema) (shape : StoredShape) → IsSimple L shape → 0 < inline_size L shape
-simple_some L (one_of (scalar_kind b)) h = aligned_some _ (base_aligned b)
+simple_some L (one_of (scalar_kind b)) h = alignment_positive _ (base_aligned b)
 simple_some L (one_of (struct_kind s)) h = h.some
 simple_some L _ h = omega arith
 

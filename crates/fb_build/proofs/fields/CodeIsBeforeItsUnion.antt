@@ -24,8 +24,10 @@ use Rattle.fb_build.specs.Fields.{IsSimple, SlotFits, StoredFits, HasDefault, Ar
 use Rattle.fb_build.specs.Fields.{code_in, next_code}
 use Rattle.fb_build.specs.Paired.{ArePaired}
 use Rattle.fb_build.specs.Parts.{EntryWhole}
-use Rattle.fb_build.proofs.fields.SlotStoresItsEntry.{in_mapped, same_some}
-use Rattle.fb_build.proofs.tables.CodeSlotHasNoEntry.{stored_get, next_is, got}
+use Rattle.fb_build.proofs.fields.SlotStoresItsEntry.{same_some}
+use Rattle.fb_build.proofs.tables.CodeSlotHasNoEntry.{stored_get, next_is}
+use Rattle.std.proofs.lemmas.Option.{slice_get_within}
+use Rattle.fb_tape.proofs.stored.SizesOfWhatIsStored.{got}
 
 -- ---- the pairs
 
@@ -153,7 +155,7 @@ module _ (L : LaidSchema) (declared : IsDeclared L.schema) (fs : List Slot) (xs 
   each_fits : (k : ℕ) (f : Slot) (y : Option Datum) → slice_get fs k ≡ Some f → slice_get (stored_in fs xs) k ≡ Some y
       → StoredFits L f y
   each_fits k f y fk yk =
-      let x = got xs k (omega (arith, in_mapped fs k f fk, long)) in
+      let x = got xs k (omega (arith, slice_get_within fs k f fk, long)) in
       let is : y ≡ stored_here f.shape (next_code (drop (suc k) xs)) x.0 =
       same_some (slice_get (stored_in fs xs) k) y _ yk (stored_get fs xs k f x.0 fk x.1) in
       rw is (by_shape f.shape refl x.0 x.1)
@@ -175,7 +177,7 @@ module _ (L : LaidSchema) (declared : IsDeclared L.schema) (fs : List Slot) (xs 
       by_shape (one_of (union_kind u)) is x xk = plain (one_of (union_kind u)) is (λ d w h. value_stored L u d w h) x xk
       by_shape (one_of (code_kind u)) is x xk =
           let pair = paired.followed k f u fk is in
-          let behind = got xs (suc k) (omega (arith, in_mapped fs (suc k) pair.0 pair.1, long)) in
+          let behind = got xs (suc k) (omega (arith, slice_get_within fs (suc k) pair.0 pair.1, long)) in
           rw (next_is xs (suc k) behind.0 behind.1)
           (code_fits f pair.0 u behind.0 is pair.2 pair.3 (fits (suc k) pair.0 behind.0 pair.1 behind.1))
       by_shape (one_of text_kind) is x xk = plain (one_of text_kind) is (λ d w h. h) x xk

@@ -3,13 +3,13 @@ use Rattle.std.proofs.Common.{◌≡◌, ℕ, zero, suc, ◌+◌, ◌<◌, ◌�
 use Rattle.std.proofs.Common.{nat_lt, nat_le, List, [], ◌∷◌, length, take, slice_get, slice_index, slice_set, Option}
 use Rattle.std.proofs.Common.{Some, refl, ap, arith}
 use Rattle.std.proofs.lemmas.List.{get_or-set_same, get_or-set_other}
-use Rattle.std.proofs.lemmas.Bool.{lt-ltb, le-leb, eq-eqb}
+use Rattle.std.proofs.lemmas.Bool.{lt-ltb, le-leb, eq-eqb, cases_eq}
 use Rattle.fb_layout.specs.Laid.{LaidSchema, Slot}
 use Rattle.fb_layout.specs.Widths.{inline_size, inline_align}
 use Rattle.fb_value.specs.Datum.{Datum}
 use Rattle.fb_build.specs.Fields.{is_stored, size_if_at, size_at, size_above, above, from}
 use Rattle.fb_build.specs.FieldEnds.{stored_end}
-use Rattle.fb_build.proofs.fields.SlotStoresItsEntry.{by_index, same_some, ltb_yes, ltb_out}
+use Rattle.fb_build.proofs.fields.SlotStoresItsEntry.{same_some, ltb_yes, ltb_out}
 
 -- ---- the sizes of the slots before one
 
@@ -40,7 +40,7 @@ pub end_passed :
     → slice_get fs k ≡ Some f0 → slice_get xs k ≡ Some x0 → P k f0 x0 (is_stored f0 x0 && from L a f0) e
     → EachEnd P (λ j f. cond (nat_lt j k) (from L a f) (above L a f)) fs xs ends
     → EachEnd P (λ j f. cond (nat_lt j (k + 1)) (from L a f) (above L a f)) fs xs others
-end_passed P L a k e fs xs ends others f0 x0 own rest fk xk now before j f x fj xj = by_case (by_index j k)
+end_passed P L a k e fs xs ends others f0 x0 own rest fk xk now before j f x fj xj = by_case (cases_eq j k)
   where
     test_same : (k : ℕ) → nat_lt k (k + 1) ≡ true
     test_same k = lt-ltb _ _ (omega arith)

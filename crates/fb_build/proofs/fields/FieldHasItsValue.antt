@@ -1,7 +1,7 @@
 -- A field that was laid.
 use Rattle.std.proofs.Common.{◌≡◌, ℕ, ◌+◌, ◌-◌, ◌*◌, ◌^◌, ◌%◌, ◌<◌, ◌≤◌, ◌++◌, Bool, true, false, not, nat_le, List}
 use Rattle.std.proofs.Common.{length, slice_get, slice_index, Option, None, Some, ℤ, refl, ap, sym, ◌∙◌, subst, arith}
-use Rattle.std.proofs.lemmas.Bool.{le-leb, lt-ltb, eq-eqb, and_from, eqb-true}
+use Rattle.std.proofs.lemmas.Bool.{le-leb, lt-ltb, eq-eqb, and_from, eqb-true, both_ways}
 use Rattle.std.proofs.Math.Nat.{add-mul-mod_self_left}
 use Rattle.std.proofs.lemmas.Bool.Decides.{Decides-int_eq}
 use Rattle.std.specs.Ordering.{int_eq}
@@ -19,13 +19,13 @@ use Rattle.fb_build.specs.Tails.{TailSeen, Grows, LaidInTail}
 use Rattle.fb_build.specs.Fields.{SlotFits, member_target, scalar_in, from, is_stored, differs}
 use Rattle.fb_build.specs.Fields.{TargetEnd, StoredEnd, EntryEnd, EntriesEnd, sort_for, target_for}
 use Rattle.fb_value.proofs.rules.RulesHoldOneByOne.{hold, no_rules}
-use Rattle.fb_build.proofs.numbers.NumberReadsBack.{num_first}
 use Rattle.fb_value.proofs.tails.TailsAreKeptInFront.{front_shown, old_shown}
 use Rattle.fb_build.specs.CoveredTails.{TightInTail, InlineInTail}
 use Rattle.fb_tape.specs.InlineBytes.{IsTightInline, EachInline}
 use Rattle.fb_build.proofs.covered.TightStructStaysTightFurtherOn.{inline_front_shown}
 use Rattle.fb_build.proofs.covered.TightTableStaysTightFurtherOn.{tight_front_shown}
 use Rattle.fb_build.proofs.tail.WhatIsLaidStaysLaid.{laid_grown}
+use Rattle.fb_value.proofs.numbers.BytesSumToTheirNumber.{num_first}
 
 -- a number that isn't stored
 abbrev pub IsDefault : Slot → Datum → Type 0
@@ -151,12 +151,8 @@ now_laid L low m s a f x e at is lies =
     let yes : nat_le a (inline_align L f.shape) ≡ true = rw at (le-leb _ _ (omega arith)) in
     record {
       stored = λ _. rw yes lies;
-      absent = λ out. absurd (no_both (is_stored f x) is out);
+      absent = λ out. absurd (both_ways (is_stored f x) out is);
     }
-  where
-    no_both : (b : Bool) → b ≡ true → b ≡ false → ⊥
-    no_both true a b = cc
-    no_both false a b = cc
 
 pub more_divides : (a n k : ℕ) → divides a n ≡ true → k ≡ n + a → divides a k ≡ true
 more_divides a n k h e =

@@ -1,5 +1,6 @@
 -- Where the references of a table lead while its fields are laid.
 use Rattle.std.proofs.Common.{◌≡◌, ℕ, Bool, true, false, List, slice_index, Option, None, Some, refl}
+use Rattle.std.proofs.lemmas.Bool.{both_ways}
 use Rattle.fb_layout.specs.Laid.{Slot}
 use Rattle.fb_value.specs.Datum.{Datum}
 use Rattle.fb_value.specs.Num.{Bytes}
@@ -23,11 +24,7 @@ fields_kept a b t fs xs targets ends g h k f x fk xk =
 unstored : (s : Bytes) (f : Slot) (x : Option Datum) (target e : ℕ) → is_stored f x ≡ false
     → FieldLeads s true f x target e
 unstored s f None target e out = tt
-unstored s f (Some d) target e out = λ is. absurd (no_both (is_stored f (Some d)) is out)
-  where
-    no_both : (b : Bool) → b ≡ true → b ≡ false → ⊥
-    no_both true p q = cc
-    no_both false p q = cc
+unstored s f (Some d) target e out = λ is. absurd (both_ways (is_stored f (Some d)) out is)
 
 pub field_or_out : (s : Bytes) (f : Slot) (x : Option Datum) (target e : ℕ) → (is_stored f x ≡ true → ⊥)
     → FieldLeads s true f x target e

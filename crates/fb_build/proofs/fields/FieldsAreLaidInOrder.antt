@@ -23,6 +23,9 @@ use Rattle.fb_build.proofs.order.LaidFieldsTakeTheirSizes.{size_retested, size_a
 use Rattle.fb_build.proofs.order.NextFieldIsNamed.{IsNamed, waits, still_waits, end_of_next, size_of_next}
 use Rattle.fb_build.proofs.order.NextFieldIsNamed.{lower_behind, align_least}
 use Rattle.fb_build.proofs.order.LaidFieldsTakeTheirSizes.{size_from}
+use Rattle.std.proofs.Math.Bool.{and-false}
+use Rattle.std.proofs.Math.Bool.{and-true}
+use Rattle.std.proofs.lemmas.Bool.{both_ways}
 
 -- Where references lead once what passes a test is laid.
 abbrev pub LeadSoFar : Bytes → (ℕ → Slot → Bool) → List Slot → List (Option Datum) → List ℕ → List ℕ → Type 0
@@ -41,18 +44,6 @@ pub record AreLaidUpTo (L : LaidSchema) (tail : TailSeen) (fs : List Slot) (xs :
   pub whole : (k : ℕ) (f : Slot) (x : Option Datum) → slice_get fs k ≡ Some f → slice_get xs k ≡ Some x
       → is_stored f x ≡ true → laid k f ≡ false → divides (inline_align L f.shape) (length tail.bytes) ≡ true
 
-both_false : (b : Bool) → (b && false) ≡ false
-both_false true = refl
-both_false false = refl
-
-both_true : (b : Bool) → (b && true) ≡ b
-both_true true = refl
-both_true false = refl
-
-no_both : (b : Bool) → b ≡ true → b ≡ false → ⊥
-no_both true p q = cc
-no_both false p q = cc
-
 -- before the first field
 pub none_laid_before : (L : LaidSchema) (o n : TailSeen) (start align : ℕ) (fs : List Slot) (xs : List (Option Datum))
     (ends : List ℕ) (first : ℕ) → AreKnown L fs xs → LinksNext L (λ k f. false) fs xs first → Grows o n
@@ -68,9 +59,9 @@ none_laid_before L o n start align fs xs ends first known next g each begin powe
         (entries_before L 0 start o.most o.bytes fs xs ends h);
     filled = none_filled L start (length n.bytes) (λ k f. false) fs xs ends (omega (arith, begin))
         (λ k f x fk xk is. refl);
-    counted = λ k f x fk xk yes. absurd (no_both (is_stored f x && false) yes (both_false (is_stored f x)));
+    counted = λ k f x fk xk yes. absurd (both_ways (is_stored f x && false) (and-false (is_stored f x)) yes);
   };
-  leads = λ k f x fk xk. rw (both_false (is_stored f x)) refl;
+  leads = λ k f x fk xk. rw (and-false (is_stored f x)) refl;
   size = omega (arith, begin, size_none L 0 fs xs);
   whole = λ k f x fk xk is out.
       let own = align_least L k fs xs f x fk xk is in
@@ -129,7 +120,7 @@ leads_on L o n k e fs xs targets ends laid f x g under fk xk named now h =
     retested = end_retested (Leads o.bytes) laid (before L a k) fs xs ends named.behind h
 
     waits_still : (is_stored f x && laid k f) ≡ false
-    waits_still = rw (still_waits L laid fs xs k f x fk xk named) (both_false (is_stored f x))
+    waits_still = rw (still_waits L laid fs xs k f x fk xk named) (and-false (is_stored f x))
 
     target : slice_index ends k ≡ slice_index targets k
     target = rw waits_still at (h k f x fk xk)
@@ -224,8 +215,8 @@ leads_laid L o start link fs xs targets ends h none k f x fk xk = by_stored (is_
     by_stored : (s : Bool) → is_stored f x ≡ s
         → FieldLeads o.bytes true f x (slice_index targets k) (slice_index ends k)
     by_stored false out = field_or_out o.bytes f x (slice_index targets k) (slice_index ends k)
-        (λ is. no_both (is_stored f x) is out)
+        (λ is. both_ways (is_stored f x) out is)
     by_stored true is =
         let passes : (is_stored f x && h.laid k f) ≡ true =
-        rw (all_laid L o start link fs xs targets ends h none k f x fk xk is) (both_true (is_stored f x) ∙ is) in
+        rw (all_laid L o start link fs xs targets ends h none k f x fk xk is) (and-true (is_stored f x) ∙ is) in
         rw (← passes) (h.leads k f x fk xk)

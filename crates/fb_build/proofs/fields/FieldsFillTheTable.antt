@@ -1,7 +1,7 @@
 -- The fields of a table that are laid fill its bytes, from one field that is laid to the next.
 use Rattle.std.proofs.Common.{◌≡◌, ℕ, ◌+◌, ◌<◌, ◌≤◌, ◌⊎◌, inl, inr, Bool, true, false, nat_lt, List, length, slice_get}
 use Rattle.std.proofs.Common.{slice_index, slice_set, Option, Some, refl, sym, ◌∙◌, arith}
-use Rattle.std.proofs.lemmas.Bool.{false≢true, lt-ltb, le-leb, ltb-true, ltb-false}
+use Rattle.std.proofs.lemmas.Bool.{false≢true, lt-ltb, le-leb, ltb-true, ltb-false, cases_eq}
 use Rattle.std.proofs.lemmas.Bool.Decides.{nat_tests}
 use Rattle.std.proofs.lemmas.List.{get_or-set_same, get_or-set_other}
 use Rattle.fb_layout.specs.Laid.{LaidSchema, Slot}
@@ -10,8 +10,8 @@ use Rattle.fb_value.specs.Datum.{Datum}
 use Rattle.fb_build.specs.Fields.{is_stored, above}
 use Rattle.fb_build.specs.FieldOrder.{before}
 use Rattle.fb_build.specs.Filled.{IsLaidSlot, IsFilled, AreFilled}
-use Rattle.fb_build.proofs.tail.WhatIsLaidStaysLaid.{lower}
-use Rattle.fb_build.proofs.fields.SlotStoresItsEntry.{by_index, same_some}
+use Rattle.fb_build.proofs.fields.SlotStoresItsEntry.{same_some}
+use Rattle.fb_layout.proofs.sizes.AlignmentsArePowersOfTwo.{lower}
 
 -- What is stored is laid by the one test where it is by the other, and ends in the same place.
 abbrev pub SameLaid : (ℕ → Slot → Bool) → (ℕ → Slot → Bool) → List Slot → List (Option Datum) → List ℕ → List ℕ → Type 0
@@ -166,7 +166,7 @@ module _ (L : LaidSchema) (start count more a k e : ℕ) (fs : List Slot) (xs : 
 
   one_between : (j : ℕ) (g : Slot) (y : Option Datum) → IsLaidSlot now fs xs j g y
       → (start + inline_size L g.shape ≤ slice_index others j) × (slice_index others j ≤ more)
-  one_between j g y w = by_slot (by_index j k)
+  one_between j g y w = by_slot (cases_eq j k)
     where
       by_slot : (j ≡ k) ⊎ (j ≡ k → ⊥) → (start + inline_size L g.shape ≤ slice_index others j)
           × (slice_index others j ≤ more)
@@ -182,7 +182,7 @@ module _ (L : LaidSchema) (start count more a k e : ℕ) (fs : List Slot) (xs : 
       → (i ≡ j → ⊥)
       → (slice_index others i + inline_size L g.shape ≤ slice_index others j)
       ⊎ (slice_index others j + inline_size L d.shape ≤ slice_index others i)
-  one_apart i j d g z y v w differ = by_slots (by_index i k) (by_index j k)
+  one_apart i j d g z y v w differ = by_slots (cases_eq i k) (cases_eq j k)
     where
       by_slots : (i ≡ k) ⊎ (i ≡ k → ⊥) → (j ≡ k) ⊎ (j ≡ k → ⊥)
           → (slice_index others i + inline_size L g.shape ≤ slice_index others j)

@@ -1,5 +1,5 @@
 -- Which slots of a table have a default.
-use Rattle.std.proofs.Common.{◌≡◌, ℕ, Bool, true, false, ◌||◌, slice_get, Option, None, Some, refl, ap, ◌∙◌, subst}
+use Rattle.std.proofs.Common.{◌≡◌, ℕ, false, ◌||◌, slice_get, Option, None, Some, refl, ap, ◌∙◌, subst}
 use Rattle.std.specs.Prelude.{ℤ}
 use Rattle.fb_schema.specs.declared.kinds.Base.{Base}
 use Rattle.fb_schema.specs.declared.kinds.Kind.TheVariants.{Scalar, Enum}
@@ -8,8 +8,9 @@ use Rattle.fb_schema.specs.declared.kinds.Shape.TheVariants.{One}
 use Rattle.fb_schema.specs.Schema.{DeclaredField, DeclaredBody, table_body, struct_body, enum_body, union_body}
 use Rattle.fb_schema.specs.Schema.{DeclaredType, DeclaredSchema, body_in, body_at, slots_in}
 use Rattle.fb_schema.specs.WellDeclared.{MarksFit, IsBody, IsDeclared}
-use Rattle.fb_layout.specs.Laid.{LaidSchema, Slot, slot_of, slots_of, stored_shape, default_of, StoredShape}
+use Rattle.fb_layout.specs.Laid.{LaidSchema, Slot, slot_of, slots_of, stored_shape}
 use Rattle.fb_layout.specs.Laid.{scalar_kind, one_of}
+use Rattle.fb_layout.proofs.slots.SlotsFollowTheirFields.{number_shape}
 use Rattle.fb_build.specs.Fields.{HasDefault}
 use Rattle.fb_build.proofs.fields.CodeIsBeforeItsUnion.{unmapped}
 
@@ -35,18 +36,12 @@ scalar_free S f base (One (Scalar b)) h e = h.2
 scalar_free S f base (One (Enum b)) h e = h.2
 scalar_free S f base _ h e = cc
 
-only_scalar : (b : Bool) (d n : ℤ) (shape : StoredShape) → default_of b d shape ≡ Some n
-    → (base : Base) × (shape ≡ one_of (scalar_kind base))
-only_scalar true d n shape e = cc
-only_scalar false d n (one_of (scalar_kind base)) e = (base, refl)
-only_scalar false d n _ e = cc
-
 pub slots_default : (L : LaidSchema) → IsDeclared L.schema → (t k : ℕ) (f : Slot) (n : ℤ)
     → slice_get (slots_of L t) k ≡ Some f → f.if_absent ≡ Some n → HasDefault f
 slots_default L declared t k f n fk is =
     let own = unmapped (slot_of L.schema) (slots_in (body_at L.schema t)) k f fk in
     let g = own.0 in
-    let base = only_scalar (g.deprecated || g.optional) g.default n (stored_shape L.schema g.shape)
+    let base = number_shape (g.deprecated || g.optional) g.default n (stored_shape L.schema g.shape)
     (ap (λ z. z.if_absent) own.2 ∙ is) in
     let marks = marks_at L.schema declared t k g own.1 in
     let free : g.required ≡ false = scalar_free L.schema g base.0 g.shape marks base.1 in

@@ -1,9 +1,9 @@
 -- What each slot of a table stores, and its end-count once its field is laid.
-use Rattle.std.proofs.Common.{◌≡◌, ℕ, zero, suc, ◌+◌, ◌<◌, ◌≤◌, ◌⊎◌, inl, inr, Bool, true, false, cond, nat_lt, List}
-use Rattle.std.proofs.Common.{[], ◌∷◌, length, slice_get, slice_index, slice_set, Option, Some}
-use Rattle.std.proofs.Common.{refl, ap, sym, ◌∙◌, arith}
+use Rattle.std.proofs.Common.{◌≡◌, ℕ, ◌+◌, ◌<◌, ◌≤◌, ◌⊎◌, inl, inr, Bool, true, false, cond, nat_lt, List}
+use Rattle.std.proofs.Common.{length, slice_get, slice_index, slice_set, Option, Some}
+use Rattle.std.proofs.Common.{refl, sym, ◌∙◌, arith}
 use Rattle.std.proofs.lemmas.List.{get_or-set_same, get_or-set_other}
-use Rattle.std.proofs.lemmas.Bool.{lt-ltb, ltb-true, ltb-false}
+use Rattle.std.proofs.lemmas.Bool.{lt-ltb, ltb-true, ltb-false, cases_eq}
 use Rattle.fb_layout.specs.Laid.{LaidSchema, Slot}
 use Rattle.fb_layout.specs.Widths.{inline_size, inline_align}
 use Rattle.fb_value.specs.Datum.{Datum}
@@ -20,11 +20,6 @@ ltb_yes j k e = ltb-true j k e
 pub ltb_out : (j k : ℕ) → nat_lt j k ≡ false → k ≤ j
 ltb_out j k e = ltb-false j k e
 
-pub in_mapped : {A : Type 0} (xs : List A) (i : ℕ) (x : A) → slice_get xs i ≡ Some x → i < length xs
-in_mapped [] i x e = cc
-in_mapped (y ∷ ys) zero x e = omega arith
-in_mapped (y ∷ ys) (suc i) x e = omega (arith, in_mapped ys i x e)
-
 pub whole_step : (L : LaidSchema) (a long longer free new : ℕ) (f : Slot) → IsSimple L f.shape
     → inline_align L f.shape ≡ a → longer + new ≡ long + free → new + inline_size L f.shape ≡ free
     → divides a long ≡ true → divides a longer ≡ true
@@ -36,12 +31,6 @@ whole_step L a long longer free new f simple at e now h =
 pub same_some : {A : Type 0} (o : Option A) (x y : A) → o ≡ Some x → o ≡ Some y → x ≡ y
 same_some o x y e f = let both : Some x ≡ Some y = sym e ∙ f in cc
 
-pub by_index : (j k : ℕ) → (j ≡ k) ⊎ (j ≡ k → ⊥)
-by_index zero zero = inl refl
-by_index zero (suc k) = inr (λ e. omega (arith, e))
-by_index (suc j) zero = inr (λ e. omega (arith, e))
-by_index (suc j) (suc k) = elim (by_index j k) [ inl e ↦ inl (ap suc e) | inr ne ↦ inr (λ e. ne (omega (arith, e))) ]
-
 -- the state once slot k is passed, whose end-count alone may be another
 pub passed : (L : LaidSchema) (low : ℕ) (o n : TailSeen) (a k e : ℕ) (fs : List Slot) (xs : List (Option Datum))
     (ends others : List ℕ) (f0 : Slot) (x0 : Option Datum) → Grows o n → slice_index others k ≡ e
@@ -49,7 +38,7 @@ pub passed : (L : LaidSchema) (low : ℕ) (o n : TailSeen) (a k e : ℕ) (fs : L
     → slice_get fs k ≡ Some f0 → slice_get xs k ≡ Some x0 → EntryEnd L low n.most n.bytes (from L a f0) f0 x0 e
     → EntriesEnd L low o.most o.bytes (λ j f. cond (nat_lt j k) (from L a f) (above L a f)) fs xs ends
     → EntriesEnd L low n.most n.bytes (λ j f. cond (nat_lt j (k + 1)) (from L a f) (above L a f)) fs xs others
-passed L low o n a k e fs xs ends others f0 x0 g own rest fk xk now before j f x fj xj = by_case (by_index j k)
+passed L low o n a k e fs xs ends others f0 x0 g own rest fk xk now before j f x fj xj = by_case (cases_eq j k)
   where
     test_same : (k : ℕ) → nat_lt k (k + 1) ≡ true
     test_same k = lt-ltb _ _ (omega arith)

@@ -10,9 +10,10 @@ use Rattle.fb_value.specs.Num.{Bytes}
 use Rattle.fb_value.specs.Places.{is_present, code_at}
 use Rattle.fb_build.specs.Fields.{coded, code_in, stored_in}
 use Rattle.fb_build.specs.Paired.{ArePaired}
-use Rattle.fb_build.proofs.fields.SlotStoresItsEntry.{in_mapped}
 use Rattle.fb_build.proofs.tables.TableHasItsFields.{p, SlotKnown, empty, code_there, code_known, value_known}
-use Rattle.fb_build.proofs.tables.CodeSlotHasNoEntry.{no_code_entry, got}
+use Rattle.fb_build.proofs.tables.CodeSlotHasNoEntry.{no_code_entry}
+use Rattle.std.proofs.lemmas.Option.{slice_get_within}
+use Rattle.fb_tape.proofs.stored.SizesOfWhatIsStored.{got}
 
 module _ (L : LaidSchema) (low m : ℕ) (s : Bytes) (c : ℕ) (within : c ≤ length s) where
   -- where the table stands
@@ -53,8 +54,8 @@ module _ (L : LaidSchema) (low m : ℕ) (s : Bytes) (c : ℕ) (within : c ≤ le
     unfolding q
     members_coded k g u gk is there =
         let led = paired.led k g u gk is in
-        let x = got xs led.0 (omega (arith, in_mapped fs led.0 led.1 led.3, long)) in
-        let y = got xs k (omega (arith, in_mapped fs k g gk, long)) in
+        let x = got xs led.0 (omega (arith, slice_get_within fs led.0 led.1 led.3, long)) in
+        let y = got xs k (omega (arith, slice_get_within fs k g gk, long)) in
         let back : suc led.0 - 1 ≡ led.0 = omega arith in
         subst (λ (i : ℕ). slice_get fs i ≡ Some g → slice_get xs i ≡ Some y.0
         → is_present s (p L low m s c within) i ≡ true → code_at s (p L low m s c within) (i - 1) ≢ 0) (sym led.2)

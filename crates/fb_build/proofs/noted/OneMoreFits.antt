@@ -3,7 +3,7 @@ use Rattle.std.proofs.Common.{◌≡◌, ℕ, zero, suc, ◌+◌, ◌<◌, ◌++
 use Rattle.std.proofs.Common.{slice_get, Option, None, Some, refl, ap, sym, ◌∙◌, subst, arith}
 use Rattle.fb_layout.specs.Laid.{LaidSchema, Slot, StoredKind, one_of}
 use Rattle.fb_value.specs.Counts.{is_whole, parts_whole, entries_whole}
-use Rattle.fb_value.specs.Datum.{Datum, count}
+use Rattle.fb_value.specs.Datum.{Datum}
 use Rattle.fb_value.specs.Fits.{EntriesFit, EachFits, Fits}
 use Rattle.fb_value.specs.Room.{parts_room, room}
 use Rattle.fb_value.specs.View.{entries_in, parts_in}
@@ -45,10 +45,6 @@ pub parts_room_more : (L : LaidSchema) (kind : StoredKind) (ds : List Datum) (d 
     → parts_room L kind (parts_in (ds ++ (d ∷ []))) ≡ parts_room L kind (parts_in ds) + room L (one_of kind) d
 parts_room_more L kind [] d = omega arith
 parts_room_more L kind (x ∷ ds) d = omega (arith, parts_room_more L kind ds d)
-
-pub counted : (ds : List Datum) → count (parts_in ds) ≡ length ds
-counted [] = refl
-counted (d ∷ ds) = ap suc (counted ds)
 
 -- ---- all of them
 

@@ -1,20 +1,15 @@
 -- Numbers that stand in a tail.
-use Rattle.std.proofs.Common.{◌≡◌, ℕ, ◌+◌, ◌-◌, ◌^◌, ◌<◌, ◌++◌, length, ap, sym, ◌∙◌, arith, length-append}
+use Rattle.std.proofs.Common.{◌≡◌, ℕ, ◌+◌, ◌-◌, ◌++◌, length, ap, sym, ◌∙◌, arith, length-append}
 use Rattle.std.proofs.Math.Seq.{drop-append-add}
-use Rattle.byteorder.specs.Endian.{little_bytes, little_number}
-use Rattle.byteorder.specs.Numbers.{little_number-reads_back}
+use Rattle.byteorder.specs.Endian.{little_number}
 use Rattle.fb_value.specs.Num.{Bytes, num}
 use Rattle.fb_build.specs.Vtables.{StandsEnd}
-use Rattle.fb_build.proofs.numbers.BytesSumToTheirNumber.{num_is}
+use Rattle.fb_value.proofs.numbers.BytesSumToTheirNumber.{num_is}
 
 -- behind bytes in front
 pub num_behind : (xs ys : Bytes) (p n : ℕ) → num (xs ++ ys) (length xs + p) n ≡ num ys p n
 num_behind xs ys p n = sym (num_is (xs ++ ys) (length xs + p) n) ∙ ap (λ b. little_number n b) (drop-append-add xs ys p)
     ∙ num_is ys p n
-
--- the first number
-pub num_first : (n x : ℕ) (rest : Bytes) → x < 256 ^ n → num (little_bytes n x ++ rest) 0 n ≡ x
-num_first n x rest fits = sym (num_is (little_bytes n x ++ rest) 0 n) ∙ little_number-reads_back n x rest fits
 
 -- a number in what stands at an end-count
 pub num_standing : (s : Bytes) (e : ℕ) (xs : Bytes) (h : StandsEnd s e xs) (p n : ℕ)

@@ -4,7 +4,7 @@ use Rattle.std.proofs.lemmas.Bool.Decides.{nat_tests}
 use Rattle.std.proofs.lemmas.Nat.{pow-add, pow_pos, pow_below}
 use Rattle.std.proofs.Math.Pow.{pow_mono}
 use Rattle.fb_layout.specs.Sizes.{IsAlignment}
-use Rattle.fb_build.proofs.tail.WhatIsLaidStaysLaid.{lower}
+use Rattle.fb_layout.proofs.sizes.AlignmentsArePowersOfTwo.{lower}
 
 pub twice : (c : ℕ) → 2 ^ (c + 1) ≡ 2 * 2 ^ c
 twice c = let e : 2 ^ (c + 1) ≡ 2 ^ c * 2 ^ 1 = pow-add 2 c 1 in omega (arith, e)

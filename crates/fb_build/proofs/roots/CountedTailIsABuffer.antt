@@ -7,7 +7,7 @@ use Rattle.std.proofs.lemmas.Slice.Eq.{bytes_eq-Decides}
 use Rattle.std.proofs.Math.Seq.{drop-append-add, drop-append_seam}
 use Rattle.byteorder.specs.Endian.{little_bytes}
 use Rattle.fb_layout.specs.Laid.{LaidSchema}
-use Rattle.fb_value.specs.Bounds.{Bounds}
+use Rattle.fb_value.specs.Bounds.{Bounds, most_bytes}
 use Rattle.fb_value.specs.Counts.{cells, depth}
 use Rattle.fb_value.specs.Datum.{Datum}
 use Rattle.fb_value.specs.Num.{Bytes, num, divides}
@@ -20,14 +20,14 @@ use Rattle.fb_value.proofs.reached.EachTableIsReached.{only_old_shown}
 use Rattle.fb_value.proofs.tails.TailsAreKeptInFront.{front_shown, old_shown, whole_shown}
 use Rattle.fb_build.specs.Tails.{LaidInTail}
 use Rattle.fb_build.specs.Roots.{IsIdentified}
-use Rattle.fb_build.proofs.numbers.NumberReadsBack.{num_first}
 use Rattle.fb_build.proofs.roots.TailWithItsRootIsABuffer.{checked}
+use Rattle.fb_value.proofs.numbers.BytesSumToTheirNumber.{num_first}
 
 -- the count of a buffer's bytes, and the buffer
 pub record IsCounted (s b : Bytes) : Type 0 where
   pub bytes : b ≡ little_bytes 4 (length s) ++ s
   pub least : 4 ≤ length s
-  pub short : length b ≤ 2147483647
+  pub short : length b ≤ most_bytes
 
 four_long : (n : ℕ) → length (little_bytes 4 n) ≡ 4
 four_long n = refl

@@ -5,7 +5,7 @@ use Rattle.std.proofs.lemmas.Bool.{le-leb}
 use Rattle.std.proofs.lemmas.Slice.Eq.{bytes_eq-Decides}
 use Rattle.std.proofs.Math.Seq.{take-append_seam, drop-append_seam}
 use Rattle.fb_layout.specs.Laid.{LaidSchema}
-use Rattle.fb_value.specs.Bounds.{Bounds}
+use Rattle.fb_value.specs.Bounds.{Bounds, most_bytes}
 use Rattle.fb_value.specs.Counts.{cells, depth}
 use Rattle.fb_value.specs.Datum.{Datum}
 use Rattle.fb_value.specs.Num.{Bytes, divides}
@@ -36,7 +36,7 @@ identified_behind front s id b e four long begins =
     rw (← long) (take-append_seam id begins.0) in
     (omega (arith, parts, inner, all, four, long), ap (λ x. take 4 (drop 4 x)) whole ∙ ap (take 4) behind ∙ first)
 
-header_holds : (b : Bytes) (o : Option (List ℕ)) → 4 ≤ length b → length b ≤ 2147483647
+header_holds : (b : Bytes) (o : Option (List ℕ)) → 4 ≤ length b → length b ≤ most_bytes
     → ((id : Bytes) → o ≡ Some id → IsIdentified b id) → header_fault b o ≡ None
 unfolding header_fault first_failing
 header_holds b None low high identified = rw (le-leb _ _ low, le-leb _ _ high) refl
@@ -71,7 +71,7 @@ whole_lies L m b v whole lies =
     rw (← front) (whole_shown L m b (ref_place (table_part L.schema.root)) (length b) v whole lies)
 
 pub whole_holds : (L : LaidSchema) (m : ℕ) (b : Bytes) (v : Datum) (most : Bounds) (raw : Bool)
-    → ((id : Bytes) → L.schema.identifier ≡ Some id → IsIdentified b id) → 4 ≤ length b → length b ≤ 2147483647
+    → ((id : Bytes) → L.schema.identifier ≡ Some id → IsIdentified b id) → 4 ≤ length b → length b ≤ most_bytes
     → divides m (length b) ≡ true
     → LiesInTail L m b (ref_place (table_part L.schema.root)) (length b) v → depth v ≤ most.depth → cells v ≤ most.cells
     → Holds L most raw b v

@@ -3,8 +3,8 @@ use Rattle.std.proofs.Common.{◌≡◌, ℕ, ◌-◌, ◌<◌, ◌≤◌, ◌�
 use Rattle.std.proofs.Common.{replicate, slice_index, ◌∙◌, arith}
 use Rattle.std.proofs.lemmas.List.{get_or-append_right, get_or_append_left, get_or-replicate}
 use Rattle.fb_value.specs.Num.{Bytes}
-use Rattle.fb_build.proofs.tail.WhatIsLaidStaysLaid.{lower}
 use Rattle.fb_build.proofs.tail.PaddingIsZero.{zeros_long}
+use Rattle.fb_layout.proofs.sizes.AlignmentsArePowersOfTwo.{lower}
 
 -- a byte behind some zeros, or one of them
 pub zeros_read : (n : ℕ) (a : Bytes) (i : ℕ) → (n ≤ i → slice_index a (i - n) ≡ 0)

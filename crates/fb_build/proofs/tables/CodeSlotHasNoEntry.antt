@@ -1,5 +1,5 @@
 -- What the slots of a table have, one by one: a union's code has no entry of its own.
-use Rattle.std.proofs.Common.{◌≡◌, ℕ, zero, suc, ◌+◌, ◌<◌, ◌≤◌, ◌==◌, Bool, true, false, not, cond, ◌&&◌, ◌||◌}
+use Rattle.std.proofs.Common.{◌≡◌, ℕ, zero, suc, ◌+◌, ◌<◌, ◌≤◌, ◌==◌, Bool, true, false, not, ◌&&◌}
 use Rattle.std.proofs.Common.{List, [], ◌∷◌, length, drop, slice_get, Option, None, Some, pos, refl, ap, arith}
 use Rattle.std.proofs.lemmas.Bool.{le-leb}
 use Rattle.std.proofs.lemmas.Bool.Decides.{nat_tests}
@@ -17,6 +17,7 @@ use Rattle.fb_build.specs.Fields.{stored_here, stored_in, code_in, next_code, is
 use Rattle.fb_build.specs.CoveredTails.{IsTightInTail}
 use Rattle.fb_tape.specs.InlineBytes.{IsTightInline, EachInline, EachInlineNamed}
 use Rattle.fb_value.proofs.rules.RulesHoldOneByOne.{hold, no_rules}
+use Rattle.std.proofs.Math.Bool.{or-true}
 
 pub entry_from : (al : Aligned) (L : LaidSchema) (b : Bytes) (sort : Sort) (p : ℕ) (d : Datum)
     (lies : Sort → ℕ → Type 0) → BehindBy al L b sort p lies → EntryBy al L b sort p d lies
@@ -34,10 +35,6 @@ EntryLies al L b f place (Some d) = PresentEntryBy al L b f place d (λ sort q. 
     × EachNamed b place (λ sort q. EachTable L b (λ t r. IsTightInTail L b t r) sort q d)
     × EachInlineNamed L b (IsTightInline L b) place d (λ X q. EachInline L b (IsTightInline L b) X q d)
 
-pub no_place : (t : Bool) (x : Option Place) → x ≡ None → cond t None x ≡ None
-no_place true x e = refl
-no_place false x e = e
-
 pub stored_get : (fs : List Slot) (xs : List (Option Datum)) (k : ℕ) (f : Slot) (x : Option Datum)
     → slice_get fs k ≡ Some f → slice_get xs k ≡ Some x
     → slice_get (stored_in fs xs) k ≡ Some (stored_here f.shape (next_code (drop (suc k) xs)) x)
@@ -51,11 +48,6 @@ pub next_is : (xs : List (Option Datum)) (k : ℕ) (x : Option Datum) → slice_
 next_is [] k x e = cc
 next_is (y ∷ xs) zero x e = let is : y ≡ x = cc in ap code_in is
 next_is (y ∷ xs) (suc k) x e = next_is xs k x e
-
-pub got : {A : Type 0} (xs : List A) (k : ℕ) → k < length xs → (x : A) × (slice_get xs k ≡ Some x)
-got [] k h = absurd (omega (arith, h))
-got (x ∷ xs) zero h = (x, refl)
-got (x ∷ xs) (suc k) h = got xs k (omega (arith, h))
 
 -- a code slot has no entry
 pub no_code_entry : (L : LaidSchema) (u : ℕ) (d : Datum) → Fits L (one_of (code_kind u)) d → ⊥
@@ -82,16 +74,8 @@ no_union (one_of text_kind) h = refl
 no_union (vector_of kind) h = refl
 no_union _ h = absurd h
 
-pub or_true : (r : Bool) → (r || true) ≡ true
-or_true true = refl
-or_true false = refl
-
 pub code_stored : (f : Slot) (n : ℕ) → f.if_absent ≡ None → is_stored f (Some (a_number (pos n))) ≡ true
-code_stored f n e = rw e (or_true f.required)
-
-pub not_required : (r : Bool) → (r && false) ≡ false
-not_required true = refl
-not_required false = refl
+code_stored f n e = rw e (or-true f.required)
 
 pub code_some : (L : LaidSchema) (u n t : ℕ) → member_by_code L u n ≡ Some t → 0 < n
 code_some L u zero t e = cc
@@ -109,4 +93,4 @@ pub code_keeps : (L : LaidSchema) (m : ℕ) (s : Bytes) (u k : ℕ) (required he
 unfolding fault_by
 code_keeps L m s u k required here q inside some is =
     hold _ _ _ (le-leb _ _ inside) (hold _ _ _ (required_kept required (num s q 1) some)
-    (hold _ _ _ (rw is (or_true (num s q 1 == 0))) no_rules))
+    (hold _ _ _ (rw is (or-true (num s q 1 == 0))) no_rules))

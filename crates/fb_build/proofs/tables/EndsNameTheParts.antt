@@ -1,5 +1,5 @@
 -- The parts of what was laid for slots or elements.
-use Rattle.std.proofs.Common.{◌≡◌, ℕ, zero, suc, ◌+◌, ◌-◌, ◌*◌, ◌≤◌, ◌++◌, List, [], ◌∷◌, length, map, take, drop}
+use Rattle.std.proofs.Common.{◌≡◌, ℕ, suc, ◌+◌, ◌-◌, ◌*◌, ◌≤◌, ◌++◌, List, [], ◌∷◌, length, map, drop}
 use Rattle.std.proofs.Common.{slice_get, slice_index, Option, None, Some, true, refl, ap, sym}
 use Rattle.std.proofs.Common.{arith, length-append}
 use Rattle.std.proofs.lemmas.List.{map-append}
@@ -50,12 +50,6 @@ pub ends_moved : (L : LaidSchema) (a b : TailSeen) (xs : List (Option NamedPart)
     → AreThere L a.most a.bytes xs ends
     → ends_parts L b.bytes xs ends ≡ map (part_further (length b.bytes - length a.bytes)) (ends_parts L a.bytes xs ends)
 ends_moved L a b xs ends g there = rw (long_front a b g, g.grown) (all_moved L a.most g.front a.bytes xs ends there)
-
-pub take_whole : {A : Type 0} (k : ℕ) (xs : List A) → length xs ≤ k → take k xs ≡ xs
-take_whole zero [] h = refl
-take_whole (suc k) [] h = refl
-take_whole zero (x ∷ xs) h = absurd (omega (arith, h))
-take_whole (suc k) (x ∷ xs) h = ap (λ zs. x ∷ zs) (take_whole k xs (omega (arith, h)))
 
 -- ---- the elements of a vector
 

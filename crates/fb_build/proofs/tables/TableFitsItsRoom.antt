@@ -10,8 +10,8 @@ use Rattle.fb_value.specs.Room.{table_room}
 pub use Rattle.fb_tape.proofs.stored.StoredFieldsFit.{fields_fit}
 use Rattle.fb_tape.proofs.stored.StoredFieldsFit.{in_use}
 use Rattle.fb_build.specs.Fields.{IsSimple, StoredFits, is_stored, AreKnown, fields_size, stored_align, stored_room}
-use Rattle.fb_build.proofs.tail.WhatIsLaidStaysLaid.{power_max}
 use Rattle.fb_build.proofs.fields.AlignmentDividesTheSize.{simple_aligned}
+use Rattle.fb_layout.proofs.sizes.AlignmentsArePowersOfTwo.{max_aligned}
 
 -- ---- one slot
 
@@ -50,7 +50,7 @@ fields_narrow L t xs known narrow = omega (arith, fields_fit L (slots_of L t) xs
 
 max_one : (L : LaidSchema) (m : ℕ) (f : Slot) (x : Option Datum) → IsAlignment m → IsSimple L f.shape → (t : Bool)
     → IsAlignment (max m (if t then inline_align L f.shape else 0))
-max_one L m f x pm simple true = power_max m (inline_align L f.shape) pm (simple_aligned L f.shape simple)
+max_one L m f x pm simple true = max_aligned m (inline_align L f.shape) pm (simple_aligned L f.shape simple)
 max_one L m f x pm simple false = let same : max m 0 ≡ m = omega arith in rw same pm
 
 pub stored_aligned : (L : LaidSchema) (m : ℕ) (fs : List Slot) (xs : List (Option Datum)) → IsAlignment m

@@ -16,17 +16,20 @@ use Rattle.fb_value.specs.Rules.{is_missing, first_missing}
 use Rattle.fb_value.specs.Lies.{AbsentEntryBy, LiesBy, LiesAtBy, LiesSlotsBy}
 use Rattle.fb_value.specs.EachTable.{EachTableAt, EachEntry, IsOldTable}
 use Rattle.fb_value.specs.Tails.{from_end}
+use Rattle.fb_value.proofs.rules.UnusedSlotHasNoPlace.{no_place}
 use Rattle.fb_build.specs.Fields.{IsSimple, StoredFits, stored_here, stored_in, coded, code_in, next_code, sort_for}
 use Rattle.fb_build.specs.Fields.{is_stored, EntryEnd}
 use Rattle.fb_build.specs.CoveredTails.{IsTightInTail}
 use Rattle.fb_tape.specs.InlineBytes.{IsTightInline, EachInlineAt, EachInlineEntry}
 use Rattle.fb_build.specs.TableBytes.{offset_from}
 use Rattle.fb_build.proofs.fields.FieldHasItsValue.{default_known}
-use Rattle.fb_build.proofs.fields.SlotStoresItsEntry.{in_mapped}
 use Rattle.fb_build.specs.Paired.{ArePaired}
-use Rattle.fb_build.proofs.tables.CodeSlotHasNoEntry.{not_required, entry_from, EntryLies, no_place, stored_get}
-use Rattle.fb_build.proofs.tables.CodeSlotHasNoEntry.{next_is, got, no_code_entry, IsOwn, no_union, code_stored}
+use Rattle.fb_build.proofs.tables.CodeSlotHasNoEntry.{entry_from, EntryLies, stored_get}
+use Rattle.fb_build.proofs.tables.CodeSlotHasNoEntry.{next_is, no_code_entry, IsOwn, no_union, code_stored}
 use Rattle.fb_build.proofs.tables.CodeSlotHasNoEntry.{code_some, code_keeps}
+use Rattle.std.proofs.Math.Bool.{and-false}
+use Rattle.std.proofs.lemmas.Option.{slice_get_within}
+use Rattle.fb_tape.proofs.stored.SizesOfWhatIsStored.{got}
 
 module _ (L : LaidSchema) (low m : ℕ) (s : Bytes) (c : ℕ) (within : c ≤ length s) where
   unfoldable pub p : ℕ
@@ -135,7 +138,7 @@ module _ (L : LaidSchema) (low m : ℕ) (s : Bytes) (c : ℕ) (within : c ≤ le
       by_stored : (t : Bool) → is_stored f (Some d) ≡ t → is_missing s p k f ≡ false
       by_stored false out = rw (default_known f d out).0 refl
       by_stored true is = rw ((there k f d e h is).present, no_union f.shape own)
-          (not_required f.required)
+          (and-false f.required)
 
   -- ---- a union's code, and the value behind it
 
@@ -239,7 +242,7 @@ module _ (L : LaidSchema) (low m : ℕ) (s : Bytes) (c : ℕ) (within : c ≤ le
       let code = code_there j f u n e shape may.1 h in
       let now = there (suc j) g (a_member n d) e2 h2 refl in
       let back : suc j - 1 ≡ j = omega arith in
-      rw (now.present, back, code.present, value) (not_required g.required)
+      rw (now.present, back, code.present, value) (and-false g.required)
   value_kept j f g u _ e e2 shape value may fits h h2 = absurd (rw value at fits.1)
 
   -- ---- all slots
@@ -359,14 +362,14 @@ module _ (L : LaidSchema) (low m : ℕ) (s : Bytes) (c : ℕ) (within : c ≤ le
         by_shape (one_of (table_kind t)) is = own (one_of (table_kind t)) is tt refl
         by_shape (one_of (union_kind u)) is =
             let led = paired.led k f u fk is in
-            let front = got xs led.0 (omega (arith, in_mapped fs led.0 led.1 led.3, long)) in
+            let front = got xs led.0 (omega (arith, slice_get_within fs led.0 led.1 led.3, long)) in
             subst (λ (i : ℕ). slice_get fs i ≡ Some f → slice_get xs i ≡ Some x
             → SlotLies i f (drop (suc i) fs) x) (sym led.2)
             (λ a b. value_slot led.0 led.1 f front.0 x u led.4 is led.3 a front.1 b
             (fits led.0 led.1 front.0 led.3 front.1)) fk xk
         by_shape (one_of (code_kind u)) is =
             let pair = paired.followed k f u fk is in
-            let behind = got xs (suc k) (omega (arith, in_mapped fs (suc k) pair.0 pair.1, long)) in
+            let behind = got xs (suc k) (omega (arith, slice_get_within fs (suc k) pair.0 pair.1, long)) in
             code_slot k f pair.0 x behind.0 u is pair.2 fk pair.1 xk behind.1 (fits k f x fk xk)
         by_shape (one_of text_kind) is = own (one_of text_kind) is tt refl
         by_shape (vector_of kind) is = own (vector_of kind) is tt refl

@@ -1,10 +1,10 @@
 -- A table that was laid has no slack.
-use Rattle.std.proofs.Common.{◌≡◌, ◌≢◌, ℕ, zero, suc, ◌+◌, ◌-◌, ◌*◌, ◌^◌, ◌<◌, ◌≤◌, ◌⊎◌, inl, inr, ◌++◌, Bool, true}
-use Rattle.std.proofs.Common.{false, not, ◌&&◌, ◌||◌, nat_lt, List, length, replicate, slice_get, slice_index, Option}
+use Rattle.std.proofs.Common.{◌≡◌, ◌≢◌, ℕ, zero, suc, ◌+◌, ◌-◌, ◌*◌, ◌^◌, ◌<◌, ◌≤◌, ◌⊎◌, inl, inr, ◌++◌, true}
+use Rattle.std.proofs.Common.{false, not, ◌&&◌, nat_lt, List, length, replicate, slice_get, slice_index, Option}
 use Rattle.std.proofs.Common.{None, Some, pos, refl, ap, sym, ◌∙◌, subst, arith, length-append}
 use Rattle.std.specs.Prelude.{ℤ}
 use Rattle.std.specs.Ordering.{int_eq}
-use Rattle.std.proofs.lemmas.Bool.{false≢true, and_from, le-leb, lt-ltb, ltb-false}
+use Rattle.std.proofs.lemmas.Bool.{false≢true, and_from, or_parts, le-leb, lt-ltb, ltb-false}
 use Rattle.std.proofs.lemmas.Bool.Decides.{Decides-int_eq}
 use Rattle.std.proofs.lemmas.List.{get_or-append_right}
 use Rattle.fb_schema.specs.declared.kinds.Base.{Base}
@@ -30,14 +30,14 @@ use Rattle.fb_build.specs.Stored.{stored_number, EndsWithAField, PadsTableWithZe
 use Rattle.fb_build.specs.TableBytes.{offset_from}
 use Rattle.fb_build.specs.Tails.{TailSeen, Grows}
 use Rattle.fb_tape.specs.Taken.{is_within}
-use Rattle.fb_build.proofs.tail.WhatIsLaidStaysLaid.{lower}
-use Rattle.fb_build.proofs.fields.SlotStoresItsEntry.{in_mapped}
 use Rattle.fb_build.proofs.vtables.VtableHasTheStoredFields.{TellsStored, stored_size, stored_greatest, in_stored}
 use Rattle.fb_build.proofs.vtables.VtableHasTheStoredFields.{IsNoDefault, none_default, StandsInside, TheyStandApart}
 use Rattle.fb_build.proofs.vtables.VtableHasTheStoredFields.{all_apart, all_bits, number_at, tells_stored}
 use Rattle.fb_build.proofs.structs.StructPaddingIsZero.{zeros_read}
-use Rattle.fb_build.proofs.tables.CodeSlotHasNoEntry.{got}
 use Rattle.fb_build.proofs.tail.PaddingIsZero.{zeros_long}
+use Rattle.std.proofs.lemmas.Option.{slice_get_within}
+use Rattle.fb_layout.proofs.sizes.AlignmentsArePowersOfTwo.{lower}
+use Rattle.fb_tape.proofs.stored.SizesOfWhatIsStored.{got}
 
 -- what is read of the table at p and of its vtable, where its slots have these end-counts
 pub record TableRead (b : Bytes) (p c size u : ℕ) (ends : List ℕ) : Type 0 where
@@ -103,10 +103,6 @@ no_scalar : (f : Slot) (shape : StoredShape) (n : ℤ) → f.shape ≡ shape
     → ((base : Base) → shape ≡ one_of (scalar_kind base) → ⊥) → HasDefault f → ⊥
 no_scalar f shape n is not_one h = not_one h.base (sym is ∙ h.scalar)
 
-or_false : (a b : Bool) → (a || b) ≡ false → (a ≡ false) × (b ≡ false)
-or_false true b e = cc
-or_false false b e = (refl, e)
-
 module _ (L : LaidSchema) (t low m c size u count : ℕ) (s : Bytes) (xs : List (Option Datum)) (ends : List ℕ)
     (within : c ≤ length s) (read : TableRead s (length s - c) c size u ends) (known : AreKnown L (slots_of L t) xs)
     (state : EntriesEnd L low m s (λ k f. true) (slots_of L t) xs ends) (under : (k : ℕ)
@@ -150,7 +146,7 @@ module _ (L : LaidSchema) (t low m c size u count : ℕ) (s : Bytes) (xs : List 
       p = length s - c
 
       parts : (nat_lt i 4 ≡ false) × (is_in_field L (stored_of L s t (length s - c)) i ≡ false)
-      parts = or_false _ _ free
+      parts = or_parts _ _ free
 
       below : i < size
       below = omega (arith, read.second, low_i)
@@ -223,7 +219,7 @@ module _ (L : LaidSchema) (t low m c size u count : ℕ) (s : Bytes) (xs : List 
 
   told_bit : (k : ℕ) (f : Slot) → slice_get (slots_of L t) k ≡ Some f → is_present s (length s - c) k ≡ true
       → HoldsBit s ((length s - c) + slot_number s (length s - c) k) f.shape
-  told_bit k f fk there = by_entry (got xs k (omega (arith, in_mapped (slots_of L t) k f fk, known.long)))
+  told_bit k f fk there = by_entry (got xs k (omega (arith, slice_get_within (slots_of L t) k f fk, known.long)))
     where
       by_shape : (shape : StoredShape) (d : Datum)
           → EachInlineAt L s (IsTightInline L s) (sort_for shape d) (length s - slice_index ends k) d
@@ -248,7 +244,7 @@ module _ (L : LaidSchema) (t low m c size u count : ℕ) (s : Bytes) (xs : List 
 
   told_number : (k : ℕ) (f : Slot) → slice_get (slots_of L t) k ≡ Some f → is_present s (length s - c) k ≡ true
       → IsNoDefault s (length s - c) f (slot_number s (length s - c) k)
-  told_number k f fk there = by_entry (got xs k (omega (arith, in_mapped (slots_of L t) k f fk, known.long)))
+  told_number k f fk there = by_entry (got xs k (omega (arith, slice_get_within (slots_of L t) k f fk, known.long)))
     where
       by_entry : (x : Option Datum) × (slice_get xs k ≡ Some x)
           → IsNoDefault s (length s - c) f (slot_number s (length s - c) k)
@@ -266,7 +262,7 @@ module _ (L : LaidSchema) (t low m c size u count : ℕ) (s : Bytes) (xs : List 
   the_laid : (k : ℕ) (f : Slot) → slice_get (slots_of L t) k ≡ Some f → is_present s (length s - c) k ≡ true
       → TheLaid k f
   the_laid k f fk there =
-      let x = got xs k (omega (arith, in_mapped (slots_of L t) k f fk, known.long)) in
+      let x = got xs k (omega (arith, slice_get_within (slots_of L t) k f fk, known.long)) in
       let is = sym (there_at k f x.0 fk x.1) ∙ there in
       record {
         entry = x.0;

@@ -8,18 +8,21 @@ use Rattle.fb_value.specs.Entries.{EntryFits}
 use Rattle.fb_value.specs.Num.{Bytes}
 use Rattle.fb_value.specs.Places.{Target, member_part, ref_place, Place, slot_number, code_at, named_slot, named_slots}
 use Rattle.fb_value.specs.View.{entries_in}
+use Rattle.fb_value.proofs.rules.UnusedSlotHasNoPlace.{no_place}
 use Rattle.fb_build.specs.Fields.{is_stored, stored_here, stored_in, next_code, code_in, coded, target_for, sort_for}
 use Rattle.fb_build.specs.Fields.{ref_or}
 use Rattle.fb_build.specs.Paired.{ArePaired}
 use Rattle.fb_build.specs.Pieces.{PartAt, reached, reached_named, reached_entries}
 use Rattle.fb_build.specs.Made.{LeadsTo, FieldLeads, named_of, named_stored, named_fields, parts_at, ends_parts}
-use Rattle.fb_build.proofs.fields.SlotStoresItsEntry.{in_mapped}
-use Rattle.fb_build.proofs.tables.CodeSlotHasNoEntry.{no_place, no_code_entry, got, stored_get, IsOwn}
+use Rattle.fb_build.proofs.tables.CodeSlotHasNoEntry.{no_code_entry, stored_get, IsOwn}
 use Rattle.fb_build.proofs.tables.TableHasItsFields.{p, SlotKnown}
 use Rattle.fb_build.proofs.tables.TableHasItsFields.{place_of, something_there, nothing_there, empty, stored_number}
 use Rattle.fb_build.proofs.tables.TableHasItsFields.{there, code_there, value_known, code_known}
 use Rattle.fb_build.proofs.tables.EndsNameTheParts.{first_dropped}
 use Rattle.fb_build.proofs.tables.EachSlotAddsItsParts.{nothing_named, target_is_stored}
+use Rattle.std.proofs.lemmas.Option.{slice_get_within}
+use Rattle.std.proofs.lemmas.Bool.{both_ways}
+use Rattle.fb_tape.proofs.stored.SizesOfWhatIsStored.{got}
 
 -- what an entry reaches at a place
 abbrev pub entry_reached : LaidSchema → Bytes → Option Place → Option Datum → List PartAt
@@ -44,10 +47,6 @@ names_nothing : (L : LaidSchema) (s : Bytes) (X : Option Target) (d : Datum) (t 
     → parts_at L s (option_map (λ Y. record { target = Y; value = d }) X) t ≡ []
 names_nothing L s None d t none = refl
 names_nothing L s (Some X) d t none = absurd (none X refl)
-
-true_or_false : (b : Bool) → b ≡ true → b ≡ false → ⊥
-true_or_false true h g = cc
-true_or_false false h g = cc
 
 module _ (L : LaidSchema) (low m : ℕ) (s : Bytes) (c : ℕ) (within : c ≤ length s) where
   at_end : (k : ℕ) (f : Slot) (d : Datum) (e : ℕ) → SlotKnown L low m s c within k f (Some d) e
@@ -79,7 +78,7 @@ module _ (L : LaidSchema) (low m : ℕ) (s : Bytes) (c : ℕ) (within : c ≤ le
           no_place f.deprecated _ (nothing_there L low m s c within k fs f.shape own
           (empty L low m s c within k f (Some d) e h out)) in
           rw place (sym (names_nothing L s (target_for f.shape d) d t
-          (λ X is. true_or_false _ (target_is_stored L f d X h.fits.1 is) out)))
+          (λ X is. both_ways _ out (target_is_stored L f d X h.fits.1 is))))
 
   -- a union's value
   value_reached : (j : ℕ) (f g : Slot) (fs : List Slot) (u : ℕ) (d : Datum) (e e2 t : ℕ)
@@ -194,7 +193,7 @@ module _ (L : LaidSchema) (low m : ℕ) (s : Bytes) (c : ℕ) (within : c ≤ le
         by_shape (one_of (table_kind t)) is = own (one_of (table_kind t)) is tt refl
         by_shape (one_of (union_kind u)) is =
             let led = paired.led k f u fk is in
-            let front = got xs led.0 (omega (arith, in_mapped fs led.0 led.1 led.3, long)) in
+            let front = got xs led.0 (omega (arith, slice_get_within fs led.0 led.1 led.3, long)) in
             let stored : stored_here f.shape (next_code (drop (suc k) xs)) (Some d) ≡ Some d =
             ap (λ z. stored_here z (next_code (drop (suc k) xs)) (Some d)) is in
             let lead : FieldLeads s true f (Some d) (slice_index targets k) (slice_index ends k) =

@@ -1,5 +1,5 @@
 -- The bytes of numbers and structs, once they are laid.
-use Rattle.std.proofs.Common.{◌≡◌, ℕ, suc, ◌+◌, ◌-◌, ◌*◌, ◌≤◌, ◌++◌, true, false, List, [], ◌∷◌, length, refl, ap}
+use Rattle.std.proofs.Common.{◌≡◌, ℕ, ◌+◌, ◌-◌, ◌*◌, ◌≤◌, ◌++◌, true, false, List, [], ◌∷◌, length, refl, ap}
 use Rattle.std.proofs.Common.{sym, ◌∙◌}
 use Rattle.std.proofs.Common.{arith, append_assoc, length-append}
 use Rattle.std.proofs.lemmas.Bool.{le-leb, and_from}
@@ -21,6 +21,7 @@ use Rattle.fb_build.specs.Tails.{TailSeen, Grows, LaidInTail}
 use Rattle.fb_build.proofs.tail.MultiplesAdd.{sum_divides, times_divides}
 use Rattle.fb_build.proofs.tail.WhatIsLaidStaysLaid.{self_divides}
 use Rattle.fb_build.proofs.vectors.VectorHasItsElements.{element_padded, one_more}
+use Rattle.fb_tape.proofs.stored.SizesOfWhatIsStored.{elements_long}
 
 -- a number or a struct
 pub inline_laid : (L : LaidSchema) (m : ℕ) (s own : Bytes) (kind : StoredKind) (d : Datum) → AreInlineBytes L kind d own
@@ -72,17 +73,6 @@ element_sort L (struct_kind s) d el is = refl
 element_sort L (table_kind t) d el is = cc
 element_sort L text_kind d el is = cc
 element_sort L _ d el is = absurd el
-
--- the elements of a vector
-pub elements_long : (L : LaidSchema) (kind : StoredKind) (ds : List Datum) (bytes : Bytes)
-    → AreElementBytes L kind ds bytes → length bytes ≡ length ds * size_of L kind
-elements_long L kind [] bytes is = omega (arith, ap length is)
-elements_long L kind (d ∷ ds) bytes is =
-    let whole = ap length is.bytes_are in
-    let parts = length-append is.own is.behind in
-    let rest = elements_long L kind ds is.behind is.rest in
-    let more : suc (length ds) * size_of L kind ≡ size_of L kind + length ds * size_of L kind = omega arith in
-    omega (arith, whole, parts, rest, is.inline.long, more)
 
 pub elements_end : (L : LaidSchema) (kind : StoredKind) (ds : List Datum) (bytes : Bytes) (p : TailSeen)
     → IsElement L kind → is_reference (one_of kind) ≡ false → AreElementBytes L kind ds bytes

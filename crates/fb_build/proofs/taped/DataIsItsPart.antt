@@ -1,13 +1,15 @@
 -- A text, or a vector of numbers or structs, once its bytes are laid.
-use Rattle.std.proofs.Common.{◌≡◌, ℕ, ◌+◌, ◌-◌, ◌*◌, ◌%◌, ◌^◌, ◌<◌, ◌≤◌, ◌++◌, Bool, true, false, max, List, []}
+use Rattle.std.proofs.Common.{◌≡◌, ℕ, ◌+◌, ◌-◌, ◌*◌, ◌%◌, ◌^◌, ◌<◌, ◌≤◌, ◌++◌, true, max, List, []}
 use Rattle.std.proofs.Common.{◌∷◌, length, replicate}
 use Rattle.std.proofs.Common.{refl, ap, sym, ◌∙◌, subst, inl, inr, arith, append_assoc, length-append}
-use Rattle.std.proofs.lemmas.Bool.{eq-eqb}
+use Rattle.std.proofs.lemmas.Bool.{eq-eqb, both_ways}
+use Rattle.std.proofs.Math.Nat.{mul-le-mul_right}
 use Rattle.byteorder.specs.Endian.{little_bytes}
 use Rattle.byteorder.specs.Numbers.{length-bytes_low_first}
 use Rattle.fb_layout.specs.Laid.{LaidSchema, size_of, align_of}
 use Rattle.fb_value.specs.Num.{Bytes, num, divides}
 use Rattle.fb_value.specs.Places.{part_place, text_part}
+use Rattle.fb_value.specs.Bounds.{most_bytes}
 use Rattle.fb_value.proofs.tails.TailsAreKeptInFront.{through}
 use Rattle.fb_tape.specs.NamedParts.{NamedPart}
 use Rattle.fb_tape.specs.Tapes.{IsData, IsTextData, IsVectorData}
@@ -17,12 +19,13 @@ use Rattle.fb_build.specs.Pieces.{PartAt}
 use Rattle.fb_build.specs.Tails.{TailSeen, LaidInTail}
 use Rattle.fb_build.proofs.covered.PartAddsItself.{part_laid}
 use Rattle.fb_build.proofs.covered.PartsStayAsLaid.{text_stays}
-use Rattle.fb_build.proofs.numbers.NumberReadsBack.{num_first}
 use Rattle.fb_build.proofs.tail.WhatIsLaidStaysLaid.{self_divides}
-use Rattle.fb_build.proofs.taped.BytesOfAValueLieInATail.{elements_end, elements_long}
+use Rattle.fb_build.proofs.taped.BytesOfAValueLieInATail.{elements_end}
 use Rattle.fb_build.proofs.texts.TextFollowsItsCount.{text_end}
 use Rattle.fb_build.proofs.vectors.ClosedVectorHasItsElements.{IsClosed, closed_lies, closed_adds, closed_alone}
-use Rattle.fb_build.proofs.vectors.VectorHasItsElements.{element_padded, without_items, times_least}
+use Rattle.fb_build.proofs.vectors.VectorHasItsElements.{element_padded, without_items}
+use Rattle.fb_value.proofs.numbers.BytesSumToTheirNumber.{num_first}
+use Rattle.fb_tape.proofs.stored.SizesOfWhatIsStored.{elements_long}
 
 -- Zeros and the bytes were laid: from o to p and to b.
 pub record IsDataLaid (align zeros : ℕ) (bytes : Bytes) (o p b : TailSeen) : Type 0 where
@@ -34,7 +37,7 @@ pub record IsDataLaid (align zeros : ℕ) (bytes : Bytes) (o p b : TailSeen) : T
   pub laid : b.bytes ≡ bytes ++ p.bytes
   pub free : b.free + length bytes ≡ p.free
   pub most : b.most ≡ p.most
-  pub short : length bytes ≤ 2147483647
+  pub short : length bytes ≤ most_bytes
 
 module _ (L : LaidSchema) (part : NamedPart) (align zeros : ℕ) (bytes : Bytes) (o p b : TailSeen)
     (c : IsDataLaid align zeros bytes o p b) (d : IsTextData part align bytes) where
@@ -112,7 +115,7 @@ module _ (L : LaidSchema) (part : NamedPart) (align zeros : ℕ) (bytes : Bytes)
       rw (← d.align_is, ← behind) c.multiple in
       let whole : divides (max 4 (align_of L d.kind)) (length p.bytes + n * z) ≡ true = eq-eqb _ _ multiple in
       let wide : divides (max 4 (align_of L d.kind)) p.most ≡ true = rw (← d.align_is) c.wide in
-      let least = times_least 1 z n padded.some in
+      let least = mul-le-mul_right {m = 1} {n = z} n padded.some in
       let swap : z * n ≡ n * z = omega arith in
       let parts = length-append d.element_bytes p.bytes in
       let four = length-bytes_low_first 0 4 n in
@@ -148,18 +151,14 @@ module _ (L : LaidSchema) (part : NamedPart) (align zeros : ℕ) (bytes : Bytes)
       }
 
   vector_lies : LaidInTail L b.most b.bytes (part_place part.target) (length b.bytes) part.value
-  vector_lies = rw d.part_is (closed_lies _ _ _ _ _ _ _ _ vector_closed)
+  vector_lies = rw d.part_is (closed_lies vector_closed)
 
   vector_adds : (places : List ℕ) → Adds L o places b places
       (parts_in_tail L b.bytes part.target (length b.bytes) part.value)
   vector_adds places =
-      let alone = closed_alone _ _ _ _ _ _ _ _ vector_closed (λ is. absurd (no_both _ is d.inline)) in
+      let alone = closed_alone vector_closed (λ is. absurd (both_ways _ d.inline is)) in
       rw d.part_is (subst (λ (ps : List PartAt). Adds L o places b places ps) (sym alone)
-      (closed_adds _ _ _ _ _ _ _ _ vector_closed places))
-    where
-      no_both : (t : Bool) → t ≡ true → t ≡ false → ⊥
-      no_both true a b = cc
-      no_both false a b = cc
+      (closed_adds vector_closed places))
 
 pub data_lies : (L : LaidSchema) (part : NamedPart) (align zeros : ℕ) (bytes : Bytes) (o p b : TailSeen)
     → IsDataLaid align zeros bytes o p b → IsData L part align bytes

@@ -1,19 +1,19 @@
 -- The fields that a tape notes of a table, one laid after the other.
-use Rattle.std.proofs.Common.{◌≡◌, ℕ, suc, ◌+◌, ◌-◌, ◌<◌, ◌≤◌, ◌++◌, Bool, true, false, ◌&&◌, List, [], ◌∷◌, length}
+use Rattle.std.proofs.Common.{◌≡◌, ℕ, ◌+◌, ◌-◌, ◌<◌, ◌≤◌, ◌++◌, Bool, true, false, ◌&&◌, List, [], ◌∷◌, length}
 use Rattle.std.proofs.Common.{take, drop}
 use Rattle.std.proofs.Common.{slice_get, slice_index, slice_set, Option, None, Some, refl, ap, sym, ◌∙◌}
 use Rattle.std.proofs.Common.{arith, length-append}
 use Rattle.std.proofs.lemmas.Option.{slice_get_within}
-use Rattle.std.proofs.Common.{inl, inr, zero, length-drop}
-use Rattle.fb_build.proofs.tables.EndsNameTheParts.{take_whole}
+use Rattle.std.proofs.Common.{inl, inr}
 use Rattle.fb_build.proofs.tables.TableFitsItsRoom.{stored_aligned}
 use Rattle.fb_build.specs.NotesLaid.{AreToBeLaid}
-use Rattle.fb_build.proofs.tail.WhatIsLaidStaysLaid.{four_power}
 use Rattle.std.proofs.Math.Seq.{drop-append_seam, take-append_seam}
+use Rattle.std.proofs.lemmas.Bool.{both_ways}
 use Rattle.fb_layout.specs.Laid.{LaidSchema, Slot, StoredShape, scalar_kind, struct_kind, table_kind, union_kind}
 use Rattle.fb_layout.specs.Laid.{code_kind, text_kind, one_of, vector_of}
 use Rattle.fb_layout.specs.Sizes.{IsAlignment}
 use Rattle.fb_layout.specs.Widths.{inline_size, inline_align}
+use Rattle.fb_layout.proofs.sizes.AlignmentsArePowersOfTwo.{four_aligned}
 use Rattle.fb_value.specs.Datum.{Datum}
 use Rattle.fb_value.specs.Num.{Bytes, divides}
 use Rattle.fb_value.specs.Places.{part_place}
@@ -38,6 +38,7 @@ use Rattle.fb_build.proofs.tail.MultiplesAdd.{sum_divides}
 use Rattle.fb_build.proofs.tail.WhatIsLaidStaysLaid.{power_divides, grown_long}
 use Rattle.fb_build.proofs.taped.BytesOfAValueLieInATail.{inline_laid, inline_sort, inline_aligned, inline_sized}
 use Rattle.fb_build.proofs.taped.SlotsAreInLayingOrder.{AreNext, first_link, links_next}
+use Rattle.fb_tape.proofs.stored.SizesOfWhatIsStored.{reference_size}
 
 -- The fields of the slots `left` are still to be laid, with these notes, bytes and end-counts.
 pub record AreLaidSoFar (L : LaidSchema) (fs : List Slot) (xs : List (Option Datum)) (targets : List ℕ) (start : ℕ)
@@ -67,10 +68,6 @@ pub record IsNoteNext (L : LaidSchema) (fs : List Slot) (xs : List (Option Datum
   pub first : is_reference field.shape ≡ true → 0 < length ends
   pub room : length o.bytes + inline_size L field.shape ≤ start + fields_size L fs xs
 
-no_both : (b : Bool) → b ≡ true → b ≡ false → ⊥
-no_both true p q = cc
-no_both false p q = cc
-
 inline_leads : (shape : StoredShape) (d : Datum) → is_reference shape ≡ false → target_for shape d ≡ None
 inline_leads (one_of (scalar_kind b)) d is = refl
 inline_leads (one_of (struct_kind s)) d is = refl
@@ -84,19 +81,12 @@ pub size_noted : (L : LaidSchema) (f : Slot) (d : Datum) (note : NotedField) (ow
 size_noted L f d Reference own four is = sym (four is.0)
 size_noted L f d (Inline n) own four is = is.1 ∙ is.2.long ∙ sym (inline_sized L f.shape is.0)
 
-pub four_bytes : (L : LaidSchema) (shape : StoredShape) → is_reference shape ≡ true → inline_size L shape ≡ 4
-four_bytes L (one_of (table_kind t)) is = refl
-four_bytes L (one_of (union_kind u)) is = refl
-four_bytes L (one_of text_kind) is = refl
-four_bytes L (vector_of kind) is = refl
-four_bytes L _ is = cc
-
-pub four_aligned : (L : LaidSchema) (shape : StoredShape) → is_reference shape ≡ true → inline_align L shape ≡ 4
-four_aligned L (one_of (table_kind t)) is = refl
-four_aligned L (one_of (union_kind u)) is = refl
-four_aligned L (one_of text_kind) is = refl
-four_aligned L (vector_of kind) is = refl
-four_aligned L _ is = cc
+pub reference_aligned : (L : LaidSchema) (shape : StoredShape) → is_reference shape ≡ true → inline_align L shape ≡ 4
+reference_aligned L (one_of (table_kind t)) is = refl
+reference_aligned L (one_of (union_kind u)) is = refl
+reference_aligned L (one_of text_kind) is = refl
+reference_aligned L (vector_of kind) is = refl
+reference_aligned L _ is = cc
 
 module _ (L : LaidSchema) (fs : List Slot) (xs : List (Option Datum)) (known : AreKnown L fs xs) (start : ℕ)
     (o : TailSeen) (bytes : Bytes) (ends : List ℕ) (wide : (k : ℕ) (f : Slot) (x : Option Datum)
@@ -108,18 +98,18 @@ module _ (L : LaidSchema) (fs : List Slot) (xs : List (Option Datum)) (known : A
   may_lay Reference n =
       let reference = n.noted.0 in
       let fits = (known.each n.slot n.field (Some n.value) n.is n.has).1 in
-      let four = four_aligned L n.field.shape reference in
+      let four = reference_aligned L n.field.shape reference in
       record {
         some = n.first reference;
         inside = target_inside L o.most o.bytes n.field.shape n.value (slice_index ends 0) reference fits.1 n.target;
-        room = omega (arith, four_bytes L n.field.shape reference, n.room, room);
+        room = omega (arith, reference_size L n.field.shape reference, n.room, room);
         whole = rw four at n.whole;
         wide = rw four at (wide n.slot n.field (Some n.value) n.is n.has n.stored);
       }
   may_lay (Inline size) n =
       let long = ap length n.bytes_are in
       let parts = length-append n.own n.behind in
-      let all = size_noted L n.field n.value (Inline size) n.own (four_bytes L n.field.shape) n.noted in
+      let all = size_noted L n.field n.value (Inline size) n.own (reference_size L n.field.shape) n.noted in
       (omega (arith, long, parts, n.noted.1), omega (arith, all, n.room, room))
 
 -- the value of a field that was laid
@@ -186,7 +176,7 @@ module _ (L : LaidSchema) (fs : List Slot) (xs : List (Option Datum)) (targets :
       let long = ap length refs.is in
       (rw first there, λ _. omega (arith, long), λ _. sym first)
   target_by (Inline n) k ks f d own is refs there =
-      (rw (inline_leads f.shape d is.0) tt, λ yes. absurd (no_both _ yes is.0), λ yes. absurd (no_both _ yes is.0))
+      (rw (inline_leads f.shape d is.0) tt, λ yes. absurd (both_ways _ is.0 yes), λ yes. absurd (both_ways _ is.0 yes))
 
   found : (left slot_ends : List ℕ) (upto : AreLaidUpTo L o fs xs start targets slot_ends (first_link left))
       → AreNoted L fs xs left (note ∷ notes) bytes → AreReferences (note ∷ notes) left targets ends
@@ -275,7 +265,7 @@ module _ (L : LaidSchema) (fs : List Slot) (xs : List (Option Datum)) (known : A
       let notes_is : noted.notes_behind ≡ notes = (let both = noted.notes_are in cc) in
       let is : IsNoted L f d note noted.own = rw note_is at noted.noted in
       let n = named L upto.laid fs xs (k + 1) k f (Some d) upto.next refl noted.is noted.has in
-      let size = size_noted L f d note noted.own (four_bytes L f.shape) is in
+      let size = size_noted L f d note noted.own (reference_size L f.shape) is in
       let now : b.free + inline_size L f.shape ≡ a.free = omega (arith, free, size) in
       let grown = grown_long a b g in
       let long : length b.bytes ≡ length a.bytes + inline_size L f.shape = omega (arith, grown, now) in
@@ -351,7 +341,7 @@ pub to_be_aligned : (L : LaidSchema) (fs : List Slot) (xs : List (Option Datum))
     (notes : List NotedField) (bytes : Bytes) (ends : List ℕ) (o : TailSeen)
     → AreToBeLaid L fs xs targets align notes bytes ends o → IsAlignment align
 to_be_aligned L fs xs targets align notes bytes ends o is =
-    rw is.align_is (stored_aligned L 4 fs xs four_power is.known.each)
+    rw is.align_is (stored_aligned L 4 fs xs four_aligned is.known.each)
 
 module _ (L : LaidSchema) (fs : List Slot) (xs : List (Option Datum)) (targets : List ℕ) (align zeros start : ℕ)
     (notes : List NotedField) (bytes : Bytes) (ends : List ℕ) (o p out : TailSeen)
@@ -375,12 +365,3 @@ module _ (L : LaidSchema) (fs : List Slot) (xs : List (Option Datum)) (targets :
       may_lay L fs xs is.known start out bytes_left ends_left fields_wide
       (omega (arith, grown, begin, padded, exact, is.room)) note
       (note_next L fs xs targets start out note notes_left bytes_left ends_left h)
-
-pub all_left : {A : Type 0} (xs : List A) (n : ℕ) → take (length xs - n) (drop n xs) ≡ drop n xs
-all_left xs n = take_whole (length xs - n) (drop n xs) (omega (arith, length-drop n xs))
-
-pub none_left : {A : Type 0} (xs : List A) (n : ℕ) → length xs ≤ n → drop n xs ≡ []
-none_left [] zero h = refl
-none_left [] (suc n) h = refl
-none_left (x ∷ xs) zero h = absurd (omega (arith, h))
-none_left (x ∷ xs) (suc n) h = none_left xs n (omega (arith, h))

@@ -2,6 +2,7 @@
 use Rattle.std.proofs.Common.{◌≡◌, ℕ, zero, suc, ◌⊎◌, inl, inr, ◌++◌, Bool, true, false, if◌then◌else◌}
 use Rattle.std.proofs.Common.{List, [], ◌∷◌, length, drop, slice_get, slice_index, Option, None, Some, refl, ap}
 use Rattle.std.proofs.Common.{sym, ◌∙◌, arith}
+use Rattle.std.proofs.lemmas.Bool.{both_ways}
 use Rattle.fb_layout.specs.Laid.{LaidSchema, Slot, StoredShape, scalar_kind, struct_kind, table_kind, union_kind}
 use Rattle.fb_layout.specs.Laid.{code_kind, text_kind, one_of, vector_of}
 use Rattle.fb_value.specs.Datum.{Datum, a_number, a_text, a_vector, a_struct, a_table, a_member, an_unknown}
@@ -16,10 +17,6 @@ use Rattle.fb_build.specs.Made.{ends_parts, named_of, named_stored, named_fields
 use Rattle.fb_build.specs.Tails.{LaidInTail}
 use Rattle.fb_build.specs.Waiting.{all_of}
 use Rattle.fb_build.proofs.tables.EndsNameTheParts.{first_dropped}
-
-no_both : (b : Bool) → b ≡ true → b ≡ false → ⊥
-no_both true p q = cc
-no_both false p q = cc
 
 -- ---- what is behind the reference of a slot
 
@@ -207,7 +204,7 @@ entry_there L m s f x z e (no_part none out named leads) zero_is there = record 
     by_entry (Some d) is leads = rw (leads d refl) tt
 entry_there L m s f x z e (one_part part d X is refer has leads stored lies parts) zero_is there = record {
   stored = λ _. (rw (has, leads) (lies m s e (there part is)));
-  absent = λ out. absurd (no_both (is_stored f z) stored out);
+  absent = λ out. absurd (both_ways (is_stored f z) out stored);
 }
 
 pub spread_state : (L : LaidSchema) (m : ℕ) (s : Bytes) (fs : List Slot) (xs : List (Option Datum)) (es : List ℕ)
@@ -231,7 +228,7 @@ spread_state L m s (g ∷ fs) (x ∷ xs) es fit lie k f z fk zk =
           (λ j p at. rw (first_dropped es j) (lie (suc j) p (rw is at))) in
           rw refer (by_slot k f z (slice_index es 0 ∷ spread fs (stored_in fs xs) (drop 1 es)) fk zk
           (entry_there L m s g x y (slice_index es 0) (one_part part d X is refer has leads stored lies same) (λ
-          out. absurd (no_both (refers g y) refer out))
+          out. absurd (both_ways (refers g y) out refer))
           (λ p at. lie 0 p (rw at refl))) rest))
     ]
   where

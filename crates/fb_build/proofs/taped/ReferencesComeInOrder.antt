@@ -3,7 +3,7 @@ use Rattle.std.proofs.Common.{◌≡◌, ℕ, suc, ◌+◌, ◌++◌, Bool, true
 use Rattle.std.proofs.Common.{List, [], ◌∷◌, length, drop, slice_get, slice_index, Option, None, Some, refl, ap}
 use Rattle.std.proofs.Common.{sym, ◌∙◌, arith}
 use Rattle.std.proofs.Common.{append-nil}
-use Rattle.std.proofs.lemmas.Bool.{and_parts, eqb-true}
+use Rattle.std.proofs.lemmas.Bool.{and_parts, eqb-true, both_ways}
 use Rattle.fb_layout.specs.Laid.{LaidSchema, Slot}
 use Rattle.fb_layout.specs.Widths.{inline_align}
 use Rattle.fb_value.specs.Datum.{Datum}
@@ -15,13 +15,9 @@ use Rattle.fb_tape.specs.declared.ops.NotedField.TheVariants.{Reference, Inline}
 use Rattle.fb_build.specs.Fields.{StoredFits, is_stored, is_reference}
 use Rattle.fb_build.specs.Fields.{is_at}
 use Rattle.fb_build.specs.NotesLaid.{AreReferences}
-use Rattle.fb_build.proofs.taped.NotedFieldsAreLaidInTurn.{four_aligned}
+use Rattle.fb_build.proofs.taped.NotedFieldsAreLaidInTurn.{reference_aligned}
 use Rattle.fb_build.proofs.taped.PartsOfATable.{refers, spread, refer_count, AllFit, shape_parts, in_place}
 use Rattle.fb_build.proofs.taped.PartsOfATable.{behind}
-
-no_both : (b : Bool) → b ≡ true → b ≡ false → ⊥
-no_both true p q = cc
-no_both false p q = cc
 
 -- ---- in the order of laying references come in the order of slots
 
@@ -74,13 +70,13 @@ ends_join fs zs targets (k ∷ ks) js =
 
 refers_aligned : (L : LaidSchema) (f : Slot) (z : Option Datum) → refers f z ≡ true → inline_align L f.shape ≡ 4
 refers_aligned L f None is = cc
-refers_aligned L f (Some d) is = four_aligned L f.shape is
+refers_aligned L f (Some d) is = reference_aligned L f.shape is
 
 refers_stored : (L : LaidSchema) (f : Slot) (z : Option Datum) → StoredFits L f z → refers f z ≡ true
     → is_stored f z ≡ true
 refers_stored L f None fits is = cc
 refers_stored L f (Some d) fits is = elim (shape_parts L f.shape d fits.1) [
-  | in_place none inline leads ↦ absurd (no_both (is_reference f.shape) is inline)
+  | in_place none inline leads ↦ absurd (both_ways (is_reference f.shape) inline is)
   | behind part X at reference leads stored lies parts ↦ stored f
 ]
 

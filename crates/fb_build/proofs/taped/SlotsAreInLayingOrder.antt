@@ -2,7 +2,7 @@
 use Rattle.std.proofs.Common.{◌≡◌, ℕ, suc, ◌+◌, ◌-◌, ◌^◌, ◌<◌, ◌⊎◌, ◌++◌, inl, inr, Bool, true, false, cond}
 use Rattle.std.proofs.Common.{◌==◌, nat_lt, nat_le, List, [], ◌∷◌, slice_get, Option, None, Some, refl, sym, ◌∙◌}
 use Rattle.std.proofs.Common.{arith, if◌then◌else◌}
-use Rattle.std.proofs.lemmas.Bool.{lt-ltb, le-leb, and_parts, eqb-true}
+use Rattle.std.proofs.lemmas.Bool.{lt-ltb, le-leb, and_parts, eqb-true, both_ways, cases_eq}
 use Rattle.std.proofs.lemmas.Bool.Decides.{nat_tests}
 use Rattle.std.proofs.lemmas.Nat.{pow_pos}
 use Rattle.fb_layout.specs.Laid.{LaidSchema, Slot}
@@ -13,9 +13,9 @@ use Rattle.fb_build.specs.FieldOrder.{IsStoredAt, SameOfStored, LinksNext, befor
 use Rattle.fb_build.specs.Fields.{AreKnown, is_at, from, above}
 use Rattle.fb_build.proofs.fields.AlignmentDividesTheSize.{simple_aligned}
 use Rattle.fb_build.proofs.fields.FieldsFillTheTable.{other_slot}
-use Rattle.fb_build.proofs.fields.SlotStoresItsEntry.{by_index, same_some}
+use Rattle.fb_build.proofs.fields.SlotStoresItsEntry.{same_some}
 use Rattle.fb_build.proofs.order.AlignmentsDouble.{next_power, under_all}
-use Rattle.fb_build.proofs.tail.WhatIsLaidStaysLaid.{lower}
+use Rattle.fb_layout.proofs.sizes.AlignmentsArePowersOfTwo.{lower}
 
 -- Slot k is the next to be laid once those are that pass a test, and `others` holds of its alignment.
 pub record IsNext (L : LaidSchema) (fs : List Slot) (xs : List (Option Datum)) (laid : ℕ → Slot → Bool) (k : ℕ)
@@ -68,10 +68,6 @@ not_itself k = grind (arith, nat_tests)
 not_first : (k : ℕ) → nat_lt k 0 ≡ false
 not_first k = grind (arith, nat_tests)
 
-no_both : (t : Bool) → t ≡ true → t ≡ false → ⊥
-no_both true p q = cc
-no_both false p q = cc
-
 module _ (L : LaidSchema) (a : ℕ) (fs : List Slot) (xs : List (Option Datum)) (rest : List ℕ)
     (h : AreNext L fs xs (λ k f. from L a f) rest) where
   -- no slot is left
@@ -83,7 +79,7 @@ module _ (L : LaidSchema) (a : ℕ) (fs : List Slot) (xs : List (Option Datum)) 
   -- one that isn't of this alignment
   passed_by : (j : ℕ) (g : Slot) (y : Option Datum) → slice_get fs j ≡ Some g → slice_get xs j ≡ Some y
       → is_at L a g y ≡ false → SameOfStored (before L a j) (before L a (j + 1)) fs xs
-  passed_by j g y fj xj out k f x fk xk is = by_case (by_index k j)
+  passed_by j g y fj xj out k f x fk xk is = by_case (cases_eq k j)
     where
       elsewhere : (inline_align L f.shape ≡ a → ⊥) → cond false (from L a f) (above L a f)
           ≡ cond true (from L a f) (above L a f)
@@ -95,8 +91,8 @@ module _ (L : LaidSchema) (a : ℕ) (fs : List Slot) (xs : List (Option Datum)) 
           let f_is : f ≡ g = same_some (slice_get fs j) f g (rw same at fk) fj in
           let x_is : x ≡ y = same_some (slice_get xs j) x y (rw same at xk) xj in
           let next : nat_lt j (j + 1) ≡ true = lt-ltb j (j + 1) (omega arith) in
-          let ne : inline_align L f.shape ≡ a → ⊥ = λ at. no_both (is_at L a f x)
-          (rw (is, at) (self_equal a)) (rw (f_is, x_is) out) in
+          let ne : inline_align L f.shape ≡ a → ⊥ = λ at. both_ways (is_at L a f x)
+          (rw (f_is, x_is) out) (rw (is, at) (self_equal a)) in
           rw (same, not_itself j, next) (elsewhere ne)
         where
           self_equal : (a : ℕ) → (a == a) ≡ true

@@ -21,12 +21,12 @@ use Rattle.fb_build.specs.Made.{Adds, ends_parts, named_items}
 use Rattle.fb_build.specs.Referred.{AreReferred}
 use Rattle.fb_build.specs.Tails.{TailSeen, Grows, LaidInTail}
 use Rattle.fb_build.specs.Waiting.{AreWaiting, all_of}
-use Rattle.fb_build.proofs.tail.WhatIsLaidStaysLaid.{four_power}
 use Rattle.fb_build.proofs.taped.OnePartMoreWaits.{IsLaidNow, one_more_waits}
 use Rattle.fb_build.proofs.vectors.VectorHasItsElements.{element_padded}
-use Rattle.fb_build.proofs.vtables.EndsAreWithinTheTable.{index_past, got}
+use Rattle.fb_build.proofs.vtables.EndsAreWithinTheTable.{index_past}
 use Rattle.fb_build.proofs.vtables.VtableIsLaidOnce.{shared_grown}
-use Rattle.fb_build.proofs.tail.WhatIsLaidStaysLaid.{lower}
+use Rattle.fb_layout.proofs.sizes.AlignmentsArePowersOfTwo.{lower, four_aligned}
+use Rattle.fb_tape.proofs.stored.SizesOfWhatIsStored.{got}
 
 -- ---- the parts that are taken are the last ones
 
@@ -105,7 +105,7 @@ data_aligned L part align bytes is least = elim is [
       let whole = ap length d.bytes_are in
       let parts = length-append (Rattle.byteorder.specs.Endian.little_bytes 4 (length d.text)) (d.text ++ (0 ∷ [])) in
       let four = Rattle.byteorder.specs.Numbers.length-bytes_low_first 0 4 (length d.text) in
-      (rw d.align_is four_power, omega (arith, whole, parts, four), omega (arith, d.align_is, least)))
+      (rw d.align_is four_aligned, omega (arith, whole, parts, four), omega (arith, d.align_is, least)))
   | inr d ↦ (
       let whole = ap length d.bytes_are in
       let parts = length-append (Rattle.byteorder.specs.Endian.little_bytes 4 (length d.elements)) d.element_bytes in

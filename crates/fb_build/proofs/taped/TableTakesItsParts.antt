@@ -42,8 +42,9 @@ use Rattle.fb_build.proofs.taped.ReferencesComeInOrder.{noted_references as in_o
 use Rattle.fb_build.proofs.taped.StepsOfALaying.{taken_lie, taken_within, stepped, least_most}
 use Rattle.fb_build.proofs.taped.VtableOfTheEnds.{slots_used, vtable_told_by}
 use Rattle.fb_build.proofs.vtables.ClosedTableHasItsValue.{vtable_long}
-use Rattle.fb_build.proofs.vtables.EndsAreWithinTheTable.{ends_under, got}
+use Rattle.fb_build.proofs.vtables.EndsAreWithinTheTable.{ends_under}
 use Rattle.fb_build.proofs.vtables.VtableIsLaidOnce.{shared_grown}
+use Rattle.fb_tape.proofs.stored.SizesOfWhatIsStored.{got}
 
 -- ---- as many parts are taken as there are references
 
@@ -99,9 +100,9 @@ vtable_short L vtables t entries start targets places number vt o w =
 
 -- ---- a table is laid: from a its fields, to o, and what is before them, to b
 
-module _ (L : LaidSchema) (vtables : List Bytes) (fields : ℕ) (align : Alignment) (number room : ℕ)
-    (ps : List NamedPart) (vt : Bytes) (notes : List NotedField) (bytes : Bytes) (qs : List NamedPart)
-    (ends places : List ℕ) (a : TailSeen)
+module _ {L : LaidSchema} {vtables : List Bytes} {fields : ℕ} {align : Alignment} {number room : ℕ}
+    {ps : List NamedPart} {vt : Bytes} {notes : List NotedField} {bytes : Bytes} {qs : List NamedPart}
+    {ends places : List ℕ} {a : TailSeen}
     (m : MayStep L vtables (Table align fields number) room ps vt notes bytes qs ends places a) where
   abbrev t : ℕ
   t = m.lays.table
@@ -178,7 +179,7 @@ module _ (L : LaidSchema) (vtables : List Bytes) (fields : ℕ) (align : Alignme
     room = omega (arith, m.enough, sizes_noted L fs xs notes bytes known.known m.lays.noted);
   }
 
-  module _ (start : ℕ) (o : TailSeen) (laid : AreLaidNow L fs xs targets start o)
+  module _ {start : ℕ} {o : TailSeen} (laid : AreLaidNow L fs xs targets start o)
       (front : FieldsFront a o start (aligned_to align)) (g : Grows a o) where
     pub table_open : IsTableOpen L vtables t m.lays.entries start targets places number vt o
     table_open = record {

@@ -1,5 +1,5 @@
 -- What a tape takes once it is laid is at most the sum of its rooms.
-use Rattle.std.proofs.Common.{◌≡◌, ℕ, zero, suc, ◌+◌, ◌-◌, ◌*◌, ◌%◌, ◌≤◌, ◌<◌, ◌++◌, Bool, true, false, nat_lt}
+use Rattle.std.proofs.Common.{◌≡◌, ℕ, suc, ◌+◌, ◌-◌, ◌*◌, ◌%◌, ◌≤◌, ◌<◌, ◌++◌, Bool, true, false, nat_lt}
 use Rattle.std.proofs.Common.{if◌then◌else◌}
 use Rattle.std.proofs.Common.{List, [], ◌∷◌, length, take, drop, flat_map, slice_get, Option, Some, refl, ap, sym, ◌∙◌}
 use Rattle.std.proofs.Common.{arith, length-append}
@@ -40,11 +40,14 @@ use Rattle.fb_value.specs.Num.{divides}
 use Rattle.fb_value.proofs.tails.TailsAreKeptInFront.{through}
 use Rattle.fb_build.proofs.tables.TableFitsItsRoom.{stored_aligned}
 use Rattle.fb_build.proofs.tail.PaddingIsZero.{padded}
-use Rattle.fb_build.proofs.tail.WhatIsLaidStaysLaid.{power_some, power_divides, four_power}
-use Rattle.fb_build.proofs.taped.NotedFieldsAreLaidInTurn.{size_noted, four_bytes}
+use Rattle.fb_build.proofs.tail.WhatIsLaidStaysLaid.{power_divides}
+use Rattle.fb_build.proofs.taped.NotedFieldsAreLaidInTurn.{size_noted}
 use Rattle.fb_build.proofs.taped.SlotsAreInLayingOrder.{AreNext, slots_ordered}
 use Rattle.fb_build.proofs.taped.StepsOfALaying.{data_aligned}
 use Rattle.fb_build.proofs.taped.TapeIsLaidInTurn.{own_fields}
+use Rattle.fb_layout.proofs.sizes.AlignmentsArePowersOfTwo.{alignment_positive, four_aligned}
+use Rattle.fb_tape.proofs.stored.OffsetsAreTrimmed.{trimmed_short}
+use Rattle.fb_tape.proofs.stored.SizesOfWhatIsStored.{reference_size}
 
 -- ---- the fields of a table
 
@@ -72,7 +75,7 @@ sizes_left L fs zs laid (k ∷ ks) (note ∷ notes) bytes next noted =
     let rest = sizes_left L fs zs (before L (inline_align L f.shape) (k + 1)) ks notes noted.bytes_behind behind
     (rw notes_is at noted.rest) in
     let one = size_of_next L laid fs zs k f (Some d) noted.is noted.has named in
-    let size = size_noted L f d note noted.own (four_bytes L f.shape) is in
+    let size = size_noted L f d note noted.own (reference_size L f.shape) is in
     let sum = sum_by-cons noted_size note notes in
     omega (arith, rest, one, size, sum)
 
@@ -84,16 +87,6 @@ sizes_noted L fs zs notes bytes known noted =
     omega (arith, all, size_none L 0 fs zs)
 
 -- ---- its vtable
-
-trimmed_long : (os : List ℕ) → length (trimmed os) ≤ length os
-trimmed_long [] = omega arith
-trimmed_long (zero ∷ os) = by_rest (trimmed os) refl (trimmed_long os)
-  where
-    by_rest : (ts : List ℕ) → trimmed os ≡ ts → length (trimmed os) ≤ length os
-        → length (trimmed (0 ∷ os)) ≤ suc (length os)
-    by_rest [] is low = rw is (omega arith)
-    by_rest (q ∷ qs) is low = let small = rw is at low in rw is (omega (arith, small))
-trimmed_long (suc n ∷ os) = omega (arith, trimmed_long os)
 
 offsets_few : (L : LaidSchema) (fs : List Slot) (zs : List (Option Datum)) (k : ℕ) (gs : List Slot)
     (ys : List (Option Datum)) → length (offsets_from L fs zs k gs ys) ≤ length gs
@@ -121,7 +114,7 @@ vtable_few L fs zs =
     let two = length-bytes_low_first 0 2 (4 + 2 * length (trimmed os)) in
     let four = length-bytes_low_first 0 2 (table_size L fs zs) in
     let all = numbers_long (trimmed os) in
-    let low = trimmed_long os in
+    let low = trimmed_short os in
     let few = offsets_few L fs zs 0 fs zs in
     omega (arith, whole, parts, two, four, all, low, few)
 
@@ -138,8 +131,8 @@ pub fields_padded : (align fs laid : ℕ) → IsAlignment align → 4 ≤ align
     → zeros_to 4 (laid + (zeros_to align laid + fs)) + fs ≡ ceil4 fs
 fields_padded align fs laid power least =
     let start = laid + zeros_to align laid in
-    let multiple : divides align start ≡ true = eq-eqb _ _ (padded align laid (power_some align power)) in
-    let four : divides 4 start ≡ true = through 4 align start (power_divides 4 align four_power power least) multiple in
+    let multiple : divides align start ≡ true = eq-eqb _ _ (padded align laid (alignment_positive align power)) in
+    let four : divides 4 start ≡ true = through 4 align start (power_divides 4 align four_aligned power least) multiple in
     let whole : start % 4 ≡ 0 = eqb-true _ _ four in
     let all : laid + (zeros_to align laid + fs) ≡ start + fs = omega arith in
     rw all (rounded start fs whole)
@@ -161,10 +154,10 @@ table_bound L vtables known fields align number room ps notes bytes qs laid made
     let fs = slots_of L t.table in
     let zs = stored_in fs t.entries in
     let table = known_in L t.table t.entries made t.fits t.whole in
-    let power : IsAlignment (aligned_to align) = rw t.align_is (stored_aligned L 4 fs zs four_power table.known.each) in
+    let power : IsAlignment (aligned_to align) = rw t.align_is (stored_aligned L 4 fs zs four_aligned table.known.each) in
     let least : 4 ≤ aligned_to align = omega (arith, t.align_is) in
     let size = sizes_noted L fs zs notes bytes table.known t.noted in
-    let first = zeros_few (aligned_to align) laid (power_some (aligned_to align) power) in
+    let first = zeros_few (aligned_to align) laid (alignment_positive (aligned_to align) power) in
     let second = fields_padded (aligned_to align) (fields_size L fs zs) laid power least in
     let few = vtable_few L fs zs in
     let fits = table_fits_room L t.table zs table.known in
@@ -181,7 +174,7 @@ op_bound : (L : LaidSchema) (vtables : List Bytes) (known : ℕ) (op : Op) (room
 op_bound L vtables known (Data align size) room ps notes bytes qs laid made lays =
     let d = lays.1 in
     let is = data_aligned L d.part (aligned_to align) bytes d.is (omega arith) in
-    let few = zeros_few (aligned_to align) (laid + (size - 4)) (power_some (aligned_to align) is.0) in
+    let few = zeros_few (aligned_to align) (laid + (size - 4)) (alignment_positive (aligned_to align) is.0) in
     omega (arith, few, d.enough)
 op_bound L vtables known (References count) room ps notes bytes qs laid made lays =
     let few = zeros_few 4 (laid + ((4 + count * 4) - 4)) (omega arith) in
@@ -191,8 +184,8 @@ op_bound L vtables known (Table align fields number) room ps notes bytes qs laid
 
 -- ---- the next operation
 
-module _ (L : LaidSchema) (vtables : List Bytes) (most known : ℕ) (op : Op) (ops : List Op) (notes : List NotedField)
-    (laid : ℕ) (made : IsWellMade L) (h : IsCountedUpTo L vtables most known (op ∷ ops) notes laid) where
+module _ {L : LaidSchema} {vtables : List Bytes} {most known : ℕ} {op : Op} {ops : List Op} {notes : List NotedField}
+    {laid : ℕ} (made : IsWellMade L) (h : IsCountedUpTo L vtables most known (op ∷ ops) notes laid) where
   own_count : length h.lay.own_notes ≡ op_fields op
   own_count = own_fields L vtables op _ _ _ _ _ h.lay.lays
 

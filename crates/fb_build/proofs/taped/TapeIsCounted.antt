@@ -8,6 +8,7 @@ use Rattle.byteorder.specs.Numbers.{length-bytes_low_first, little_from-take, li
 use Rattle.fb_layout.specs.Laid.{LaidSchema, Slot, slots_of}
 use Rattle.fb_layout.specs.Sizes.{ceil4, IsAlignment}
 use Rattle.fb_layout.specs.WellMade.{IsWellMade}
+use Rattle.fb_layout.proofs.sizes.AlignmentsArePowersOfTwo.{four_aligned}
 use Rattle.fb_value.specs.Datum.{Datum}
 use Rattle.fb_value.specs.Num.{Bytes}
 use Rattle.fb_tape.specs.Alignments.{aligned_to}
@@ -23,7 +24,6 @@ use Rattle.fb_build.specs.TapeLaid.{op_end}
 use Rattle.fb_build.proofs.fields.EntriesAreKnown.{known_in}
 use Rattle.fb_build.proofs.fields.SlotStoresItsEntry.{same_some}
 use Rattle.fb_build.proofs.tables.TableFitsItsRoom.{fields_narrow, stored_aligned}
-use Rattle.fb_build.proofs.tail.WhatIsLaidStaysLaid.{four_power}
 use Rattle.fb_build.proofs.taped.TapeFitsItsRoom.{fields_padded, sizes_noted}
 
 -- ---- what a vtable tells
@@ -49,8 +49,8 @@ table_sum : (known : Bool) (front size padding laid more : ℕ) → padding + si
 table_sum true front size padding laid more padded = omega (arith, padded)
 table_sum false front size padding laid more padded = omega (arith, padded)
 
-module _ (L : LaidSchema) (vtables : List Bytes) (fields : ℕ) (align : Alignment) (number room : ℕ)
-    (ps : List NamedPart) (notes : List NotedField) (bytes : Bytes) (qs : List NamedPart) (made : IsWellMade L)
+module _ {L : LaidSchema} {vtables : List Bytes} {fields : ℕ} (align : Alignment) {number room : ℕ}
+    {ps : List NamedPart} {notes : List NotedField} {bytes : Bytes} {qs : List NamedPart} (made : IsWellMade L)
     (t : LaysTable L vtables fields (aligned_to align) number room ps notes bytes qs) where
   abbrev own : List Slot
   own = slots_of L t.table
@@ -61,7 +61,7 @@ module _ (L : LaidSchema) (vtables : List Bytes) (fields : ℕ) (align : Alignme
   pub table_aligned : IsAlignment (aligned_to align)
   table_aligned =
       let table = known_in L t.table t.entries made t.fits t.whole in
-      rw t.align_is (stored_aligned L 4 own stored four_power table.known.each)
+      rw t.align_is (stored_aligned L 4 own stored four_aligned table.known.each)
 
   table_least : 4 ≤ aligned_to align
   table_least = omega (arith, t.align_is)

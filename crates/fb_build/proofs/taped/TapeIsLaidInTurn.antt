@@ -99,8 +99,8 @@ ops_grow vtables known (op ∷ ops) notes laid =
 
 -- ---- the next operation
 
-module _ (L : LaidSchema) (vtables : List Bytes) (op : Op) (ops : List Op) (notes : List NotedField)
-    (bytes : Bytes) (qs : List NamedPart) (a : Laying) (h : IsLaidUpTo L vtables (op ∷ ops) notes bytes qs a) where
+module _ {L : LaidSchema} {vtables : List Bytes} {op : Op} {ops : List Op} {notes : List NotedField}
+    {bytes : Bytes} {qs : List NamedPart} {a : Laying} (h : IsLaidUpTo L vtables (op ∷ ops) notes bytes qs a) where
   pub field_count : length h.lay.own_notes ≡ op_fields op
   field_count = own_fields L vtables op _ _ _ _ _ h.lay.lays
 

@@ -11,6 +11,8 @@ use Rattle.fb_tape.specs.Vtables.{stored_end, table_size, field_offset, offsets_
 use Rattle.fb_build.specs.FieldEnds.{AreCounted}
 use Rattle.fb_build.specs.Fields.{is_stored, EntryEnd, EntriesEnd}
 use Rattle.fb_build.specs.TableBytes.{offset_from, offset_bytes, vtable_bytes}
+use Rattle.fb_tape.proofs.stored.OffsetsAreTrimmed.{none_trimmed}
+use Rattle.fb_tape.proofs.stored.OffsetsAreTrimmed.{zero_trimmed}
 
 -- ---- the offsets
 
@@ -79,12 +81,6 @@ pub record IsTrimmed (place : ℕ) (es ts : List ℕ) : Type 0 where
   pub within : length ts ≤ length es
   pub rest : (k : ℕ) → length ts ≤ k → slice_index es k ≡ 0
   pub last : (k : ℕ) → k + 1 ≡ length ts → 0 < slice_index es k
-
-none_trimmed : (os : List ℕ) → trimmed os ≡ [] → trimmed (0 ∷ os) ≡ []
-none_trimmed os is = rw is refl
-
-zero_trimmed : (os : List ℕ) (q : ℕ) (qs : List ℕ) → trimmed os ≡ q ∷ qs → trimmed (0 ∷ os) ≡ 0 ∷ (q ∷ qs)
-zero_trimmed os q qs is = rw is refl
 
 more_trimmed : (n : ℕ) (os : List ℕ) → trimmed (suc n ∷ os) ≡ suc n ∷ trimmed os
 more_trimmed n os = refl

@@ -17,7 +17,7 @@ use Rattle.fb_value.specs.Lies.{LiesBy}
 use Rattle.fb_value.specs.Tails.{from_end}
 use Rattle.fb_value.proofs.rules.RulesHoldOneByOne.{hold, no_rules}
 use Rattle.fb_build.specs.Tails.{LaidInTail}
-use Rattle.fb_build.proofs.numbers.NumberReadsBack.{num_first}
+use Rattle.fb_value.proofs.numbers.BytesSumToTheirNumber.{num_first}
 
 -- a text's count, bytes and zero byte stand at p
 pub record IsTextAt (b : Bytes) (p : ℕ) (bytes : Bytes) : Type 0 where

@@ -2,6 +2,7 @@
 use Rattle.std.proofs.Common.{◌≡◌, ℕ, ◌+◌, ◌-◌, ◌*◌, ◌^◌, ◌<◌, ◌++◌, true, max, List, [], ◌∷◌, length, replicate}
 use Rattle.std.proofs.Common.{refl, ap, sym, ◌∙◌, arith, append_assoc, length-append}
 use Rattle.std.proofs.lemmas.Option.{slice_get_within}
+use Rattle.std.proofs.Math.Nat.{mul-le-mul_right}
 use Rattle.byteorder.specs.Endian.{little_bytes}
 use Rattle.byteorder.specs.Numbers.{length-bytes_low_first}
 use Rattle.fb_layout.specs.Laid.{LaidSchema, StoredKind, one_of, size_of, align_of}
@@ -17,10 +18,11 @@ use Rattle.fb_build.specs.Tails.{TailSeen, Grows, LaidInTail}
 use Rattle.fb_build.proofs.covered.PartAddsItself.{part_laid}
 use Rattle.fb_build.proofs.covered.PartsStayAsLaid.{vector_stays}
 use Rattle.fb_build.proofs.covered.ReferenceLeadsThereFurtherOn.{leads_grown}
-use Rattle.fb_build.proofs.numbers.NumberReadsBack.{num_first}
 use Rattle.fb_build.proofs.tables.EndsNameTheParts.{LeadAt, items_reached, none_reached}
 use Rattle.fb_build.proofs.vectors.ElementLeadsToItsTarget.{times_split}
-use Rattle.fb_build.proofs.vectors.VectorHasItsElements.{element_padded, vector_end, count_parts, times_least}
+use Rattle.fb_build.proofs.vectors.VectorHasItsElements.{element_padded, vector_end}
+use Rattle.fb_value.proofs.numbers.BytesSumToTheirNumber.{num_first}
+use Rattle.fb_value.proofs.types.PartsByTheirIndex.{count_parts}
 
 -- Zeros, the elements and their count were laid: from o to p, to a and to b.
 pub record IsClosed (L : LaidSchema) (kind : StoredKind) (ds : List Datum) (o p a b : TailSeen) (zeros : ℕ)
@@ -40,7 +42,7 @@ pub record IsClosed (L : LaidSchema) (kind : StoredKind) (ds : List Datum) (o p 
   pub most : b.most ≡ a.most
   pub short : length ds < 256 ^ 4
 
-module _ (L : LaidSchema) (kind : StoredKind) (ds : List Datum) (o p a b : TailSeen) (zeros : ℕ)
+module _ {L : LaidSchema} {kind : StoredKind} {ds : List Datum} {o p a b : TailSeen} {zeros : ℕ}
     (c : IsClosed L kind ds o p a b zeros) where
   pub closed_lies : LaidInTail L b.most b.bytes (part_place (vector_part kind)) (length b.bytes)
       (a_vector (parts_in ds))
@@ -89,7 +91,7 @@ module _ (L : LaidSchema) (kind : StoredKind) (ds : List Datum) (o p a b : TailS
       let lead : LeadAt L b.bytes (0 + 4) kind ds ends =
       λ k d is. (
       let under = slice_get_within ds k d is in
-      let split = times_least k n z (omega (arith, under)) in
+      let split = mul-le-mul_right {m = k} {n = n} z (omega (arith, under)) in
       let both : (n - k) * z + k * z ≡ n * z = times_split k n z (omega (arith, under)) in
       let end : length b.bytes - ((0 + 4) + k * z) ≡ length p.bytes + (n - k) * z =
       omega (arith, length_closed, both) in (

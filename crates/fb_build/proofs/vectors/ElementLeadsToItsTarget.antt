@@ -1,6 +1,7 @@
 -- Where the references of a vector lead while its elements are laid, from the last to the first.
 use Rattle.std.proofs.Common.{◌≡◌, ℕ, ◌+◌, ◌-◌, ◌*◌, ◌<◌, ◌≤◌, ◌⊎◌, inl, inr, List, length, slice_get, slice_index}
 use Rattle.std.proofs.Common.{Some, ap, sym, ◌∙◌, arith}
+use Rattle.std.proofs.lemmas.Bool.{cases_eq}
 use Rattle.fb_layout.specs.Laid.{LaidSchema, StoredKind, one_of, size_of}
 use Rattle.fb_value.specs.Datum.{Datum}
 use Rattle.fb_value.specs.Num.{Bytes}
@@ -8,7 +9,7 @@ use Rattle.fb_build.specs.Tails.{TailSeen, Grows}
 use Rattle.fb_build.specs.Fields.{target_for}
 use Rattle.fb_build.specs.Made.{LeadsTo}
 use Rattle.fb_build.proofs.covered.ReferenceLeadsThereFurtherOn.{leads_grown}
-use Rattle.fb_build.proofs.fields.SlotStoresItsEntry.{by_index, same_some}
+use Rattle.fb_build.proofs.fields.SlotStoresItsEntry.{same_some}
 
 -- those of the elements from one on
 abbrev pub LeadFrom : LaidSchema → Bytes → ℕ → ℕ → StoredKind → List Datum → List ℕ → Type 0
@@ -25,7 +26,7 @@ pub lead_one : (L : LaidSchema) (a b : TailSeen) (behind i : ℕ) (kind : Stored
     (d : Datum) → Grows a b → slice_get ds i ≡ Some d → length b.bytes ≡ behind + (length ds - i) * size_of L kind
     → LeadsTo b.bytes (target_for (one_of kind) d) (length b.bytes) (slice_index targets i)
     → LeadFrom L a.bytes behind (i + 1) kind ds targets → LeadFrom L b.bytes behind i kind ds targets
-lead_one L a b behind i kind ds targets d g is long now before k e low at = by_case (by_index k i)
+lead_one L a b behind i kind ds targets d g is long now before k e low at = by_case (cases_eq k i)
   where
     by_case : (k ≡ i) ⊎ (k ≡ i → ⊥)
         → LeadsTo b.bytes (target_for (one_of kind) e) (behind + (length ds - k) * size_of L kind)

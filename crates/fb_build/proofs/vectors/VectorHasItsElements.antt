@@ -1,5 +1,5 @@
 -- A vector that was laid.
-use Rattle.std.proofs.Common.{◌≡◌, ℕ, zero, suc, ◌+◌, ◌-◌, ◌*◌, ◌^◌, ◌<◌, ◌≤◌, ◌++◌, ◌==◌, Bool, true, false, ◌||◌}
+use Rattle.std.proofs.Common.{◌≡◌, ℕ, zero, suc, ◌+◌, ◌-◌, ◌*◌, ◌^◌, ◌<◌, ◌≤◌, ◌++◌, ◌==◌, true, ◌||◌}
 use Rattle.std.proofs.Common.{nat_lt, max, List, [], ◌∷◌, length, drop, slice_get, slice_index, Some, refl}
 use Rattle.std.proofs.Common.{ap, sym, ◌∙◌, subst, arith, length-append}
 use Rattle.std.proofs.lemmas.Bool.{le-leb, and_from, and_parts}
@@ -28,11 +28,13 @@ use Rattle.fb_build.proofs.covered.TightTableStaysTightFurtherOn.{tight_further_
 use Rattle.fb_value.proofs.rules.RulesHoldOneByOne.{hold, no_rules}
 use Rattle.fb_value.proofs.tails.SameBytesHoldTheSameFurtherOn.{items_lie, each_items}
 use Rattle.fb_value.proofs.tails.TailsAreKeptInFront.{through, from_other_end}
-use Rattle.fb_build.proofs.tail.WhatIsLaidStaysLaid.{four_power, power_max, left_divides, right_divides}
+use Rattle.fb_build.proofs.tail.WhatIsLaidStaysLaid.{left_divides, right_divides}
 use Rattle.fb_build.proofs.tail.MultiplesAdd.{times_divides}
 use Rattle.fb_build.proofs.fields.AlignmentDividesTheSize.{element_simple, simple_aligned, simple_multiple, simple_some}
-use Rattle.fb_build.proofs.numbers.NumberReadsBack.{num_first}
 use Rattle.fb_build.proofs.fields.FieldHasItsValue.{more_divides}
+use Rattle.std.proofs.Math.Bool.{or-true}
+use Rattle.fb_value.proofs.numbers.BytesSumToTheirNumber.{num_first}
+use Rattle.fb_layout.proofs.sizes.AlignmentsArePowersOfTwo.{max_aligned, four_aligned}
 
 -- the elements of a vector take some room, and begin at a multiple of 4 or more
 pub record IsPadded (L : LaidSchema) (kind : StoredKind) : Type 0 where
@@ -50,9 +52,9 @@ element_padded L kind h =
     record {
       some = simple_some L (one_of kind) simple;
       least = omega arith;
-      power = power_max 4 (align_of L kind) four_power aligned;
-      four = left_divides 4 (align_of L kind) four_power aligned;
-      own = right_divides 4 (align_of L kind) four_power aligned;
+      power = max_aligned 4 (align_of L kind) four_aligned aligned;
+      four = left_divides 4 (align_of L kind) four_aligned aligned;
+      own = right_divides 4 (align_of L kind) four_aligned aligned;
       size = simple_multiple L (one_of kind) simple;
     }
 
@@ -179,13 +181,6 @@ one_more L a b kind d ds el g long lies h =
       inline = (element_inline L b.most b.bytes kind d el lies, rest.3);
     }
 
-pub times_least : (k n z : ℕ) → k ≤ n → k * z ≤ n * z
-times_least k n z h =
-    let split : n ≡ k + (n - k) = omega (arith, h) in
-    let more : (k + (n - k)) * z ≡ k * z + (n - k) * z = omega arith in
-    let all : n * z ≡ (k + (n - k)) * z = ap (λ i. i * z) split in
-    omega (arith, all, more)
-
 -- ---- the whole vector
 
 pub without_items : (a z n c : ℕ) → divides a z ≡ true → divides a (c + n * z) ≡ true → divides a c ≡ true
@@ -193,17 +188,13 @@ without_items a z n c size h =
     let rest : (c + n * z) - c ≡ n * z = omega arith in
     from_other_end a (c + n * z) c (omega arith) h (rw rest (times_divides a n z size))
 
-last_true : (a : Bool) → (a || true) ≡ true
-last_true true = refl
-last_true false = refl
-
 vector_keeps : (L : LaidSchema) (al : Aligned) (b : Bytes) (kind : StoredKind) (p : ℕ) → al 4 p ≡ true
     → p + 4 ≤ length b → (p + 4) + num b p 4 * size_of L kind ≤ length b → al (align_of L kind) (p + 4) ≡ true
     → KeepsBy al L b (part_place (vector_part kind)) p
 unfolding fault_by
 vector_keeps L al b kind p front within ends elements =
     let any : ((nat_lt (length b) (p + 4) || (num b p 4 == 0)) || al (align_of L kind) (p + 4)) ≡ true =
-    rw elements (last_true (nat_lt (length b) (p + 4) || (num b p 4 == 0))) in
+    rw elements (or-true (nat_lt (length b) (p + 4) || (num b p 4 == 0))) in
     hold _ _ _ (and_from _ _ front any) (hold _ _ _ (and_from _ _ (le-leb _ _ within) (le-leb _ _ ends)) no_rules)
 
 pub vector_end : (L : LaidSchema) (m n : ℕ) (a b : TailSeen) (kind : StoredKind) (ds : Parts) → IsElement L kind
@@ -261,7 +252,3 @@ parts_none [] zero h = refl
 parts_none [] (suc n) h = refl
 parts_none (x ∷ ds) zero h = absurd (omega (arith, h))
 parts_none (x ∷ ds) (suc n) h = parts_none ds n (omega (arith, h))
-
-pub count_parts : (ds : List Datum) → count (parts_in ds) ≡ length ds
-count_parts [] = refl
-count_parts (d ∷ ds) = ap suc (count_parts ds)

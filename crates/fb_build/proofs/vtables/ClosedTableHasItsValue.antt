@@ -17,7 +17,7 @@ use Rattle.fb_build.specs.Fields.{EntriesEnd, AreKnown, stored_in, fields_size}
 use Rattle.fb_build.specs.Filled.{AreFilled}
 use Rattle.fb_build.specs.TableBytes.{offset_from, offset_bytes, vtable_bytes, VtableEnd}
 use Rattle.fb_build.specs.Vtables.{TellsItsLength}
-use Rattle.fb_build.proofs.numbers.NumberReadsBack.{num_behind, num_first, num_standing}
+use Rattle.fb_build.proofs.numbers.NumberReadsBack.{num_behind, num_standing}
 use Rattle.fb_build.proofs.vtables.TableLeadsToItsVtable.{vtable_is, vtable_inside, vtable_good, slot_there, slot_past}
 use Rattle.fb_build.proofs.vtables.TableLeadsToItsVtable.{table_lies}
 use Rattle.fb_build.proofs.fields.FieldHasItsValue.{entries_grown, entry_under}
@@ -27,6 +27,8 @@ use Rattle.fb_build.proofs.vtables.EndsAreWithinTheTable.{ends_under, unused_end
 use Rattle.fb_build.proofs.tables.TableHasNoSlack.{TableRead, table_tight}
 use Rattle.fb_value.specs.Entries.{EntryFits}
 use Rattle.fb_build.specs.Paired.{ArePaired}
+use Rattle.std.proofs.lemmas.Bool.{cases_lt}
+use Rattle.fb_value.proofs.numbers.BytesSumToTheirNumber.{num_first}
 
 -- what an offset reads as
 offset_read : (c u k : ℕ) (ends : List ℕ) (rest : Bytes) → u ≤ length ends → k < u
@@ -55,12 +57,6 @@ vtable_told c size u ends within few rest =
     let parts = append_assoc (little_bytes 2 (4 + 2 * u)) (little_bytes 2 size ++ offset_bytes c u ends) rest in
     ap (λ b. num b 0 2) parts ∙ num_first 2 (4 + 2 * u) ((little_bytes 2 size ++ offset_bytes c u ends) ++ rest)
     (omega (arith, few)) ∙ sym (vtable_long c size u ends within)
-
-lower : (i j : ℕ) → (i < j) ⊎ (j ≤ i)
-lower zero zero = inr (omega arith)
-lower zero (suc j) = inl (omega arith)
-lower (suc i) zero = inr (omega arith)
-lower (suc i) (suc j) = elim (lower i j) [ inl h ↦ inl (omega (arith, h)) | inr h ↦ inr (omega (arith, h)) ]
 
 module _ (L : LaidSchema) (low c size u : ℕ) (o n : TailSeen) (ends : List ℕ) (g : Grows o n)
     (behind : length o.bytes < c) (within : c ≤ length n.bytes) (four : divides 4 c ≡ true)
@@ -107,7 +103,7 @@ module _ (L : LaidSchema) (low c size u : ℕ) (o n : TailSeen) (ends : List ℕ
 
   slots_read : (k : ℕ) → slot_number s (length s - c) k ≡ offset_from c (slice_index ends k)
   unfolding s
-  slots_read k = by_case (lower k u)
+  slots_read k = by_case (cases_lt k u)
     where
       by_case : (k < u) ⊎ (u ≤ k) → slot_number s (length s - c) k ≡ offset_from c (slice_index ends k)
       by_case (inl under) = slot_there (from_end s n.most) s (length s - c) (length s - v.at) u low_place low_vtable

@@ -8,22 +8,13 @@ use Rattle.fb_value.specs.OldSlots.{is_in_use}
 use Rattle.fb_build.specs.Fields.{EntryEnd, EntriesEnd, AreKnown, StoredFits}
 use Rattle.fb_build.specs.TableBytes.{offset_from}
 use Rattle.fb_build.proofs.fields.FieldHasItsValue.{entry_under, entry_high}
+use Rattle.std.proofs.lemmas.Bool.{cases_lt}
+use Rattle.fb_tape.proofs.stored.SizesOfWhatIsStored.{got}
 
 pub index_past : (xs : List ℕ) (k : ℕ) → length xs ≤ k → slice_index xs k ≡ 0
 index_past [] k h = refl
 index_past (x ∷ xs) zero h = absurd (omega (arith, h))
 index_past (x ∷ xs) (suc k) h = index_past xs k (omega (arith, h))
-
-pub got : {A : Type 0} (xs : List A) (k : ℕ) → k < length xs → (x : A) × (slice_get xs k ≡ Some x)
-got [] k h = absurd (omega (arith, h))
-got (x ∷ xs) zero h = (x, refl)
-got (x ∷ xs) (suc k) h = got xs k (omega (arith, h))
-
-lower : (i j : ℕ) → (i < j) ⊎ (j ≤ i)
-lower zero zero = inr (omega arith)
-lower zero (suc j) = inl (omega arith)
-lower (suc i) zero = inr (omega arith)
-lower (suc i) (suc j) = elim (lower i j) [ inl h ↦ inl (omega (arith, h)) | inr h ↦ inr (omega (arith, h)) ]
 
 -- a slot that isn't in use stores nothing
 unused_entry : (L : LaidSchema) (low m : ℕ) (s : Bytes) (f : Slot) (x : Option Datum) (e : ℕ) → StoredFits L f x
@@ -39,7 +30,7 @@ module _ (L : LaidSchema) (low m : ℕ) (s : Bytes) (fs : List Slot) (xs : List 
     (known : AreKnown L fs xs) (each : length ends ≡ length fs)
     (state : EntriesEnd L low m s (λ k f. true) fs xs ends) where
   pub ends_under : (k : ℕ) → slice_index ends k ≤ length s
-  ends_under k = by_case (lower k (length fs))
+  ends_under k = by_case (cases_lt k (length fs))
     where
       by_case : (k < length fs) ⊎ (length fs ≤ k) → slice_index ends k ≤ length s
       by_case (inl under) =
@@ -49,7 +40,7 @@ module _ (L : LaidSchema) (low m : ℕ) (s : Bytes) (fs : List Slot) (xs : List 
       by_case (inr past) = omega (arith, index_past ends k (omega (arith, past, each)))
 
   pub ends_high : (k : ℕ) → 0 < slice_index ends k → low < slice_index ends k
-  ends_high k some = by_case (lower k (length fs))
+  ends_high k some = by_case (cases_lt k (length fs))
     where
       by_case : (k < length fs) ⊎ (length fs ≤ k) → low < slice_index ends k
       by_case (inl under) =
@@ -59,7 +50,7 @@ module _ (L : LaidSchema) (low m : ℕ) (s : Bytes) (fs : List Slot) (xs : List 
       by_case (inr past) = absurd (omega (arith, index_past ends k (omega (arith, past, each)), some))
 
   pub unused_end : (k : ℕ) → is_in_use (slice_get fs k) ≡ false → slice_index ends k ≡ 0
-  unused_end k out = by_case (lower k (length fs))
+  unused_end k out = by_case (cases_lt k (length fs))
     where
       by_case : (k < length fs) ⊎ (length fs ≤ k) → slice_index ends k ≡ 0
       by_case (inl under) =

@@ -11,7 +11,8 @@ use Rattle.fb_build.specs.Tails.{TailSeen, Grows}
 use Rattle.fb_build.specs.TableBytes.{way_to}
 use Rattle.fb_build.specs.Vtables.{AreLaid, TellsItsLength}
 use Rattle.fb_build.proofs.tail.WhatIsLaidStaysLaid.{stands_grown}
-use Rattle.fb_build.proofs.numbers.NumberReadsBack.{num_behind, num_first}
+use Rattle.fb_build.proofs.numbers.NumberReadsBack.{num_behind}
+use Rattle.fb_value.proofs.numbers.BytesSumToTheirNumber.{num_first}
 
 -- what the table's first number says then
 pub new_way : (s old vt : Bytes) (place : ℕ) → s ≡ vt ++ (little_bytes 4 (length vt) ++ old) → place ≡ length old + 4

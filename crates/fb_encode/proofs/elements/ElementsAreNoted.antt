@@ -19,12 +19,7 @@ use Rattle.fb_json.specs.Outcome.{Counted, Fails}
 use Rattle.fb_json.proofs.slots.OneSlotOrFieldMore.{after, fails_by, items_end, items_next, items_ungiven}
 use Rattle.fb_build.specs.OneByOne.{EachElementFits}
 use Rattle.fb_build.proofs.noted.OneMoreFits.{elements_more}
-
-drop_at : {A : Type 0} (xs : List A) (k : ℕ) (x : A) → k < length xs → x ≡ get_or xs k x
-    → drop k xs ≡ x ∷ drop (k + 1) xs
-drop_at xs k x h is =
-    let there : drop k xs ≡ get_or xs k x ∷ drop (k + 1) xs = rw (add-one, drop-cons xs k x) refl in
-    there ∙ ap (λ y. y ∷ drop (k + 1) xs) (sym is)
+use Rattle.fb_json.proofs.slots.OneSlotOrFieldMore.{drop_at}
 
 pub one_more_fits : (L : LaidSchema) (kind : StoredKind) (ds : List Datum) (d : Datum) → Fits L (one_of kind) d
     → is_whole d ≡ true → EachElementFits L kind ds → EachElementFits L kind (ds ++ (d ∷ []))

@@ -8,12 +8,14 @@ use Rattle.fb_value.specs.Places.{vector_part}
 use Rattle.fb_value.specs.Room.{vector_room}
 use Rattle.fb_value.specs.UpTo.{at_most_usize}
 use Rattle.fb_value.specs.View.{parts_in}
+use Rattle.fb_value.specs.Bounds.{most_bytes}
+use Rattle.fb_value.proofs.types.PartsByTheirIndex.{count_parts}
 use Rattle.fb_tape.specs.NamedParts.{NamedPart}
 use Rattle.fb_tape.specs.Tapes.{IsUnfinished, Taped, Waits}
 use Rattle.fb_json.specs.Outcome.{Counted}
 use Rattle.fb_build.specs.Fields.{IsElement, is_reference}
 use Rattle.fb_build.specs.Items.{ItemsKnown}
-use Rattle.fb_build.proofs.noted.OneMoreFits.{counted, elements_fit}
+use Rattle.fb_build.proofs.noted.OneMoreFits.{elements_fit}
 use Rattle.fb_build.proofs.noted.PartsFollow.{elements_known, nothing_apart}
 use Rattle.fb_encode.specs.TreesNoted.{AddsInline, AreElementsAdded, IsNoted, vector_given}
 
@@ -44,7 +46,7 @@ inline_then L kind a b c xs ys first second = record {
 -- under a layout, the tape on which a vector of so many elements is begun
 pub record Begins (kind : Kind) (total : ℕ) (a b : Taped) (L : LaidSchema) : Type 0 where
   pub waits : (others : List NamedPart) → Waits a others → Waits b others
-  pub begun : a.room + vector_room L (stored_kind L.schema kind) total ≤ 2147483647
+  pub begun : a.room + vector_room L (stored_kind L.schema kind) total ≤ most_bytes
       → IsUnfinished L (stored_kind L.schema kind) total [] b.unfinished
   pub room : b.room ≡ a.room
   pub layout : b.layout ≡ a.layout
@@ -53,7 +55,7 @@ pub record Begins (kind : Kind) (total : ℕ) (a b : Taped) (L : LaidSchema) : T
 pub record Closes (kind : Kind) (total : ℕ) (a b : Taped) (L : LaidSchema) : Type 0 where
   pub waits : (others : List NamedPart) (ds : List Datum) → total ≡ length ds
       → ItemsKnown L (stored_kind L.schema kind) ds
-      → (a.room + vector_room L (stored_kind L.schema kind) total ≤ 2147483647
+      → (a.room + vector_room L (stored_kind L.schema kind) total ≤ most_bytes
       → IsUnfinished L (stored_kind L.schema kind) total ds a.unfinished)
       → Waits a others → Waits b (others ++ (record {
         target = vector_part (stored_kind L.schema kind);
@@ -84,7 +86,7 @@ inline_vector_noted L kind given total a b c d rest element inline begins h clos
         waits = λ others w. closes.waits others ds long (elements_known L k ds element h.fits)
             (λ small. h.adds.unfinished total [] (begins.begun (rw same at small)))
             (h.adds.waits others (begins.waits others w));
-        sum = omega (arith, closes.room, same, nothing, ap (vector_room L k) (counted ds ∙ sym long));
+        sum = omega (arith, closes.room, same, nothing, ap (vector_room L k) (count_parts ds ∙ sym long));
         layout = closes.layout ∙ h.adds.layout ∙ begins.layout;
         whole = closes.whole;
       };

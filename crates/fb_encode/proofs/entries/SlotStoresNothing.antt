@@ -31,6 +31,8 @@ use Rattle.fb_build.proofs.noted.EntryHasItsFields.{no_fields}
 use Rattle.fb_build.proofs.noted.PartsAreAdded.{adds_none, adds_same}
 use Rattle.fb_encode.specs.SlotsRead.{left_of}
 use Rattle.fb_encode.specs.TreesNoted.{IsEntryNoted, entry_given}
+use Rattle.std.proofs.Math.Bool.{and-false}
+use Rattle.fb_json.proofs.slots.CodeSlots.{code_default}
 
 pub record StoresNothing (L : LaidSchema) (f : Slot) (x : Option Datum) : Type 0 where
   pub fits : EntryFits L f x
@@ -130,21 +132,13 @@ module _ (L : LaidSchema) (f : DeclaredField) where
         fields = λ k. no_fields L k (slot_of L.schema f) (a_number n) stored;
       }
 
-  no_default : (b : Bool) (n : ℤ) (u : ℕ) → default_of b n (one_of (code_kind u)) ≡ None
-  no_default true n u = refl
-  no_default false n u = refl
-
   -- a union's code comes with its value
   pub code_slot : (u : ℕ) (shape : Shape) → f.shape ≡ shape → stored_shape L.schema shape ≡ one_of (code_kind u)
       → f.required ≡ false → StoresNothing L (slot_of L.schema f) None
   code_slot u shape e code free =
       let stored : stored_shape L.schema f.shape ≡ one_of (code_kind u) = ap (stored_shape L.schema) e ∙ code in
       empty_slot L (slot_of L.schema f) (rw free refl)
-      (rw stored (no_default (f.deprecated || f.optional) f.default u))
-
-  and_false : (b : Bool) → (b && false) ≡ false
-  and_false true = refl
-  and_false false = refl
+      (rw stored (code_default (f.deprecated || f.optional) f.default u))
 
   by_either : MarksFit L.schema f f.shape → (at : Place) (left : ℕ) (x : Option Datum) (rest : ℕ)
       → as_absent (slot_of L.schema f).if_absent (slot_of L.schema f).required at left ≡ Ok (x, rest)
@@ -181,7 +175,7 @@ module _ (L : LaidSchema) (f : DeclaredField) where
   -- a deprecated slot
   pub unused_nothing : f.deprecated ≡ true → StoresNothing L (slot_of L.schema f) None
   unused_nothing e = empty_slot L (slot_of L.schema f)
-      (ap (λ (b : Bool). f.required && not b) e ∙ and_false f.required)
+      (ap (λ (b : Bool). f.required && not b) e ∙ and-false f.required)
       (ap (λ (b : Bool). default_of (b || f.optional) f.default (stored_shape L.schema f.shape)) e)
 
   by_mark : MarksFit L.schema f f.shape → (c : ℕ) (at : Place) (levels left : ℕ) (x : Option Datum) (rest : ℕ)

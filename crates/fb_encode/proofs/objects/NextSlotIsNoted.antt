@@ -27,6 +27,7 @@ use Rattle.fb_encode.proofs.entries.PresentEntryIsNoted.{mismatch_refused, part_
 use Rattle.fb_encode.proofs.entries.PresentEntryIsNoted.{reference_noted}
 use Rattle.fb_encode.proofs.entries.SlotStoresNothing.{given_nothing, nothing_noted, unused_nothing}
 use Rattle.fb_encode.proofs.tables.SlotsAreNoted.{entry_by}
+use Rattle.fb_json.proofs.slots.CodeSlots.{code_handed_on}
 
 -- where a slot has a text, it is in use
 pub used_by : (b : Bool) {A : Type 0} (o : Option A) (x : A) → (b ≡ true → o ≡ None) → o ≡ Some x → b ≡ false
@@ -39,19 +40,6 @@ code_old : (S : DeclaredSchema) (look : Look) (at : Place) (code : ℕ) (name : 
     → code_after S look at code true name shape ≡ Ok code
 unfolding code_after
 code_old S look at code name shape = refl
-
-code_plain : (S : DeclaredSchema) (look : Look) (at : Place) (code : ℕ) (b : Bool) (name : Name) (shape : Shape)
-    → is_of_union shape ≡ false → code_after S look at code b name shape ≡ Ok code
-unfolding code_after
-code_plain S look at code true name shape plain = refl
-code_plain S look at code false name (One (Code u)) plain = cc
-code_plain S look at code false name (One (Union u)) plain = refl
-code_plain S look at code false name (One (Scalar base)) plain = refl
-code_plain S look at code false name (One (Enum id)) plain = refl
-code_plain S look at code false name (One (Struct id)) plain = refl
-code_plain S look at code false name (One (Table id)) plain = refl
-code_plain S look at code false name (One Text) plain = refl
-code_plain S look at code false name (Many kind) plain = refl
 
 code_union : (S : DeclaredSchema) (look : Look) (at : Place) (code : ℕ) (b : Bool) (name : Name) (u : TypeId)
     → code_after S look at code b name (One (Union u)) ≡ Ok code
@@ -108,7 +96,7 @@ module _ (L : LaidSchema) (f : DeclaredField) (seen : Look) (k code levels left 
     -- of a reference's shape
     module _ (part : IsPart L (stored_shape L.schema f.shape)) where
       code_is_plain : code_after L.schema seen at code f.deprecated f.name f.shape ≡ Ok code
-      code_is_plain = code_plain L.schema seen at code f.deprecated f.name f.shape (part_plain L f.shape part)
+      code_is_plain = code_handed_on L.schema seen at code f.deprecated f.name f.shape (part_plain L f.shape part)
 
       pub reference_next : (a b : Taped) (before now : List OpenField) (rest : ℕ)
           → IsNoted L (stored_shape L.schema f.shape) (meant L unknown t f.shape at levels left) a b rest

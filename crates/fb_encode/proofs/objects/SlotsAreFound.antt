@@ -37,7 +37,8 @@ use Rattle.fb_encode.specs.SlotTexts.{IsSlotNotedOr}
 use Rattle.fb_encode.specs.TreesNoted.{IsEntryNoted, IsNoted}
 use Rattle.fb_encode.proofs.parts.TreesByTheirKind.{table_by}
 use Rattle.fb_encode.proofs.tables.SlotsAreNoted.{AreSlotsNoted, all_given, next_noted, none_noted, open_table}
-use Rattle.fb_encode.proofs.tables.SlotsAreNoted.{slots_long, table_noted, ungiven, untold}
+use Rattle.fb_encode.proofs.tables.SlotsAreNoted.{table_noted, ungiven, untold}
+use Rattle.fb_layout.proofs.slots.SlotsAreAsManyAsFields.{slots_long}
 
 -- the brackets that may be open in a text
 abbrev pub brackets_in : Option Excerpt → ℕ

@@ -17,24 +17,8 @@ use Rattle.fb_encode.specs.MembersRead.{object_read}
 use Rattle.fb_encode.specs.SlotTexts.{AreTextsOf, AreTextsRead, excerpt_tree, text_found}
 use Rattle.fb_encode.specs.TextsRead.{IsRead}
 use Rattle.fb_encode.proofs.objects.SlotsAreFound.{brackets_in}
-
--- a member, and what it gives
-abbrev pub with_meaning : LaidSchema → Bool → Data → Data × Meaner
-with_meaning L unknown d = (d, meant L unknown d)
-
-picked : (L : LaidSchema) (unknown : Bool) (o : Ordering) (d : Data) (rest : Option Data)
-    (more : Option (Data × Meaner)) → more ≡ option_map (with_meaning L unknown) rest
-    → match_ordering o more (Some (with_meaning L unknown d)) more
-    ≡ option_map (with_meaning L unknown) (match_ordering o rest (Some d) rest)
-picked L unknown Less d rest more h = h
-picked L unknown Equal d rest more h = refl
-picked L unknown Greater d rest more h = h
-
-pub looked : (L : LaidSchema) (unknown : Bool) (ms : Members) (k : Name)
-    → look L unknown ms k ≡ option_map (with_meaning L unknown) (get_member k ms)
-looked L unknown no_members k = refl
-looked L unknown (member l d ms) k = picked L unknown (slice_cmp nat_cmp k l) d (get_member k ms) (look L unknown ms k)
-    (looked L unknown ms k)
+use Rattle.fb_json.proofs.slots.MembersWithTheirMeaning.{looked}
+use Rattle.fb_json.proofs.slots.MembersWithTheirMeaning.{with_meaning}
 
 meaning_of : (L : LaidSchema) (unknown : Bool) (o : Option Excerpt)
     → option_map (with_meaning L unknown) (option_map excerpt_tree o) ≡ text_found L unknown o

@@ -1,14 +1,14 @@
 -- Each member's text is put at its slot, and what no slot has is read.
-use Rattle.std.proofs.Common.{◌≡◌, ◌≢◌, ◌∙◌, ◌<◌, ◌≤◌, ◌++◌, ◌∷◌, ◌||◌, [], inl, inr, ℕ, zero, suc, List, Bool}
+use Rattle.std.proofs.Common.{◌≡◌, ◌≢◌, ◌∙◌, ◌<◌, ◌++◌, ◌∷◌, ◌||◌, [], inl, inr, ℕ, zero, suc, List, Bool}
 use Rattle.std.proofs.Common.{true, false, Option, Some, None, Result, Err, IfSome, length, map, option_map, get_or}
 use Rattle.std.proofs.Common.{set}
-use Rattle.std.proofs.Common.{slice_get, replicate, unwrap_or, bytes_eq, ◌==◌, if◌then◌else◌, refl, ap, sym, subst}
+use Rattle.std.proofs.Common.{slice_get, replicate, bytes_eq, ◌==◌, if◌then◌else◌, refl, ap, sym, subst}
 use Rattle.std.proofs.Common.{arith}
 use Rattle.std.proofs.lemmas.Bool.{eqb-false, eqb-true}
-use Rattle.std.proofs.lemmas.List.{get_or-replicate, get_or-set_same, length-replicate, length-set}
+use Rattle.std.proofs.lemmas.List.{get_or-replicate, get_or-set_same, length-replicate, length-set, get_or_past}
 use Rattle.std.proofs.lemmas.List.Elements.{All-append, All-cons, All-nil}
 use Rattle.std.proofs.lemmas.Option.{get_or_from_slice_get, slice_get-get_or, slice_get-map, slice_get_cases}
-use Rattle.std.proofs.lemmas.Option.{slice_get_past, slice_get_within, unwrap_or-slice_get}
+use Rattle.std.proofs.lemmas.Option.{slice_get_within}
 use Rattle.std.proofs.lemmas.Slice.Eq.{bytes_eq-Decides}
 use Rattle.serde_json.specs.Data.{put, string}
 use Rattle.serde_json.specs.Find.{get_member}
@@ -24,8 +24,9 @@ use Rattle.fb_encode.specs.declared.reader.Excerpt.{Excerpt}
 use Rattle.fb_encode.specs.MembersRead.{AreNamesRead, AreValuesRead, name_read, object_read, tree_read}
 use Rattle.fb_encode.specs.SlotTexts.{AreTextsOf, AreTextsRead, excerpt_tree, text_over, texts_with}
 use Rattle.fb_encode.specs.TextsRead.{IsRead, IsReadAs}
-use Rattle.fb_encode.proofs.slot_texts.NamedSlotIsFound.{found_as, in_fields, named_at}
+use Rattle.fb_json.proofs.slots.NamedSlotIsFound.{found_as, in_fields, named_at}
 use Rattle.fb_encode.proofs.slot_texts.OneMemberMore.{known_more, object_more}
+use Rattle.std.proofs.Math.Bool.{or-true}
 
 -- the same of the members before a place
 pub record ArePutSoFar (S : DeclaredSchema) (t : ℕ) (fs : List DeclaredField) (unknown : Bool) (brackets : ℕ)
@@ -34,10 +35,6 @@ pub record ArePutSoFar (S : DeclaredSchema) (t : ℕ) (fs : List DeclaredField) 
   pub texts_are : AreTextsOf brackets texts fs ms
   pub values : AreTextsRead texts → AreValuesRead brackets ms
   pub known_is : known ≡ if_known (unknown || names_known (body_at S t) (object_read brackets ms)) (type_place t)
-
-or_true : (b : Bool) → (b || true) ≡ true
-or_true true = refl
-or_true false = refl
 
 none_at : {A : Type 0} (n k : ℕ) (x : A) → k < n → slice_get (replicate n x) k ≡ Some x
 none_at n k x within =
@@ -64,7 +61,7 @@ none_put S t fs unknown brackets n long = record {
         cc;
   };
   values = λ read. All-nil (λ m. IsRead brackets m.1);
-  known_is = ap (λ b. if_known b (type_place t)) (sym (or_true unknown));
+  known_is = ap (λ b. if_known b (type_place t)) (sym (or-true unknown));
 }
 
 -- ---- a text is put at a slot
@@ -80,9 +77,6 @@ put_elsewhere (y ∷ xs) zero zero x apart = absurd (apart refl)
 put_elsewhere (y ∷ xs) zero (suc k) x apart = refl
 put_elsewhere (y ∷ xs) (suc i) zero x apart = refl
 put_elsewhere (y ∷ xs) (suc i) (suc k) x apart = put_elsewhere xs i k x (λ e. apart (ap suc e))
-
-nowhere_else : {A : Type 0} (xs : List A) (i : ℕ) (d : A) → length xs ≤ i → get_or xs i d ≡ d
-nowhere_else xs i d past = sym (unwrap_or-slice_get xs i d) ∙ ap (λ o. unwrap_or o d) (slice_get_past xs i past)
 
 module _ (texts : List (Option Excerpt)) (e : Excerpt) where
   -- a slot that isn't the text's is as it was
@@ -159,7 +153,7 @@ module _ (texts : List (Option Excerpt)) (e : Excerpt) where
         by true over all = over
         by false over all = elim (slice_get_cases texts g.slot).1 [
           | inl there ↦ all g.slot e (put_here texts g.slot (Some e) there.1)
-          | inr past ↦ rw (nowhere_else texts g.slot (Some e) past.0) at over
+          | inr past ↦ rw (get_or_past texts g.slot (Some e) past.0) at over
         ]
 
 -- ---- one member more

@@ -18,7 +18,7 @@ use Rattle.fb_encode.specs.declared.reader.Excerpt.{Excerpt}
 use Rattle.fb_encode.specs.SlotTexts.{excerpt_tree}
 use Rattle.fb_encode.specs.StandIns.{AreAlike, IsFieldPut, IsStandIn}
 use Rattle.fb_encode.specs.TextsRead.{IsRead, IsReadAs}
-use Rattle.fb_encode.proofs.slot_texts.NamedSlotIsFound.{found_as}
+use Rattle.fb_json.proofs.slots.NamedSlotIsFound.{found_as}
 use Rattle.fb_encode.proofs.slot_texts.OneMemberMore.{known_put}
 use Rattle.fb_encode.proofs.slot_texts.PiecesAreRead.{tree_is}
 

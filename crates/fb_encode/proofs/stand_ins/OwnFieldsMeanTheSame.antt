@@ -19,9 +19,10 @@ use Rattle.fb_json.specs.Meant.{Look, if_known, look, names_known, object_meant,
 use Rattle.fb_json.specs.Meant.{slot_place, struct_meant, type_place}
 use Rattle.fb_json.specs.Outcome.{◌>>=◌}
 use Rattle.fb_encode.specs.StandIns.{AreAlike}
-use Rattle.fb_encode.proofs.objects.TextIsOfItsSlot.{looked, with_meaning}
 use Rattle.fb_encode.proofs.stand_ins.FieldsArePut.{AreFieldsPut, AreFoundAlike}
 use Rattle.fb_encode.proofs.stand_ins.SlotIsNotedByItsStandIn.{bind_same}
+use Rattle.fb_json.proofs.slots.MembersWithTheirMeaning.{looked}
+use Rattle.fb_json.proofs.slots.MembersWithTheirMeaning.{with_meaning}
 
 -- ---- the parts
 

@@ -1,9 +1,9 @@
 -- The slots of a table are noted one after the other.
 use Rattle.std.proofs.Common.{◌≡◌, ◌+◌, ◌≤◌, ◌<◌, ◌++◌, ◌∷◌, [], ◌∙◌, ℕ, zero, suc, List, Option, None, Some, Ok}
-use Rattle.std.proofs.Common.{Err, take}
+use Rattle.std.proofs.Common.{Err}
 use Rattle.std.proofs.Common.{length, map, drop, get_or, slice_get, Bor, Bool, true, refl, sym, ap, arith}
-use Rattle.std.proofs.Math.Seq.{drop-append_seam, take-append_seam}
-use Rattle.std.proofs.lemmas.List.{append_assoc, append-nil, length-append, length-map}
+use Rattle.std.proofs.Math.Seq.{drop-append_seam}
+use Rattle.std.proofs.lemmas.List.{append_assoc, append-nil}
 use Rattle.std.proofs.lemmas.Option.{slice_get-map}
 use Rattle.serde_json.specs.declared.value.Value.{Value as Json}
 use Rattle.serde_json.specs.Data.{Members}
@@ -53,13 +53,6 @@ pub record AreSlotsNoted (L : LaidSchema) (look : Look) (t : ℕ) (slots : List 
   pub fits : EachEntryFits L (slots_of L t) entries
   pub adds : AddsParts a b (entries_apart (slots_of L t) entries) (entries_room L (slots_of L t) (entries_in entries))
   pub opens : AddsSlots L (slots_of L t) (stored_in (slots_of L t) entries) before now
-
--- the fields that were open before a table's stand in front of them
-pub opened_within : (before now own : List OpenField) → now ≡ before ++ own → length before ≤ length now
-opened_within before now own added = let long = ap length added ∙ length-append before own in omega (arith, long)
-
-pub opened_again : (before now own : List OpenField) → now ≡ before ++ own → take (length before) now ≡ before
-opened_again before now own added = rw added (take-append_seam before own)
 
 after_none : {A : Type 0} (r : Counted (List A)) → r ≡ after [] r
 after_none (Ok x) = refl
@@ -202,9 +195,3 @@ pub no_cell : (L : LaidSchema) (unknown : Bool) (ms : Members) (look : Look) (t 
 unfolding table_meant
 no_cell L unknown ms look t at zero left some is = absurd (omega (arith, some))
 no_cell L unknown ms look t at (suc levels) left some is = rw is refl
-
-pub slots_long : (L : LaidSchema) (t : ℕ) (slots : List FieldInfo)
-    → map field_seen slots ≡ slots_in (body_at L.schema t) → length (slots_of L t) ≡ length slots
-slots_long L t slots are =
-    length-map (slots_in (body_at L.schema t)) (slot_of L.schema)
-    ∙ sym (ap length are) ∙ length-map slots field_seen

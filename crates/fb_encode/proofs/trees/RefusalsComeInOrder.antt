@@ -2,7 +2,7 @@
 use Rattle.std.proofs.Common.{◌≡◌, ◌<◌, ◌≤◌, ◌⊎◌, inl, inr, refl, Bool}
 use Rattle.serde_json.specs.Data.{Data}
 use Rattle.fb_layout.specs.Laid.{LaidSchema}
-use Rattle.fb_value.specs.Bounds.{Bounds}
+use Rattle.fb_value.specs.Bounds.{Bounds, most_bytes}
 use Rattle.fb_value.specs.Datum.{Datum}
 use Rattle.fb_json.specs.Laws.{FirstFaultRefuses}
 use Rattle.fb_json.specs.Means.{Means}
@@ -46,8 +46,8 @@ module _ (L : LaidSchema) (most : Bounds) (unknown : Bool) (t : Data) where
   tree_refused law (the_json.TooManyCells at) may (inr h) = breaks law _ h
 
   pub build_refused : (prefixed : Bool) (d : Datum) → Means L most unknown t d → (f : BuildFault)
-      → (f ≡ the_build.TooBig → 2147483647 < framed_room prefixed L d)
-      → (f ≡ the_build.Memory → framed_room prefixed L d ≤ 2147483647)
+      → (f ≡ the_build.TooBig → most_bytes < framed_room prefixed L d)
+      → (f ≡ the_build.Memory → framed_room prefixed L d ≤ most_bytes)
       → EncodeRefusedFramed prefixed L most unknown t (Build f)
   build_refused prefixed d means the_build.TooBig big memory = (d, means, big refl)
   build_refused prefixed d means the_build.Memory big memory = (d, means, memory refl)

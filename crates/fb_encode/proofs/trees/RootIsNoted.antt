@@ -1,5 +1,5 @@
 -- The root's value is noted, and is what the tree means.
-use Rattle.std.proofs.Common.{◌≡◌, ◌∙◌, ◌∷◌, [], ℕ, Bool, List, Option, None, Some, refl, sym, ap, subst}
+use Rattle.std.proofs.Common.{◌≡◌, ◌∙◌, ◌∷◌, [], ℕ, Bool, List, Option, refl, sym, ap, subst}
 use Rattle.std.proofs.Common.{arith}
 use Rattle.serde_json.specs.Data.{Data}
 use Rattle.fb_schema.specs.declared.kinds.Kind.TheVariants.{Table}
@@ -8,13 +8,12 @@ use Rattle.fb_layout.specs.Laid.{LaidSchema, one_of, table_kind}
 use Rattle.fb_layout.specs.WellMade.{IsWellMade}
 use Rattle.fb_value.specs.Bounds.{Bounds}
 use Rattle.fb_value.specs.Datum.{Datum, a_number, a_text, a_vector, a_struct, a_table, a_member, an_unknown}
-use Rattle.fb_value.specs.Datum.{SlotEntries}
-use Rattle.fb_value.specs.Datum.{no_entries, absent_entry, present_entry}
 use Rattle.fb_value.specs.Fits.{Fits}
 use Rattle.fb_value.specs.Places.{table_part}
 use Rattle.fb_value.specs.Room.{room}
 use Rattle.fb_value.specs.View.{entries_in}
 use Rattle.fb_value.proofs.types.NestingIsBoundedByDepth.{root_fits}
+use Rattle.fb_value.proofs.types.PartsAreListed.{entries_out, entries_same}
 use Rattle.fb_tape.specs.Tapes.{Taped, Waits}
 use Rattle.fb_json.specs.Laws.{OnlyWhatIsMeant}
 use Rattle.fb_json.specs.Means.{Means}
@@ -24,22 +23,10 @@ use Rattle.fb_build.specs.NotedRoots.{NotesRoot}
 use Rattle.fb_encode.specs.RootsNoted.{IsRootNoted}
 use Rattle.fb_encode.specs.TreesNoted.{IsNoted}
 
--- the entries of a table as a list
-entries_listed : SlotEntries → List (Option Datum)
-entries_listed no_entries = []
-entries_listed (absent_entry es) = None ∷ entries_listed es
-entries_listed (present_entry d es) = Some d ∷ entries_listed es
-
-are_listed : (es : SlotEntries) → entries_in (entries_listed es) ≡ es
-unfolding entries_listed
-are_listed no_entries = refl
-are_listed (absent_entry es) = ap absent_entry (are_listed es)
-are_listed (present_entry d es) = ap (present_entry d) (are_listed es)
-
 is_table : (L : LaidSchema) (t : ℕ) (d : Datum) → Fits L (one_of (table_kind t)) d
     → (xs : List (Option Datum)) × (d ≡ a_table t (entries_in xs))
 is_table L t (a_table type es) fits =
-    (entries_listed es, ap (λ (n : ℕ). a_table n es) fits.0 ∙ ap (a_table t) (sym (are_listed es)))
+    (entries_out es, ap (λ (n : ℕ). a_table n es) fits.0 ∙ ap (a_table t) (sym (entries_same es)))
 is_table L t (a_number n) fits = absurd fits
 is_table L t (a_text n) fits = absurd fits
 is_table L t (a_vector n) fits = absurd fits

@@ -12,6 +12,7 @@ use Rattle.fb_value.specs.Room.{vector_room}
 use Rattle.fb_value.specs.View.{parts_in}
 use Rattle.fb_value.specs.UpTo.{at_most_usize}
 use Rattle.fb_value.specs.Places.{vector_part}
+use Rattle.fb_value.proofs.types.PartsByTheirIndex.{count_parts}
 use Rattle.fb_tape.specs.NamedParts.{NamedPart, elements_apart}
 use Rattle.fb_tape.specs.Tapes.{Taped, Waits}
 use Rattle.fb_json.specs.declared.faults.JsonFault.{JsonFault}
@@ -20,7 +21,7 @@ use Rattle.fb_json.specs.Meant.{count, items_meant, meant, vector_meant}
 use Rattle.fb_json.specs.Outcome.{◌>>=◌, Counted, spent}
 use Rattle.fb_build.specs.Fields.{IsElement, is_reference}
 use Rattle.fb_build.specs.Items.{ItemsKnown}
-use Rattle.fb_build.proofs.noted.OneMoreFits.{counted, elements_fit}
+use Rattle.fb_build.proofs.noted.OneMoreFits.{elements_fit}
 use Rattle.fb_build.proofs.noted.PartsFollow.{elements_known}
 use Rattle.fb_pieces.specs.declared.cut.Run.{Run}
 use Rattle.fb_pieces.specs.ArrayOfRuns.{ReadRuns, joined}
@@ -132,7 +133,7 @@ module _ (L : LaidSchema) (unknown : Bool) (kind : Kind) (at : Place) (levels le
           adds = record {
             waits = λ others w. pushed others ds long (elements_known L k ds element h.noted.fits)
                 (h.noted.adds.waits others w);
-            sum = omega (arith, h.noted.adds.sum, room, ap (vector_room L k) (counted ds ∙ sym long));
+            sum = omega (arith, h.noted.adds.sum, room, ap (vector_room L k) (count_parts ds ∙ sym long));
             layout = layout ∙ h.noted.adds.layout;
             whole = whole;
           };

@@ -55,12 +55,12 @@ pub tree::items-returns-in-Err-clause-trail : goal.tree::items-returns-in-Err-cl
 tree::items-returns-in-Err-clause-trail t c =
     let L = c.args.source.layout.now in
     let unknown = c.args.source.unknown in
-    goes c.args.trail.now c.loop-i.trail c.value.new.trail c.after.new.self
+    goes c.args.trail.now c.loop-i.trail c.value.new.trail c.push_step.new.self
     (IsFirstAt L unknown (tree_spot (tree_view c.index-elements-i.result) (One c.args.kind) c.args.place
     c.args.room.levels c.loop-i.left))
     (IsFirstIn L unknown (ToElement L unknown c.args.kind c.args.place (map tree_view c.args.elements.now)
-    c.args.room.levels c.args.room.left)) (Element c.loop-i.i) c.in-Err.fault c.after.result c.loop-i.invariant.trail
-    c.after.ensures.step c.in-Err.ensures.trail
+    c.args.room.levels c.args.room.left)) (Element c.loop-i.i) c.in-Err.fault c.push_step.result c.loop-i.invariant.trail
+    c.push_step.ensures.step c.in-Err.ensures.trail
     (λ steps. to_element L unknown c.args.kind c.args.place c.args.elements.now c.loop-i.i c.index-elements-i.result
     c.loop-i-test.true c.index-elements-i.is c.args.room.levels c.args.room.left c.loop-i.left
     c.loop-i.invariant.before c.in-Err.fault steps)
@@ -172,7 +172,7 @@ tables::entries-returns-in-Err-clause-gives t c ms are =
     let whole = (c.loop-k.invariant.read ms are).0 ∙ slots_untold L seen c.args.owner.0 c.args.slots.now c.loop-k.k
     c.index-slots-k.result c.loop-k-test.true c.index-slots-k.is (map (option_map view) c.loop-k.found.items)
     c.loop-k.code c.args.room.levels c.loop-k.left c.in-Err.fault told in
-    fails_after c.in-Err.fault c.after.result _ _ c.after.ensures.step (λ same. same)
+    fails_after c.in-Err.fault c.push_step.result _ _ c.push_step.ensures.step (λ same. same)
     (fails_is c.in-Err.fault _ whole)
 
 pub tables::entries-returns-in-Err-clause-trail : goal.tables::entries-returns-in-Err-clause-trail
@@ -183,12 +183,12 @@ tables::entries-returns-in-Err-clause-trail t c ms are =
     let found = looked_up_in c.args.trees.now c.args.slots.now ms are c.loop-k.k c.index-slots-k.result
     c.loop-k-test.true c.index-slots-k.is c.get-tree.result c.get-tree.ensures.is L unknown in
     let told = sym (c.in-Err.ensures seen found) in
-    goes c.args.trail.now c.loop-k.trail c.loop-k.trail c.after.new.self
+    goes c.args.trail.now c.loop-k.trail c.loop-k.trail c.push_step.new.self
     (IsFirstAt L unknown (slot_spot L seen (field_seen c.index-slots-k.result) (slot_place c.args.owner.0 c.loop-k.k)
     c.loop-k.code c.args.room.levels c.loop-k.left))
     (IsFirstIn L unknown (ToSlot L seen c.args.owner (map field_seen c.args.slots.now) c.args.room.levels
-    c.args.room.left)) (Slot c.args.owner c.loop-k.k) c.in-Err.fault c.after.result c.loop-k.invariant.trail
-    c.after.ensures.step (λ kept. here L unknown (slot_spot L seen (field_seen c.index-slots-k.result)
+    c.args.room.left)) (Slot c.args.owner c.loop-k.k) c.in-Err.fault c.push_step.result c.loop-k.invariant.trail
+    c.push_step.ensures.step (λ kept. here L unknown (slot_spot L seen (field_seen c.index-slots-k.result)
     (slot_place c.args.owner.0 c.loop-k.k) c.loop-k.code c.args.room.levels c.loop-k.left) c.in-Err.fault
     c.loop-k.trail (rw told refl))
     (λ steps. to_slot L unknown seen c.args.owner c.args.slots.now c.loop-k.k c.index-slots-k.result
@@ -204,9 +204,9 @@ tables::entries-returns-in-Err-entry-clause-gives t c ms are =
     c.loop-k-test.true c.index-slots-k.is c.get-tree.result c.get-tree.ensures.is L unknown in
     let f = field_seen c.index-slots-k.result in
     let told = sym (c.in-Ok.ensures seen found) in
-    fails_after c.in-Err-entry.fault c.after-in-Err-entry.result
+    fails_after c.in-Err-entry.fault c.push_step-in-Err-entry.result
     (entry_meant L seen f (slot_place c.args.owner.0 c.loop-k.k) c.in-Ok.told c.args.room.levels c.loop-k.left) _
-    c.after-in-Err-entry.ensures.step
+    c.push_step-in-Err-entry.ensures.step
     (λ h. (c.loop-k.invariant.read ms are).0 ∙ slots_ungiven L seen c.args.owner.0 c.args.slots.now c.loop-k.k
     c.index-slots-k.result c.loop-k-test.true c.index-slots-k.is (map (option_map view) c.loop-k.found.items)
     c.loop-k.code c.args.room.levels c.loop-k.left c.in-Ok.told c.in-Err-entry.fault told h)
@@ -221,12 +221,12 @@ tables::entries-returns-in-Err-entry-clause-trail t c ms are =
     c.loop-k-test.true c.index-slots-k.is c.get-tree.result c.get-tree.ensures.is L unknown in
     let f = field_seen c.index-slots-k.result in
     let told = sym (c.in-Ok.ensures seen found) in
-    goes c.args.trail.now c.loop-k.trail c.entry.new.trail c.after-in-Err-entry.new.self
+    goes c.args.trail.now c.loop-k.trail c.entry.new.trail c.push_step-in-Err-entry.new.self
     (IsFirstAt L unknown (entry_spot L seen f (slot_place c.args.owner.0 c.loop-k.k) c.in-Ok.told c.args.room.levels
     c.loop-k.left))
     (IsFirstIn L unknown (ToSlot L seen c.args.owner (map field_seen c.args.slots.now) c.args.room.levels
-    c.args.room.left)) (Slot c.args.owner c.loop-k.k) c.in-Err-entry.fault c.after-in-Err-entry.result
-    c.loop-k.invariant.trail c.after-in-Err-entry.ensures.step (c.in-Err-entry.ensures.trail seen found)
+    c.args.room.left)) (Slot c.args.owner c.loop-k.k) c.in-Err-entry.fault c.push_step-in-Err-entry.result
+    c.loop-k.invariant.trail c.push_step-in-Err-entry.ensures.step (c.in-Err-entry.ensures.trail seen found)
     (λ steps. to_entry L unknown seen c.args.owner c.args.slots.now c.loop-k.k c.index-slots-k.result
     c.loop-k-test.true c.index-slots-k.is c.args.room.levels c.args.room.left c.loop-k.code c.loop-k.left
     (c.loop-k.invariant.read ms are).1 c.in-Ok.told told steps c.in-Err-entry.fault)

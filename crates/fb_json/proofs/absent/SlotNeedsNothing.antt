@@ -4,21 +4,13 @@ use Rattle.std.proofs.Common.{option_map, ap, refl}
 use Rattle.fb_schema.specs.declared.kinds.Kind.TheVariants.{Union, Code}
 use Rattle.fb_schema.specs.declared.kinds.Shape.{Shape}
 use Rattle.fb_schema.specs.declared.kinds.Shape.TheVariants.{One}
-use Rattle.fb_schema.specs.Schema.{Name, DeclaredField, DeclaredSchema}
+use Rattle.fb_schema.specs.Schema.{DeclaredField}
 use Rattle.fb_layout.specs.Laid.{LaidSchema, slot_of}
 use Rattle.fb_value.specs.Datum.{a_number}
 use Rattle.fb_json.specs.declared.faults.Place.{Place}
-use Rattle.fb_json.specs.Meant.{Look, as_absent, code_after, entry_meant, plain_meant, used_meant}
+use Rattle.fb_json.specs.Meant.{Look, as_absent, entry_meant, plain_meant, used_meant}
 use Rattle.fb_json.specs.SlotMembers.{is_of_union}
 use Rattle.fb_json.proofs.slots.EntryIsWhatTheLookUpFinds.{entry_none}
-
-pub code_handed_on : (S : DeclaredSchema) (look : Look) (at : Place) (code : ℕ) (deprecated : Bool) (name : Name)
-    (shape : Shape) → is_of_union shape ≡ false → code_after S look at code deprecated name shape ≡ Ok code
-unfolding code_after
-code_handed_on S look at code true name shape plain = refl
-code_handed_on S look at code false name (One (Union u)) plain = absurd cc
-code_handed_on S look at code false name (One (Code u)) plain = absurd cc
-code_handed_on S look at code false name _ plain = refl
 
 module _ (L : LaidSchema) (look : Look) (f : DeclaredField) (at : Place) (code levels left : ℕ) where
   none_used : (shape : Shape) → is_of_union shape ≡ false → used_meant L f code None at levels left shape
@@ -47,7 +39,3 @@ module _ (L : LaidSchema) (look : Look) (f : DeclaredField) (at : Place) (code l
           ∙ (none_used f.shape plain
           ∙ unneeded (slot_of L.schema f).if_absent (slot_of L.schema f).required
           (ap (λ b. b && not f.deprecated) optional))
-
-pub not_false : (b : Bool) → not b ≡ true → b ≡ false
-not_false true h = absurd cc
-not_false false h = refl

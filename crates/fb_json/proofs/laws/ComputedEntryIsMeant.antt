@@ -20,6 +20,7 @@ use Rattle.fb_json.specs.declared.faults.Place.{Place}
 use Rattle.fb_json.specs.declared.faults.JsonFault.TheVariants.{OutOfRange, UnknownName}
 use Rattle.fb_json.specs.Outcome.{spent}
 use Rattle.fb_schema.specs.Paths.{code_by_path}
+use Rattle.fb_schema.proofs.NumbersInRange.{held_in_range}
 use Rattle.fb_json.specs.Flags.{number_told}
 use Rattle.fb_json.specs.Leaves.{in_range, boolean_in, scalar_meant, enum_meant, text_meant, leaf_meant, code_numbered}
 use Rattle.fb_json.specs.Leaves.{code_told}
@@ -28,8 +29,8 @@ use Rattle.fb_json.specs.Meant.{used_meant, meant, look}
 use Rattle.fb_json.specs.Means.{ScalarMeans, EnumMeans, CodeMeans, CodeAt, unless_null, AbsentMeans, PresentAs}
 use Rattle.fb_json.specs.Means.{PresentMeans, MeansAs, MemberMeans}
 use Rattle.fb_json.proofs.laws.EachStepOfABindSucceeds.{at_ok, ok_inj, or_ok, bind_ok, spent_ok}
-use Rattle.fb_json.proofs.members.LookUpFindsMembers.{with_meaning, looked}
-use Rattle.fb_json.proofs.laws.HeldNumberIsInRange.{held_in_range}
+use Rattle.fb_json.proofs.slots.MembersWithTheirMeaning.{looked}
+use Rattle.fb_json.proofs.slots.MembersWithTheirMeaning.{with_meaning}
 
 -- ---- leaves
 

@@ -1,6 +1,7 @@
 -- What is computed for a tree is what it means.
 use Rattle.std.proofs.Common.{◌≡◌, ◌∙◌, ℕ, zero, suc, ◌+◌, ◌≤◌, ◌||◌, List, [], ◌∷◌, Bool, true, false, Option, Some}
 use Rattle.std.proofs.Common.{None, option_map, Ok, if◌then◌else◌, Less, Equal, Greater, refl, ap, subst, arith}
+use Rattle.std.proofs.lemmas.Option.{same_Some}
 use Rattle.std.specs.Ordering.{nat_cmp, match_ordering}
 use Rattle.std.specs.Cmp.Lexicographic.{slice_cmp}
 use Rattle.serde_json.specs.Data.{Data, null, boolean, number, string, array, object, Items, no_items, item, Members}
@@ -21,9 +22,11 @@ use Rattle.fb_json.specs.Meant.{Meaner, type_place, slot_place, names_known, if_
 use Rattle.fb_json.specs.Meant.{entry_meant, slots_meant, table_meant, part_meant, parts_meant, struct_meant}
 use Rattle.fb_json.specs.Meant.{object_meant, vector_meant, meant, items_meant, look, count as items_count}
 use Rattle.fb_json.specs.Means.{CodeAt, member_called, AbsentAt, PartsMean, EachMeans, SlotsMean}
-use Rattle.fb_json.proofs.laws.EachStepOfABindSucceeds.{at_ok, ok_inj, bind_ok, spent_ok, some_inj}
-use Rattle.fb_json.proofs.members.LookUpFindsMembers.{with_meaning, looked, found_in}
+use Rattle.fb_json.proofs.laws.EachStepOfABindSucceeds.{at_ok, ok_inj, bind_ok, spent_ok}
+use Rattle.fb_json.proofs.slots.LookUpFindsMembers.{found_in}
 use Rattle.fb_json.proofs.laws.ComputedEntryIsMeant.{Good, leaf_ok, code_ok, SoundAt, GoodEntry, present_is, used_ok}
+use Rattle.fb_json.proofs.slots.MembersWithTheirMeaning.{looked}
+use Rattle.fb_json.proofs.slots.MembersWithTheirMeaning.{with_meaning}
 
 -- ---- slots, fields and elements
 
@@ -240,6 +243,6 @@ mutual
       elim (slice_cmp nat_cmp k l) as (λ o. match_ordering o (get_member k ms) (Some d) (get_member k ms) ≡ Some t
       → SoundAt L unknown t) [
         | Less ↦ λ h. member_sound L unknown ms k t h
-        | Equal ↦ λ h. picked L unknown d t (sound L unknown d) (some_inj d t h)
+        | Equal ↦ λ h. picked L unknown d t (sound L unknown d) (same_Some d t h)
         | Greater ↦ λ h. member_sound L unknown ms k t h
       ] found

@@ -6,7 +6,6 @@ use Rattle.fb_json.specs.declared.faults.Place.{Place}
 use Rattle.fb_json.specs.declared.faults.JsonFault.{JsonFault}
 use Rattle.fb_json.specs.declared.faults.JsonFault.TheVariants.{TooManyCells}
 use Rattle.fb_json.specs.Outcome.{◌>>=◌, or_fault, spent}
-use Rattle.serde_json.specs.Data.{Data}
 
 pub ok_inj : {A : Type 0} (a b : A) → ◌≡◌ {A = Result A JsonFault} (Ok a) (Ok b) → a ≡ b
 ok_inj a b h = cc
@@ -55,6 +54,3 @@ spends_by false n left at is h = refl
 
 pub spends : (n : ℕ) (at : Place) (left : ℕ) → n ≤ left → spent n at left ≡ Ok (left - n)
 spends n at left h = spends_by (nat_lt left n) n left at refl h
-
-pub some_inj : (a b : Data) → Some a ≡ Some b → a ≡ b
-some_inj a b h = cc

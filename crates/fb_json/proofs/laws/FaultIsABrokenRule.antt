@@ -2,6 +2,7 @@
 use Rattle.std.proofs.Common.{◌≡◌, ◌∙◌, ◌⊎◌, inl, inr, ℕ, zero, suc, ◌+◌, ◌||◌, List, [], ◌∷◌, Bool, true, false}
 use Rattle.std.proofs.Common.{Option, Some, None, option_map, slice_get, Ok, Err, if◌then◌else◌, Less, Equal, Greater}
 use Rattle.std.proofs.Common.{refl, ap, subst, arith}
+use Rattle.std.proofs.lemmas.Option.{same_Some}
 use Rattle.std.specs.Ordering.{nat_cmp, match_ordering}
 use Rattle.std.specs.Cmp.Lexicographic.{slice_cmp}
 use Rattle.serde_json.specs.Data.{Data, null, boolean, number, string, array, object, Items, no_items, item, Members}
@@ -29,12 +30,14 @@ use Rattle.fb_json.specs.Breaks.{may_be, ToldBreaks, ToldBehind, EntryBreaks, sl
 use Rattle.fb_json.specs.Breaks.{unknown_in_table, unknown_in_struct, in_code, in_entry, in_slot, in_member}
 use Rattle.fb_json.specs.Breaks.{missing_part, in_part, in_element}
 use Rattle.fb_json.specs.Laws.{IsLimit}
-use Rattle.fb_json.proofs.laws.EachStepOfABindSucceeds.{bind_err, some_inj}
-use Rattle.fb_json.proofs.members.LookUpFindsMembers.{with_meaning, looked, found_in}
+use Rattle.fb_json.proofs.laws.EachStepOfABindSucceeds.{bind_err}
+use Rattle.fb_json.proofs.slots.LookUpFindsMembers.{found_in}
 use Rattle.fb_json.proofs.laws.ComputedEntryIsMeant.{present_is, code_ok}
 use Rattle.fb_json.proofs.laws.FaultOfALeafIsABrokenRule.{err_inj, no_err, Refused, wrong, spent_limit, own}
 use Rattle.fb_json.proofs.laws.FaultOfALeafIsABrokenRule.{leaf_broken, BrokenAt}
 use Rattle.fb_json.proofs.laws.FaultOfAnEntryIsABrokenRule.{Inner, Entry, used_broken, told_at}
+use Rattle.fb_json.proofs.slots.MembersWithTheirMeaning.{looked}
+use Rattle.fb_json.proofs.slots.MembersWithTheirMeaning.{with_meaning}
 
 module _ (L : LaidSchema) (unknown : Bool) (ms : Members) (broken : (k : Name) (t : Data) → get_member k ms ≡ Some t
     → BrokenAt L unknown t) where
@@ -391,6 +394,6 @@ mutual
       elim (slice_cmp nat_cmp k l) as (λ o. match_ordering o (get_member k ms) (Some d) (get_member k ms) ≡ Some t
       → BrokenAt L unknown t) [
         | Less ↦ λ h. member_is_broken L unknown ms k t h
-        | Equal ↦ λ h. subst (BrokenAt L unknown) (some_inj d t h) (broken L unknown d)
+        | Equal ↦ λ h. subst (BrokenAt L unknown) (same_Some d t h) (broken L unknown d)
         | Greater ↦ λ h. member_is_broken L unknown ms k t h
       ] found

@@ -24,6 +24,7 @@ use Rattle.fb_json.specs.declared.faults.JsonFault.TheVariants.{WrongShape, NotW
 use Rattle.fb_json.specs.declared.faults.JsonFault.TheVariants.{TooManyCells}
 use Rattle.fb_json.specs.Outcome.{spent}
 use Rattle.fb_schema.specs.Paths.{code_by_path}
+use Rattle.fb_schema.proofs.NumbersInRange.{holds_in_range}
 use Rattle.fb_json.specs.Flags.{number_told}
 use Rattle.fb_json.specs.Leaves.{in_range, boolean_in, scalar_meant, enum_meant, text_meant, leaf_meant, code_numbered}
 use Rattle.fb_json.specs.Leaves.{code_told}
@@ -31,7 +32,6 @@ use Rattle.fb_json.specs.Meant.{meant}
 use Rattle.fb_json.specs.Breaks.{may_be, base_of, OwnBreaks, ToldBreaks, Breaks, here}
 use Rattle.fb_json.specs.Laws.{IsLimit}
 use Rattle.fb_json.proofs.laws.EachStepOfABindSucceeds.{bind_err, or_err}
-use Rattle.fb_json.proofs.laws.HeldNumberIsInRange.{holds_in_range}
 
 pub err_inj : {A : Type 0} (a b : JsonFault) → ◌≡◌ {A = Result A JsonFault} (Err a) (Err b) → a ≡ b
 err_inj a b h = cc

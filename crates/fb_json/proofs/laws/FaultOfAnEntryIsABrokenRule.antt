@@ -16,8 +16,8 @@ use Rattle.fb_json.specs.Meant.{code_in, as_absent, as_member, union_meant, plai
 use Rattle.fb_json.specs.Breaks.{ToldBreaks, HasNoCode, EntryBreaks, is_own, Breaks}
 use Rattle.fb_json.specs.Laws.{IsLimit}
 use Rattle.fb_json.proofs.laws.EachStepOfABindSucceeds.{bind_err}
-use Rattle.fb_json.proofs.members.LookUpFindsMembers.{with_meaning}
 use Rattle.fb_json.proofs.laws.FaultOfALeafIsABrokenRule.{err_inj, no_err, Refused, BrokenAt, told_broken}
+use Rattle.fb_json.proofs.slots.MembersWithTheirMeaning.{with_meaning}
 
 -- ---- slots
 

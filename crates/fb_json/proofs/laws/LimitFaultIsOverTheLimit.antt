@@ -1,6 +1,7 @@
 -- A fault of the limits comes only where a tree is over them.
 use Rattle.std.proofs.Common.{◌≡◌, inl, inr, ℕ, ◌+◌, List, Bool, Some, Ok, Err, Less, Equal, Greater, refl, subst}
 use Rattle.std.proofs.Common.{arith}
+use Rattle.std.proofs.lemmas.Option.{same_Some}
 use Rattle.std.specs.Ordering.{nat_cmp, match_ordering}
 use Rattle.std.specs.Cmp.Lexicographic.{slice_cmp}
 use Rattle.serde_json.specs.Data.{Data, null, boolean, number, string, array, object, Items, no_items, item, Members}
@@ -17,7 +18,7 @@ use Rattle.fb_json.specs.Outcome.{spent}
 use Rattle.fb_json.specs.Meant.{vector_meant, meant, items_meant, count as items_count}
 use Rattle.fb_json.specs.Laws.{Over}
 use Rattle.fb_json.specs.TreeCounts.{cells_measure, depth_measure, items_counted, tree_cells, tree_depth}
-use Rattle.fb_json.proofs.laws.EachStepOfABindSucceeds.{rest_ok, bind_err, bind_ok, spent_ok, some_inj}
+use Rattle.fb_json.proofs.laws.EachStepOfABindSucceeds.{rest_ok, bind_err, bind_ok, spent_ok}
 use Rattle.fb_json.proofs.laws.FaultOfALeafIsABrokenRule.{no_err}
 use Rattle.fb_json.proofs.laws.LeavesSpendTheirCells.{over_map, over_wrong, spent_over, SpentAt, LimitAt, leaf_spent}
 use Rattle.fb_json.proofs.laws.LeavesSpendTheirCells.{leaf_limit}
@@ -95,7 +96,7 @@ mutual
       elim (slice_cmp nat_cmp k l) as (λ o. match_ordering o (get_member k ms) (Some d) (get_member k ms) ≡ Some t
       → SpentAt L unknown t) [
         | Less ↦ λ h. member_spends L unknown ms k t h
-        | Equal ↦ λ h. subst (SpentAt L unknown) (some_inj d t h) (spends L unknown d)
+        | Equal ↦ λ h. subst (SpentAt L unknown) (same_Some d t h) (spends L unknown d)
         | Greater ↦ λ h. member_spends L unknown ms k t h
       ] found
 
@@ -139,6 +140,6 @@ mutual
       elim (slice_cmp nat_cmp k l) as (λ o. match_ordering o (get_member k ms) (Some d) (get_member k ms) ≡ Some t
       → LimitAt L unknown t) [
         | Less ↦ λ h. member_limits L unknown ms k t h
-        | Equal ↦ λ h. subst (LimitAt L unknown) (some_inj d t h) (limited L unknown d)
+        | Equal ↦ λ h. subst (LimitAt L unknown) (same_Some d t h) (limited L unknown d)
         | Greater ↦ λ h. member_limits L unknown ms k t h
       ] found

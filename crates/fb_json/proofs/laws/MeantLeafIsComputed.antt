@@ -1,5 +1,5 @@
 -- What leaves and codes mean is computed.
-use Rattle.std.proofs.Common.{◌≡◌, ℕ, zero, suc, ◌+◌, ◌-◌, ◌≤◌, ℤ, List, [], ◌∷◌, length, Bool, true, false, Option}
+use Rattle.std.proofs.Common.{◌≡◌, ℕ, zero, suc, ◌+◌, ◌-◌, ◌≤◌, ℤ, List, length, Bool, true, false, Option}
 use Rattle.std.proofs.Common.{Some, None, option_map, Ok, nat_lt, refl, sym, ap, arith}
 use Rattle.std.proofs.lemmas.Bool.Decides.{nat_tests}
 use Rattle.serde_json.specs.Data.{Num, Data, null, boolean, number, string, array, object, Items, Members}
@@ -11,38 +11,18 @@ use Rattle.fb_schema.specs.declared.kinds.Shape.{Shape}
 use Rattle.fb_schema.specs.declared.kinds.Shape.TheVariants.{One, Many}
 use Rattle.fb_schema.specs.Schema.{DeclaredField, DeclaredSchema, body_at, base_in}
 use Rattle.fb_schema.specs.WellDeclared.{InRange}
+use Rattle.fb_schema.proofs.NumbersInRange.{holds_in_range}
 use Rattle.fb_layout.specs.Laid.{LaidSchema}
 use Rattle.fb_value.specs.Counts.{cells, depth}
-use Rattle.fb_value.specs.Datum.{Datum, a_number, a_text, a_vector, a_struct, a_table, Parts, no_parts, more_parts}
-use Rattle.fb_value.specs.Datum.{SlotEntries, no_entries, absent_entry, present_entry}
-use Rattle.fb_value.specs.View.{parts_in, entries_in}
+use Rattle.fb_value.specs.Datum.{Datum, a_number, a_text, a_vector, a_struct, a_table}
 use Rattle.fb_json.specs.declared.faults.Place.{Place}
 use Rattle.fb_json.specs.Leaves.{in_range, boolean_in, scalar_meant, enum_meant, text_meant, leaf_meant, code_numbered}
 use Rattle.fb_json.specs.Leaves.{code_told}
 use Rattle.fb_json.specs.Meant.{code_in, code_after, meant, look}
 use Rattle.fb_json.specs.Means.{ScalarMeans, EnumMeans, CodeMeans, CodeAt, MeansAs}
 use Rattle.fb_json.proofs.laws.EachStepOfABindSucceeds.{spends}
-use Rattle.fb_json.proofs.members.LookUpFindsMembers.{with_meaning, looked}
-use Rattle.fb_json.proofs.laws.HeldNumberIsInRange.{holds_in_range}
-
--- the lists of parts and entries
-abbrev pub parts_out : Parts → List Datum
-parts_out no_parts = []
-parts_out (more_parts d ds) = d ∷ parts_out ds
-
-abbrev pub entries_out : SlotEntries → List (Option Datum)
-entries_out no_entries = []
-entries_out (absent_entry es) = None ∷ entries_out es
-entries_out (present_entry d es) = Some d ∷ entries_out es
-
-pub parts_same : (ds : Parts) → parts_in (parts_out ds) ≡ ds
-parts_same no_parts = refl
-parts_same (more_parts d ds) = ap (more_parts d) (parts_same ds)
-
-pub entries_same : (es : SlotEntries) → entries_in (entries_out es) ≡ es
-entries_same no_entries = refl
-entries_same (absent_entry es) = ap absent_entry (entries_same es)
-entries_same (present_entry d es) = ap (present_entry d) (entries_same es)
+use Rattle.fb_json.proofs.slots.MembersWithTheirMeaning.{looked}
+use Rattle.fb_json.proofs.slots.MembersWithTheirMeaning.{with_meaning}
 
 -- ---- leaves
 

@@ -1,6 +1,7 @@
 -- What is meant within the limits is computed.
 use Rattle.std.proofs.Common.{◌≡◌, ◌∙◌, ℕ, zero, suc, ◌+◌, ◌-◌, ◌≤◌, ◌||◌, ℤ, List, [], ◌∷◌, Bool, true, false, Option}
 use Rattle.std.proofs.Common.{Some, None, option_map, Ok, if◌then◌else◌, Less, Equal, Greater, refl, ap, subst, arith}
+use Rattle.std.proofs.lemmas.Option.{same_Some}
 use Rattle.std.specs.Ordering.{nat_cmp, match_ordering}
 use Rattle.std.specs.Cmp.Lexicographic.{slice_cmp}
 use Rattle.serde_json.specs.Data.{Data, null, boolean, number, string, array, object, Items, no_items, item, Members}
@@ -13,21 +14,25 @@ use Rattle.fb_schema.specs.declared.kinds.Kind.TheVariants.{Scalar, Enum, Struct
 use Rattle.fb_schema.specs.declared.kinds.Shape.{Shape}
 use Rattle.fb_schema.specs.declared.kinds.Shape.TheVariants.{One, Many}
 use Rattle.fb_schema.specs.Schema.{Name, DeclaredField, body_at, slots_in, parts_in as fields_of_struct}
-use Rattle.fb_layout.specs.Laid.{LaidSchema, Slot, slot_of, one_of, union_kind, code_kind, default_of, member_by_code}
+use Rattle.fb_layout.specs.Laid.{LaidSchema, Slot, slot_of, one_of, union_kind, default_of, member_by_code}
 use Rattle.fb_value.specs.Counts.{cells, parts_cells, entries_cells, depth, parts_depth, entries_depth}
 use Rattle.fb_value.specs.Datum.{Datum, a_number, a_text, a_vector, a_struct, a_table, a_member, Parts, no_parts}
 use Rattle.fb_value.specs.Datum.{more_parts, SlotEntries, no_entries, absent_entry, present_entry, count}
+use Rattle.fb_value.proofs.types.PartsAreListed.{parts_out, entries_out, parts_same, entries_same}
 use Rattle.fb_json.specs.declared.faults.Place.{Place}
 use Rattle.fb_json.specs.Meant.{slot_place, present, as_member, union_meant, plain_meant, used_meant, entry_meant}
 use Rattle.fb_json.specs.Meant.{slots_meant, table_meant, parts_meant, struct_meant, object_meant, vector_meant, meant}
 use Rattle.fb_json.specs.Meant.{items_meant, look, count as items_count}
 use Rattle.fb_json.specs.Means.{ScalarMeans, member_called, IsKnown, AbsentMeans, AbsentAt, PresentAs, PresentMeans}
 use Rattle.fb_json.specs.Means.{MeansAs, MemberMeans, PartsMean, EachMeans, SlotsMean}
-use Rattle.fb_json.proofs.laws.EachStepOfABindSucceeds.{spends, some_inj}
-use Rattle.fb_json.proofs.members.LookUpFindsMembers.{with_meaning, looked, found_in}
+use Rattle.fb_json.proofs.laws.EachStepOfABindSucceeds.{spends}
+use Rattle.fb_json.proofs.slots.LookUpFindsMembers.{found_in}
 use Rattle.fb_json.proofs.laws.ComputedEntryIsMeant.{present_is}
-use Rattle.fb_json.proofs.laws.MeantLeafIsComputed.{code_full, parts_out, entries_out, parts_same, entries_same}
+use Rattle.fb_json.proofs.laws.MeantLeafIsComputed.{code_full}
 use Rattle.fb_json.proofs.laws.MeantLeafIsComputed.{CompleteAt, leaf_full}
+use Rattle.fb_json.proofs.slots.MembersWithTheirMeaning.{looked}
+use Rattle.fb_json.proofs.slots.MembersWithTheirMeaning.{with_meaning}
+use Rattle.fb_json.proofs.slots.CodeSlots.{code_default}
 
 -- ---- entries
 
@@ -35,10 +40,6 @@ use Rattle.fb_json.proofs.laws.MeantLeafIsComputed.{CompleteAt, leaf_full}
 union_default : (b : Bool) (n : ℤ) (u : ℕ) → default_of b n (one_of (union_kind u)) ≡ None
 union_default true n u = refl
 union_default false n u = refl
-
-code_default : (b : Bool) (n : ℤ) (u : ℕ) → default_of b n (one_of (code_kind u)) ≡ None
-code_default true n u = refl
-code_default false n u = refl
 
 module _ (L : LaidSchema) (unknown : Bool) where
   -- an entry that is computed
@@ -353,6 +354,6 @@ mutual
       elim (slice_cmp nat_cmp k l) as (λ o. match_ordering o (get_member k ms) (Some d) (get_member k ms) ≡ Some t
       → CompleteAt L unknown t) [
         | Less ↦ λ h. member_complete L unknown ms k t h
-        | Equal ↦ λ h. subst (CompleteAt L unknown) (some_inj d t h) (complete L unknown d)
+        | Equal ↦ λ h. subst (CompleteAt L unknown) (same_Some d t h) (complete L unknown d)
         | Greater ↦ λ h. member_complete L unknown ms k t h
       ] found

@@ -1,5 +1,6 @@
 -- What a tree means has no union's code that the schema doesn't know.
-use Rattle.std.proofs.Common.{◌≡◌, ℕ, Bool, true, ◌&&◌, List, [], ◌∷◌, Option, Some, None, refl}
+use Rattle.std.proofs.Common.{◌≡◌, ℕ, Bool, true, List, [], ◌∷◌, Option, Some, None, refl}
+use Rattle.std.specs.Cmp.Derive.{both_true}
 use Rattle.serde_json.specs.Data.{Data, Items, no_items, item, Members}
 use Rattle.fb_schema.specs.declared.kinds.Kind.{Kind}
 use Rattle.fb_schema.specs.declared.kinds.Kind.TheVariants.{Scalar, Enum, Struct, Table, Union, Code, Text}
@@ -13,9 +14,6 @@ use Rattle.fb_value.specs.Datum.{Datum, a_number, a_text, a_vector, a_struct, a_
 use Rattle.fb_value.specs.Datum.{more_parts, SlotEntries, no_entries, absent_entry, present_entry}
 use Rattle.fb_json.specs.Means.{PresentAs, PresentMeans, member_called, MeansAs, MemberMeans, PartsMean, EachMeans}
 use Rattle.fb_json.specs.Means.{SlotsMean, Means}
-
-both : (a b : Bool) → a ≡ true → b ≡ true → (a && b) ≡ true
-both a b p q = rw (p, q) refl
 
 module _ (d : Datum) (own : Data → Type 0) (member : Data → ℕ → Type 0) (own_whole : (t : Data) → own t
     → is_whole d ≡ true) (member_whole : (t : Data) (u : ℕ) → member t u → is_whole d ≡ true) where
@@ -47,13 +45,13 @@ module _ (L : LaidSchema) (unknown : Bool) where
     whole_parts : (ms : Members) (fs : List DeclaredField) (ds : Parts) → PartsMean L unknown ms fs ds
         → parts_whole ds ≡ true
     whole_parts ms [] no_parts h = refl
-    whole_parts ms (f ∷ fs) (more_parts d ds) h = both (is_whole d) (parts_whole ds) (whole_as h.0 f.shape d h.2)
+    whole_parts ms (f ∷ fs) (more_parts d ds) h = both_true {s = is_whole d} {t = parts_whole ds} (whole_as h.0 f.shape d h.2)
         (whole_parts ms fs ds h.3)
     whole_parts ms _ _ h = absurd h
 
     whole_each : (ts : Items) (kind : Kind) (ds : Parts) → EachMeans L unknown ts kind ds → parts_whole ds ≡ true
     whole_each no_items kind no_parts h = refl
-    whole_each (item t ts) kind (more_parts d ds) h = both (is_whole d) (parts_whole ds) (whole_as t (One kind) d h.0)
+    whole_each (item t ts) kind (more_parts d ds) h = both_true {s = is_whole d} {t = parts_whole ds} (whole_as t (One kind) d h.0)
         (whole_each ts kind ds h.1)
     whole_each _ kind _ h = absurd h
 
@@ -62,7 +60,7 @@ module _ (L : LaidSchema) (unknown : Bool) where
     whole_slots ms before [] no_entries h = refl
     whole_slots ms before (f ∷ fs) (absent_entry es) h = whole_slots ms h.0 fs es h.3
     whole_slots ms before (f ∷ fs) (present_entry d es) h =
-        both (is_whole d) (entries_whole es)
+        both_true {s = is_whole d} {t = entries_whole es}
         (whole_present d (λ t. MeansAs L unknown t f.shape d) (λ t u. MemberMeans L unknown t u h.0 d)
         (λ t m. whole_as t f.shape d m) (λ t u m. whole_member t u h.0 d m) (slot_of L.schema f) f.shape
         (member_called f.name ms) h.3)

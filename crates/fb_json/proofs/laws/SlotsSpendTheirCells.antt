@@ -22,12 +22,14 @@ use Rattle.fb_json.specs.Laws.{Over}
 use Rattle.fb_json.specs.TreeCounts.{cells_measure, depth_measure, slot_count, slots_count, parts_count, counter}
 use Rattle.fb_json.specs.TreeCounts.{tree_cells, tree_depth}
 use Rattle.fb_json.proofs.laws.EachStepOfABindSucceeds.{rest_ok, bind_err, bind_ok, spent_ok}
-use Rattle.fb_json.proofs.members.LookUpFindsMembers.{with_meaning, looked, found_in}
+use Rattle.fb_json.proofs.slots.LookUpFindsMembers.{found_in}
 use Rattle.fb_json.proofs.laws.ComputedEntryIsMeant.{present_is, code_ok}
 use Rattle.fb_json.proofs.laws.FaultOfALeafIsABrokenRule.{err_inj, no_err, told_broken}
 use Rattle.fb_json.proofs.laws.LeavesSpendTheirCells.{over_map, over_wrong, told_over, spent_over, count_of, counter_is}
 use Rattle.fb_json.proofs.laws.LeavesSpendTheirCells.{called_count, behind_is}
 use Rattle.fb_json.proofs.laws.EntriesSpendTheirCells.{used_spent, used_limit, Spends, Limits}
+use Rattle.fb_json.proofs.slots.MembersWithTheirMeaning.{looked}
+use Rattle.fb_json.proofs.slots.MembersWithTheirMeaning.{with_meaning}
 
 module _ (L : LaidSchema) (unknown : Bool) (ms : Members) where
   pub seen : (s : DeclaredField)

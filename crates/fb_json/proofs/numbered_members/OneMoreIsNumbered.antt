@@ -4,16 +4,13 @@ use Rattle.std.proofs.Common.{slice_get, replicate, arith, refl, ap}
 use Rattle.std.proofs.lemmas.List.{map-set}
 use Rattle.std.proofs.lemmas.List.Elements.{All-head, All-tail}
 use Rattle.fb_json.specs.SlotMembers.{numbered}
+use Rattle.fb_schema.proofs.LastEntry.{entry_last}
 
 -- no number yet
 pub none_numbered : {X : Type 0} (found : List X) (n : ℕ)
     → map (numbered found) (replicate n 0) ≡ replicate n None
 none_numbered found zero = refl
 none_numbered found (suc n) = ap (λ os. None ∷ os) (none_numbered found n)
-
-last_there : {X : Type 0} (xs : List X) (x : X) → slice_get (xs ++ x ∷ []) (length xs) ≡ Some x
-last_there [] x = refl
-last_there (y ∷ ys) x = last_there ys x
 
 others_there : {X : Type 0} (xs : List X) (x : X) (k : ℕ) → k < length xs
     → slice_get (xs ++ x ∷ []) k ≡ slice_get xs k
@@ -38,5 +35,5 @@ module _ {X : Type 0} (found : List X) (x : X) where
       ≡ set (map (numbered found) numbers) k (Some x)
   one_more numbers within k =
       map-set (numbered (found ++ x ∷ [])) numbers k (suc (length found))
-      ∙ (ap (set (map (numbered (found ++ x ∷ [])) numbers) k) (last_there found x)
+      ∙ (ap (set (map (numbered (found ++ x ∷ [])) numbers) k) (entry_last found x)
       ∙ ap (λ os. set os k (Some x)) (others_stay numbers within))

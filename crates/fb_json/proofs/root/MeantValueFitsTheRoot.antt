@@ -13,7 +13,7 @@ use Rattle.fb_schema.specs.Schema.{DeclaredField, DeclaredBody, table_body, stru
 use Rattle.fb_schema.specs.Schema.{DeclaredType, DeclaredSchema, body_in, body_at, base_in, slots_in, parts_in}
 use Rattle.fb_schema.specs.Schema.{is_table}
 use Rattle.fb_schema.specs.WellDeclared.{InRange, MarksFit, IsPart, IsBody, IsDeclared}
-use Rattle.fb_layout.specs.Laid.{LaidSchema, code_kind, union_kind, table_kind, one_of, stored_kind, stored_shape}
+use Rattle.fb_layout.specs.Laid.{LaidSchema, union_kind, table_kind, one_of, stored_kind, stored_shape}
 use Rattle.fb_layout.specs.Laid.{default_of, slot_of, kind_in}
 use Rattle.fb_value.specs.Datum.{Datum, a_number, a_text, a_vector, a_struct, a_table, a_member, Parts, no_parts}
 use Rattle.fb_value.specs.Datum.{more_parts, SlotEntries, no_entries, absent_entry, present_entry}
@@ -25,6 +25,8 @@ use Rattle.fb_json.specs.Means.{ScalarMeans, EnumMeans, AbsentMeans, AbsentAt, P
 use Rattle.fb_json.specs.Means.{MeansAs, MemberMeans, PartsMean, EachMeans, SlotsMean, Means}
 use Rattle.fb_json.proofs.root.NamedNumberIsInRange.{told_in_range}
 use Rattle.fb_json.proofs.texts.ValueTextsAreUtf8.{HasUtf8, HaveUtf8, EntriesHaveUtf8}
+use Rattle.std.proofs.Math.Bool.{and-false}
+use Rattle.fb_json.proofs.slots.CodeSlots.{code_default}
 
 -- ---- numbers
 
@@ -74,18 +76,10 @@ module _ (S : DeclaredSchema) (declared : IsDeclared S) (t : ℕ) where
 
 -- ---- slots
 
-and_false : (b : Bool) → (b && false) ≡ false
-and_false true = refl
-and_false false = refl
-
-no_default : (b : Bool) (n : ℤ) (u : ℕ) → default_of b n (one_of (code_kind u)) ≡ None
-no_default true n u = refl
-no_default false n u = refl
-
 module _ (L : LaidSchema) (f : DeclaredField) where
   unused_absent : f.deprecated ≡ true → MayBeAbsent (slot_of L.schema f)
   unused_absent e = (
-    ap (λ (b : Bool). f.required && not b) e ∙ and_false f.required,
+    ap (λ (b : Bool). f.required && not b) e ∙ and-false f.required,
     ap (λ (b : Bool). default_of (b || f.optional) f.default (stored_shape L.schema f.shape)) e,
   )
 
@@ -94,7 +88,7 @@ module _ (L : LaidSchema) (f : DeclaredField) where
   used_absent c o (One (Code u)) e marks h = (
     ap (λ (b : Bool). b && not f.deprecated) marks.1,
     ap (λ (s : Shape). default_of (f.deprecated || f.optional) f.default (stored_shape L.schema s)) e
-        ∙ no_default (f.deprecated || f.optional) f.default u.0,
+        ∙ code_default (f.deprecated || f.optional) f.default u.0,
   )
   used_absent c o (One (Union u)) e marks h = (h.3, h.2)
   used_absent c o _ e marks h = (h.2, h.1)

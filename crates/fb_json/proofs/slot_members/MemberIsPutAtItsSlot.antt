@@ -1,6 +1,6 @@
 -- Each member that a name's look-up finds a slot for is put there, and belongs to no other slot.
-use Rattle.std.proofs.Common.{◌≡◌, ◌≢◌, ◌∙◌, ℕ, zero, suc, ◌<◌, Bool, true, false, List, [], ◌∷◌, length, map, find}
-use Rattle.std.proofs.Common.{get_or, set, slice_get, replicate, Option, Some, None, option_map, cond, bytes_eq, String}
+use Rattle.std.proofs.Common.{◌≡◌, ◌≢◌, ◌∙◌, ℕ, zero, suc, ◌<◌, Bool, true, false, List, ◌∷◌, length, map}
+use Rattle.std.proofs.Common.{get_or, set, slice_get, replicate, Option, Some, None, option_map, bytes_eq, String}
 use Rattle.std.proofs.Common.{BTreeMap, Global, Bor, All, string_bytes, string_cmp, refl, ap, sym, subst, arith}
 use Rattle.std.specs.BTreeMap.{get}
 use Rattle.std.specs.Option.{option_or}
@@ -14,55 +14,13 @@ use Rattle.serde_json.specs.Data.{Data, Members, member, no_members}
 use Rattle.serde_json.specs.Find.{get_member}
 use Rattle.serde_json.specs.View.{view, members_view}
 use Rattle.serde_json.proofs.Views.{Entry, view-lookup}
-use Rattle.fb_schema.specs.Schema.{Name, DeclaredField, DeclaredBody, table_body, struct_body}
-use Rattle.fb_schema.specs.Schema.{DeclaredType, DeclaredSchema, body_in, body_at}
-use Rattle.fb_schema.specs.Found.{field_named, fields_in}
-use Rattle.fb_schema.specs.WellDeclared.{IsBody, IsDeclared}
+use Rattle.fb_schema.specs.Schema.{Name, DeclaredField}
+use Rattle.fb_schema.specs.Schema.{DeclaredSchema, body_at}
+use Rattle.fb_schema.specs.Found.{field_named}
+use Rattle.fb_schema.specs.WellDeclared.{IsDeclared}
 use Rattle.fb_json.specs.SlotMembers.{AreFieldsOf, AreMembersOf, tree_seen}
-use Rattle.fb_json.proofs.slot_members.NamedSlotIsFound.{found_as, in_fields, number_is, passed_over}
-
--- ---- the slot that a name's look-up finds has that name
-
-found_there : {X : Type 0} (p : X → Bool) (xs : List X) (x : X) → find p xs ≡ Some x
-    → (j : ℕ) × (slice_get xs j ≡ Some x) × (p x ≡ true)
-found_there p [] x e = absurd cc
-found_there {X} p (y ∷ ys) x e = by (p y) refl e (found_there p ys x)
-  where
-    by : (b : Bool) → p y ≡ b → cond b (Some y) (find p ys) ≡ Some x
-        → (find p ys ≡ Some x → (j : ℕ) × (slice_get ys j ≡ Some x) × (p x ≡ true))
-        → (j : ℕ) × (slice_get (y ∷ ys) j ≡ Some x) × (p x ≡ true)
-    by true passes is later = let same : y ≡ x = cc in (0, is, rw (← same) passes)
-    by false fails is later = let there = later is in (suc there.0, there.1, there.2)
-
-named_among : (name : Name) (fs : List DeclaredField)
-    → ((k : ℕ) (f : DeclaredField) → slice_get fs k ≡ Some f → f.slot ≡ k) → (g f : DeclaredField) (k : ℕ)
-    → find (λ h. bytes_eq name h.name) fs ≡ Some g → slice_get fs k ≡ Some f → k ≡ g.slot → f.name ≡ name
-named_among name fs slots g f k found there at =
-    let place = found_there (λ h. bytes_eq name h.name) fs g found in
-    let same : k ≡ place.0 = at ∙ slots place.0 g place.1 in
-    let here : slice_get fs place.0 ≡ Some f = rw (← same) there in
-    let both : Some f ≡ Some g = sym here ∙ place.1 in
-    let one : f ≡ g = cc in
-    ap (λ (h : DeclaredField). h.name) one ∙ sym ((bytes_eq-Decides name g.name).0 place.2)
-
-named_in_body : (S : DeclaredSchema) (t : ℕ) (body : DeclaredBody) → IsBody S t body → (name : Name)
-    (g f : DeclaredField) (k : ℕ) → field_named body name ≡ Some g → slice_get (fields_in body) k ≡ Some f
-    → k ≡ g.slot → f.name ≡ name
-named_in_body S t (table_body fs) is name g f k found there at = named_among name fs is.slots g f k found there at
-named_in_body S t (struct_body fs align) is name g f k found there at =
-    named_among name fs is.slots g f k found there at
-named_in_body S t _ is name g f k found there at = absurd cc
-
-pub named_at : (S : DeclaredSchema) (t : ℕ) → IsDeclared S → (name : Name) (g f : DeclaredField) (k : ℕ)
-    → field_named (body_at S t) name ≡ Some g → slice_get (fields_in (body_at S t)) k ≡ Some f → k ≡ g.slot
-    → f.name ≡ name
-named_at S t declared name g f k = by (slice_get S.types t) refl
-  where
-    by : (o : Option DeclaredType) → slice_get S.types t ≡ o → field_named (body_in o) name ≡ Some g
-        → slice_get (fields_in (body_in o)) k ≡ Some f → k ≡ g.slot → f.name ≡ name
-    by None e found there at = absurd cc
-    by (Some type) e found there at =
-        named_in_body S t type.body (declared.bodies t type e) name g f k found there at
+use Rattle.fb_json.proofs.slots.NamedSlotIsFound.{found_as, in_fields, number_is, passed_over}
+use Rattle.fb_json.proofs.slots.NamedSlotIsFound.{named_at}
 
 -- ---- one member more
 

@@ -11,8 +11,9 @@ use Rattle.fb_schema.specs.Seen.{field_seen}
 use Rattle.fb_layout.specs.Laid.{LaidSchema}
 use Rattle.fb_json.specs.Meant.{look}
 use Rattle.fb_json.specs.SlotMembers.{AreMembersOf, looked_up, tree_seen}
-use Rattle.fb_json.proofs.members.LookUpFindsMembers.{looked, with_meaning}
 use Rattle.fb_json.proofs.slots.OneSlotOrFieldMore.{slot_at}
+use Rattle.fb_json.proofs.slots.MembersWithTheirMeaning.{looked}
+use Rattle.fb_json.proofs.slots.MembersWithTheirMeaning.{with_meaning}
 
 meaning_of : (L : LaidSchema) (unknown : Bool) (r : Option (Bor Value))
     → option_map (with_meaning L unknown) (tree_seen r) ≡ looked_up L unknown r

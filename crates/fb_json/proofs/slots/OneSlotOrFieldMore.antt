@@ -45,7 +45,7 @@ put_front : {A : Type 0} (front : List A) (x : A) (r : Counted (List A))
 put_front front x (Err e) = refl
 put_front front x (Ok xs) = rw append_assoc refl
 
-drop_at : {A : Type 0} (xs : List A) (k : ℕ) (x : A) → k < length xs → x ≡ get_or xs k x
+pub drop_at : {A : Type 0} (xs : List A) (k : ℕ) (x : A) → k < length xs → x ≡ get_or xs k x
     → drop k xs ≡ x ∷ drop (k + 1) xs
 drop_at xs k x h is = let there : drop k xs ≡ get_or xs k x ∷ drop (k + 1) xs = rw (add-one, drop-cons xs k x) refl in
     there ∙ ap (λ y. y ∷ drop (k + 1) xs) (sym is)

@@ -2,6 +2,7 @@
 use Rattle.std.proofs.Common.{◌≡◌, ℕ, Bool, List, [], ◌∷◌, Option, None, Some, map, IsUtf8, String, Global, subst, refl}
 use Rattle.std.proofs.Common.{Less, Equal, Greater}
 use Rattle.std.proofs.lemmas.Str.{IsUtf8-string_bytes}
+use Rattle.std.proofs.lemmas.Option.{same_Some}
 use Rattle.std.specs.Ordering.{nat_cmp, match_ordering}
 use Rattle.std.specs.Cmp.Lexicographic.{slice_cmp}
 use Rattle.serde_json.specs.Data.{Data, string, array, object, Items, no_items, item, Members}
@@ -20,8 +21,7 @@ use Rattle.fb_value.specs.Datum.{Datum, a_number, a_text, a_vector, a_struct, a_
 use Rattle.fb_value.specs.Datum.{more_parts, SlotEntries, no_entries, absent_entry, present_entry}
 use Rattle.fb_json.specs.Means.{PresentAs, PresentMeans, member_called, MeansAs, MemberMeans, PartsMean, EachMeans}
 use Rattle.fb_json.specs.Means.{SlotsMean}
-use Rattle.fb_json.proofs.laws.EachStepOfABindSucceeds.{some_inj}
-use Rattle.fb_json.proofs.members.LookUpFindsMembers.{found_in}
+use Rattle.fb_json.proofs.slots.LookUpFindsMembers.{found_in}
 use Rattle.fb_json.proofs.texts.ValueTextsAreUtf8.{HasUtf8, HaveUtf8, EntriesHaveUtf8}
 
 abbrev mutual
@@ -74,7 +74,7 @@ member_utf8 (member l d ms) name t utf8 found =
     elim (slice_cmp nat_cmp name l) as (λ o. match_ordering o (get_member name ms) (Some d) (get_member name ms)
     ≡ Some t → TreeHasUtf8 t) [
       | Less ↦ λ h. member_utf8 ms name t utf8.1 h
-      | Equal ↦ λ h. subst TreeHasUtf8 (some_inj d t h) utf8.0
+      | Equal ↦ λ h. subst TreeHasUtf8 (same_Some d t h) utf8.0
       | Greater ↦ λ h. member_utf8 ms name t utf8.1 h
     ] found
 

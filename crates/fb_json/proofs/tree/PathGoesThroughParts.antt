@@ -1,7 +1,7 @@
 -- The path of a part that is refused is one of the whole, after its step.
 use Rattle.std.proofs.Common.{◌≡◌, ◌∙◌, ℕ, zero, suc, ◌+◌, ◌-◌, ◌<◌, ◌≤◌, ◌||◌, List, [], ◌∷◌, map, length, take}
 use Rattle.std.proofs.Common.{get_or, Bool, Option, Ok, Err, refl, ap, arith}
-use Rattle.std.proofs.lemmas.Bool.{le-ltb, lt-ltb}
+use Rattle.std.proofs.lemmas.Bool.{lt-ltb}
 use Rattle.serde_json.specs.Data.{array, object, Members}
 use Rattle.serde_json.specs.View.{view, items_view}
 use Rattle.serde_json.specs.declared.value.Value.{Value as Json}
@@ -28,6 +28,7 @@ use Rattle.fb_value.specs.Datum.{Datum}
 use Rattle.fb_json.proofs.slots.OneSlotOrFieldMore.{counted, seen_at, slot_at}
 use Rattle.fb_json.proofs.tree.PartsAreReadInOrder.{read_next}
 use Rattle.fb_json.proofs.tree.TrailLeadsToTheFault.{Adds, here}
+use Rattle.fb_json.proofs.laws.EachStepOfABindSucceeds.{spends}
 
 -- ---- slots
 
@@ -131,9 +132,6 @@ through : (L : LaidSchema) (unknown : Bool) (x : Spot) (cells : ℕ) → front_o
 through L unknown x cells front fault [] path = absurd path
 through L unknown x cells front fault (step ∷ steps) path = (cells, front, path.0, path.1, path.2)
 
-pub spent_all : (n : ℕ) (at : Place) (left : ℕ) → n ≤ left → spent n at left ≡ Ok (left - n)
-spent_all n at left few = rw (le-ltb left n few) refl
-
 spent_none : (n : ℕ) (at : Place) (left : ℕ) → left < n → spent n at left ≡ Err (TooManyCells at)
 spent_none n at left many = rw (lt-ltb left n many) refl
 
@@ -151,7 +149,7 @@ vector_path L unknown kind at es levels left few fault steps path =
     let rest = left - 1 - length es in
     let same : left - (1 + length es) ≡ rest = omega arith in
     let front : spent (1 + count (items_view es)) at left ≡ Ok rest =
-    rw (counted es) (spent_all (1 + length es) at left n ∙ ap (λ (m : ℕ). Ok m) same) in
+    rw (counted es) (spends (1 + length es) at left n ∙ ap (λ (m : ℕ). Ok m) same) in
     through L unknown (tree_spot (array (items_view es)) (Many kind) at levels left) rest front fault steps
     (rw (← (viewed es)) at path)
 
@@ -194,7 +192,7 @@ module _ (L : LaidSchema) (unknown : Bool) (ms : Members) (t : TypeId) (at : Pla
       ≡ (if_known (unknown || names_known (body_at L.schema t.0) ms) (type_place t.0) >>= λ _. Ok (left - 1))
   unfolding object_front
   table_known zero left deep some = absurd (omega arith)
-  table_known (suc levels) left deep some = rw (spent_all 1 at left some) refl
+  table_known (suc levels) left deep some = rw (spends 1 at left some) refl
 
   module _ (levels left : ℕ) (deep : 0 < levels) (some : 0 < left) where
     pub unknown_in_table : (fault : JsonFault) (trail : Option (List Step))

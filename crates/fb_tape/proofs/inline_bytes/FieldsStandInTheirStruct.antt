@@ -1,8 +1,8 @@
 -- The fields of a struct, one behind the other with zeros between them.
-use Rattle.std.proofs.Common.{◌≡◌, ℕ, ◌+◌, ◌-◌, ◌<◌, ◌≤◌, inl, inr, ◌++◌, Bool, true, false, ◌||◌, List, [], ◌∷◌}
+use Rattle.std.proofs.Common.{◌≡◌, ℕ, ◌+◌, ◌-◌, ◌<◌, ◌≤◌, inl, inr, ◌++◌, true, false, List, [], ◌∷◌}
 use Rattle.std.proofs.Common.{length, replicate, slice_index, refl, ap, sym, ◌∙◌, arith, append_assoc}
 use Rattle.std.proofs.Common.{length-append}
-use Rattle.std.proofs.lemmas.Bool.{false≢true, and_from, le-leb, lt-ltb, cases_lt}
+use Rattle.std.proofs.lemmas.Bool.{false≢true, and_from, or_parts, le-leb, lt-ltb, cases_lt, or_from}
 use Rattle.std.proofs.lemmas.List.{get_or-append_right, get_or_append_left, get_or-append-add, get_or-replicate}
 use Rattle.std.proofs.lemmas.List.{length-replicate}
 use Rattle.fb_layout.specs.Laid.{LaidSchema, StoredKind, struct_kind, parts_of, struct_at, size_of}
@@ -48,26 +48,18 @@ tight_more L P kind o d own (k ∷ kinds) (p ∷ os) [] e f h = absurd (omega (a
 tight_more L P kind o d own (k ∷ kinds) (p ∷ os) (x ∷ ds) e f h =
     (h.0, tight_more L P kind o d own kinds os ds (omega (arith, e)) (omega (arith, f)) h.1)
 
-neither : (x y : Bool) → (x || y) ≡ false → (x ≡ false) × (y ≡ false)
-neither true y h = absurd (false≢true (sym h))
-neither false y h = (refl, h)
-
-either : (x y : Bool) → x ≡ false → y ≡ false → (x || y) ≡ false
-either true y h g = absurd (false≢true (sym h))
-either false y h g = g
-
 -- a byte of no field is of none of those before, nor of the last
 free_before : (L : LaidSchema) (kind : StoredKind) (o i : ℕ) (kinds : List StoredKind) (os : List ℕ)
     → length os ≡ length kinds → is_in_part L (kinds ++ (kind ∷ [])) (os ++ (o ∷ [])) i ≡ false
     → (is_in_part L kinds os i ≡ false) × (is_within o (size_of L kind) i ≡ false)
-free_before L kind o i [] [] e h = (refl, (neither _ _ h).0)
+free_before L kind o i [] [] e h = (refl, (or_parts _ _ h).0)
 free_before L kind o i [] (p ∷ os) e h = absurd (omega (arith, e))
 free_before L kind o i (k ∷ kinds) [] e h = absurd (omega (arith, e))
 free_before L kind o i (k ∷ kinds) (p ∷ os) e h =
     let less : length os ≡ length kinds = omega (arith, e) in
-    let parts = neither _ _ h in
+    let parts = or_parts _ _ h in
     let rest = free_before L kind o i kinds os less parts.1 in
-    (either _ _ parts.0 rest.0, rest.1)
+    (or_from _ _ parts.0 rest.0, rest.1)
 
 -- some zeros, whatever is before them
 zeros_read : (own : Bytes) (n i : ℕ) → length own ≤ i → i < length own + n

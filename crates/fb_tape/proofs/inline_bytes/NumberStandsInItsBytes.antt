@@ -2,7 +2,6 @@
 use Rattle.std.proofs.Common.{◌≡◌, ℕ, ◌^◌, ◌<◌, ◌++◌, length, take, if◌then◌else◌, ℤ, Result, Ok, Err}
 use Rattle.std.proofs.Common.{OnOk, is_ok, refl, ap, sym, ◌∙◌, subst}
 use Rattle.byteorder.specs.Endian.{little_bytes}
-use Rattle.byteorder.specs.Numbers.{little_number-reads_back}
 use Rattle.fb_schema.specs.declared.kinds.Base.{Base}
 use Rattle.fb_schema.specs.declared.kinds.Base.TheVariants as the_base
 use Rattle.fb_schema.specs.Alignments.{base_size}
@@ -10,11 +9,7 @@ use Rattle.fb_layout.specs.Laid.{LaidSchema, scalar_kind}
 use Rattle.fb_value.specs.Datum.{a_number}
 use Rattle.fb_value.specs.Num.{Bytes, num, scalar_of}
 use Rattle.fb_tape.specs.InlineBytes.{IsBit, AreInlineBytes, AddsInline}
-use Rattle.fb_tape.proofs.inline_bytes.BytesSumToTheirNumber.{num_is}
-
--- The first number reads back, whatever is behind it.
-num_first : (n x : ℕ) (rest : Bytes) → x < 256 ^ n → num (little_bytes n x ++ rest) 0 n ≡ x
-num_first n x rest fits = sym (num_is (little_bytes n x ++ rest) 0 n) ∙ little_number-reads_back n x rest fits
+use Rattle.fb_value.proofs.numbers.BytesSumToTheirNumber.{num_first}
 
 -- A `bool` has one byte; what has more is none.
 bit_first : (base : Base) (x : ℕ) (rest : Bytes) → x < 256 ^ base_size base → IsBit base x

@@ -12,6 +12,7 @@ use Rattle.fb_schema.specs.declared.types.FieldInfo.{FieldInfo}
 use Rattle.fb_layout.specs.Laid.{LaidSchema, StoredKind, one_of, kind_in, stored_shape, parts_of, struct_at, size_of}
 use Rattle.fb_layout.specs.Seen.{kinds_seen}
 use Rattle.fb_layout.specs.WellMade.{StandInOrder, IsWellMade}
+use Rattle.fb_layout.proofs.sizes.FieldsStandInOrder.{order_rises}
 use Rattle.fb_layout.proofs.sizes.StructsAreDeclared.{struct_told, body_told}
 use Rattle.fb_value.specs.Fits.{Fits, PartsFit}
 use Rattle.fb_value.specs.View.{view, parts_view}
@@ -43,21 +44,13 @@ stand_apart L p (k ∷ (l ∷ kinds)) (o ∷ (q ∷ os)) end size zero kind h lo
 stand_apart L p (k ∷ kinds) (o ∷ os) end size (suc i) kind h low at =
     stand_apart L (o + size_of L k) kinds os end size i kind h.1 low at
 
-from_start : (L : LaidSchema) (p : ℕ) (kinds : List StoredKind) (os : List ℕ) (end : ℕ)
-    → StandInOrder L p kinds os end → p ≤ end
-from_start L p [] [] end h = omega (arith, h)
-from_start L p [] (o ∷ os) end h = absurd h
-from_start L p (kind ∷ kinds) [] end h = absurd h
-from_start L p (kind ∷ kinds) (o ∷ os) end h =
-    let rest = from_start L (o + size_of L kind) kinds os end h.1 in omega (arith, rest, h.0.above)
-
 -- Each field begins before the last ends.
 begins_within : (L : LaidSchema) (p : ℕ) (kinds : List StoredKind) (os : List ℕ) (end i : ℕ)
     → StandInOrder L p kinds os end → i < length kinds → slice_index os i ≤ end
 begins_within L p [] os end i h low = absurd (omega (arith, low))
 begins_within L p (kind ∷ kinds) [] end i h low = absurd h
 begins_within L p (kind ∷ kinds) (o ∷ os) end zero h low =
-    let rest = from_start L (o + size_of L kind) kinds os end h.1 in omega (arith, rest)
+    let rest = order_rises L (o + size_of L kind) kinds os end h.1 in omega (arith, rest)
 begins_within L p (kind ∷ kinds) (o ∷ os) end (suc i) h low =
     begins_within L (o + size_of L kind) kinds os end i h.1 (omega (arith, low))
 

@@ -71,11 +71,15 @@ module _ (align size : ℕ) (opens : List OpenField) (notes notes_before : List 
       pub noting : Noting size (at_align align opens ++ fields_below exponent opens) (in_order opens) notes notes_before
           bytes bytes_before laid laid_before vtable vtable_before
 
+module _ {align size : ℕ} {opens : List OpenField} {notes notes_before : List NotedField}
+    {bytes bytes_before : Bytes} {laid laid_before : ℕ} {vtable vtable_before : Bytes}
+  where
     by_exponent : (e : ℕ) → align ≡ half_power e
         → Noting size (fields_below e opens) (in_order opens) notes notes_before bytes bytes_before laid laid_before
-        vtable vtable_before → length notes < length notes_before + length (in_order opens) → FallingOn
+        vtable vtable_before → length notes < length notes_before + length (in_order opens)
+        → FallingOn align size opens notes notes_before bytes bytes_before laid laid_before vtable vtable_before
     by_exponent zero is h few =
-        let all = all_noted _ _ _ _ _ _ _ _ _ _ _ refl h in
+        let all = all_noted h refl in
         absurd (omega (
           arith,
           few,
@@ -85,30 +89,33 @@ module _ (align size : ℕ) (opens : List OpenField) (notes notes_before : List 
         ))
     by_exponent (suc e) is h few = record { exponent = e; align_is = is; noting = rw is h }
 
-    pub falls_on : Falling → length notes < length notes_before + length (in_order opens) → FallingOn
+    pub falls_on : Falling align size opens notes notes_before bytes bytes_before laid laid_before vtable vtable_before
+        → length notes < length notes_before + length (in_order opens)
+        → FallingOn align size opens notes notes_before bytes bytes_before laid laid_before vtable vtable_before
     falls_on h few = by_exponent h.exponent h.align_is h.noting few
 
-    pub none_falls : Falling → length notes_before + length (in_order opens) ≤ length notes
+    pub none_falls : Falling align size opens notes notes_before bytes bytes_before laid laid_before vtable
+        vtable_before → length notes_before + length (in_order opens) ≤ length notes
         → (notes ≡ notes_before ++ notes_of (in_order opens)) × (bytes ≡ bytes_before ++ bytes_of (in_order opens))
         × (laid ≡ laid_before + taken (in_order opens))
         × (vtable ≡ told size laid_before (in_order opens) vtable_before)
-    none_falls h many = all_noted _ _ _ _ _ _ _ _ _ _ _ (none_left _ _ _ _ _ _ _ _ _ _ _ many h.noting) h.noting
+    none_falls h many = all_noted h.noting (none_left h.noting many)
 
-pub falls_next : (align size : ℕ) (opens : List OpenField) (notes new_notes notes_before : List NotedField)
-    (bytes new_bytes bytes_before : Bytes) (laid new_laid laid_before : ℕ) (vtable new_vtable vtable_before : Bytes)
-    → FallingOn align size opens notes notes_before bytes bytes_before laid laid_before vtable vtable_before
-    → new_notes ≡ notes ++ notes_of (at_align align opens) → new_bytes ≡ bytes ++ bytes_of (at_align align opens)
-    → new_laid ≡ laid + taken (at_align align opens) → new_vtable ≡ told size laid (at_align align opens) vtable
-    → length new_vtable ≡ length vtable
-    → Falling (align / 2) size opens new_notes notes_before new_bytes bytes_before new_laid laid_before new_vtable
-    vtable_before
-falls_next align size opens notes new_notes notes_before bytes new_bytes bytes_before laid new_laid laid_before vtable
-    new_vtable vtable_before h notes_are bytes_are laid_are vtable_is long = record {
+module _ {align size : ℕ} {opens : List OpenField} {notes new_notes notes_before : List NotedField}
+    {bytes new_bytes bytes_before : Bytes} {laid new_laid laid_before : ℕ} {vtable new_vtable vtable_before : Bytes}
+  where
+    pub falls_next : FallingOn align size opens notes notes_before bytes bytes_before laid laid_before vtable
+        vtable_before
+        → new_notes ≡ notes ++ notes_of (at_align align opens) → new_bytes ≡ bytes ++ bytes_of (at_align align opens)
+        → new_laid ≡ laid + taken (at_align align opens) → new_vtable ≡ told size laid (at_align align opens) vtable
+        → length new_vtable ≡ length vtable
+        → Falling (align / 2) size opens new_notes notes_before new_bytes bytes_before new_laid laid_before new_vtable
+        vtable_before
+    falls_next h notes_are bytes_are laid_are vtable_is long = record {
       exponent = h.exponent;
       align_is = rw h.align_is (halved h.exponent);
-      noting = several_noted size (at_align align opens) (fields_below h.exponent opens) (in_order opens) _ _ _ _ _ _ _
-          _
-          _ _ _ _ notes_are bytes_are laid_are vtable_is long h.noting;
+      noting = several_noted (at_align align opens) (fields_below h.exponent opens) notes_are bytes_are laid_are
+          vtable_is long h.noting;
     }
 
 pub begins : (g : ℕ) (own : IsAlignment g) (opens : List OpenField) → greatest_in (map (λ x. x.align) opens) ≤ g
@@ -143,6 +150,3 @@ greatest_aligned n own (x ∷ xs) aligned =
     let rest = greatest_aligned n own xs (All-tail (λ (y : OpenField). IsAlignment y.align) x xs aligned) in
     let same : max n (max x.align g) ≡ max x.align (max n g) = omega arith in
     rw same (greater_aligned x.align (max n g) first rest (one_of x.align (max n g)))
-
-pub four_aligned : IsAlignment 4
-four_aligned = record { exponent = 2; few = omega arith; is = refl }

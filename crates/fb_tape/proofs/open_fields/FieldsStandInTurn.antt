@@ -2,10 +2,9 @@
 use Rattle.std.proofs.Common.{ℕ, zero, suc, ◌+◌, ◌-◌, ◌≡◌, ◌≤◌, ◌<◌, ◌++◌, List, [], ◌∷◌, length, map, take, drop}
 use Rattle.std.proofs.Common.{Some, Result, Ok, Err, OnErr, get_or, option_map, slice_get, refl, ap, sym, ◌∙◌, arith}
 use Rattle.std.proofs.Common.{length-append}
-use Rattle.std.proofs.lemmas.List.{length-drop, length-take-le, take-append-le, drop-append-le, map-append}
+use Rattle.std.proofs.lemmas.List.{length-take-le, map-append}
 use Rattle.std.proofs.lemmas.List.{take-append-drop, length-map}
 use Rattle.std.specs.List.{take-map}
-use Rattle.std.proofs.Math.Seq.{take-length, drop-append_seam}
 use Rattle.std.proofs.lemmas.Option.{slice_get_read, slice_get-map}
 use Rattle.fb_layout.specs.Laid.{LaidSchema, StoredKind, align_of, size_of}
 use Rattle.fb_value.specs.Datum.{Datum}
@@ -15,6 +14,8 @@ use Rattle.fb_tape.specs.OpenFields.{OpenField, AddsInlineField}
 use Rattle.fb_tape.specs.OpenList.{own_size, field_seen, StandInTurn}
 use Rattle.fb_tape.specs.declared.open_fields.OpenField.{OpenField as Held}
 use Rattle.fb_tape.specs.declared.ops.NotedField.TheVariants.{Inline}
+use Rattle.fb_tape.proofs.known_vtables.OneMoreIsKnown.{part_kept}
+use Rattle.fb_tape.proofs.known_vtables.OneMoreIsKnown.{part_last}
 
 -- ---- bytes behind
 
@@ -26,12 +27,6 @@ from_start : (p : ℕ) (xs : List Held) (e : ℕ) → StandInTurn p xs e → p �
 from_start p [] e h = h
 from_start p (x ∷ xs) e h =
     let rest = from_start (x.first + own_size x.note) xs e h.1 in omega (arith, rest, h.0)
-
-part_kept : (bytes own : Bytes) (p n : ℕ) → p + n ≤ length bytes → part_of (bytes ++ own) p n ≡ part_of bytes p n
-part_kept bytes own p n low =
-    let some : p ≤ length bytes = omega (arith, low) in
-    let left : n ≤ length (drop p bytes) = rw length-drop (omega (arith, low)) in
-    ap (take n) (drop-append-le p bytes own some) ∙ take-append-le n (drop p bytes) own left
 
 -- Bytes behind change no field.
 pub seen_kept : (bytes own : Bytes) (p : ℕ) (xs : List Held) (e : ℕ) → e ≤ length bytes → StandInTurn p xs e
@@ -76,10 +71,6 @@ seen_more bytes own xs x h =
     ∙ ap (λ (ys : List OpenField). ys ++ (field_seen (bytes ++ own) x ∷ []))
     (seen_kept bytes own 0 xs (length bytes) (omega arith) h)
 
--- the bytes that were added
-last_part : (bytes own : Bytes) → part_of (bytes ++ own) (length bytes) (length own) ≡ own
-last_part bytes own = ap (take (length own)) (drop-append_seam bytes own) ∙ take-length own
-
 -- ---- fewer fields
 
 pub first_turn : (p : ℕ) (xs : List Held) (k : ℕ) (x : Held) (e : ℕ) → slice_get xs k ≡ Some x → StandInTurn p xs e
@@ -121,7 +112,7 @@ inline_field_added L slot kind d bytes after xs ys x h added more slot_is align_
     let whole : after ≡ bytes ++ added.0 = added.1 in
     let long : own_size x.note ≡ length added.0 = ap own_size note_is ∙ sym added.2.long in
     let own : part_of (bytes ++ added.0) x.first (own_size x.note) ≡ added.0 =
-    rw (first_is, long) (last_part bytes added.0) in (
+    rw (first_is, long) (part_last bytes added.0) in (
       field_seen after x,
       rw (more, whole) (seen_more bytes added.0 xs x h),
       record {

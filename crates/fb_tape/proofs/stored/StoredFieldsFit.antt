@@ -6,7 +6,7 @@ use Rattle.fb_layout.specs.Laid.{LaidSchema, Slot, StoredShape, one_of, vector_o
 use Rattle.fb_layout.specs.Sizes.{IsAlignment}
 use Rattle.fb_layout.specs.WellMade.{IsWellMade}
 use Rattle.fb_layout.specs.Widths.{inline_size, inline_align}
-use Rattle.fb_layout.proofs.sizes.AlignmentsArePowersOfTwo.{kind_aligned}
+use Rattle.fb_layout.proofs.sizes.AlignmentsArePowersOfTwo.{kind_aligned, four_aligned}
 use Rattle.fb_value.specs.Datum.{Datum}
 use Rattle.fb_tape.specs.OpenFields.{OpenField, IsOpenTable}
 use Rattle.fb_tape.specs.StoredFields.{IsSimple, StoredFits, stored_in, fields_size}
@@ -35,9 +35,6 @@ fields_fit L (f ∷ fs) (x ∷ xs) each =
     let rest = fields_fit L fs xs (λ k g y a b. each (suc k) g y a b) in
     let sum = sum_by-cons (λ g. if g.deprecated then 0 else inline_size L g.shape) f fs in
     omega (arith, one, rest, sum)
-
-four_aligned : IsAlignment 4
-four_aligned = record { exponent = 2; few = omega arith; is = refl }
 
 shape_aligned : (L : LaidSchema) → IsWellMade L → (shape : StoredShape) → IsAlignment (inline_align L shape)
 shape_aligned L made (one_of kind) = kind_aligned L made kind

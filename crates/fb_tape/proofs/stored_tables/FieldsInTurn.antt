@@ -47,8 +47,8 @@ pub at_align_other : (a : ℕ) (x : OpenField) (rest : List OpenField) → (x.al
     → at_align a (x ∷ rest) ≡ at_align a rest
 at_align_other a x rest is = rw is refl
 
-module _ (size : ℕ) (x : OpenField) (rest all : List OpenField) (notes notes_before : List NotedField)
-    (bytes bytes_before : Bytes) (laid laid_before : ℕ) (slots slots_before : List ℕ)
+module _ {size : ℕ} {x : OpenField} {rest all : List OpenField} {notes notes_before : List NotedField}
+    {bytes bytes_before : Bytes} {laid laid_before : ℕ} {slots slots_before : List ℕ}
     (h : Noting size (x ∷ rest) all notes notes_before bytes bytes_before laid laid_before slots slots_before)
   where
     pub noted : Noting size rest all (notes ++ (x.note ∷ [])) notes_before (bytes ++ x.bytes) bytes_before
@@ -65,18 +65,37 @@ module _ (size : ℕ) (x : OpenField) (rest all : List OpenField) (notes notes_b
     pub room_here : laid + taken_by x.note ≤ laid_before + taken all
     room_here = omega (arith, h.laid_are, sum_by-cons (λ (y : OpenField). taken_by y.note) x rest)
 
--- once none is left
-pub all_noted : (size : ℕ) (left all : List OpenField) (notes notes_before : List NotedField)
-    (bytes bytes_before : Bytes) (laid laid_before : ℕ) (slots slots_before : List ℕ) → left ≡ []
-    → Noting size left all notes notes_before bytes bytes_before laid laid_before slots slots_before
-    → (notes ≡ notes_before ++ notes_of all) × (bytes ≡ bytes_before ++ bytes_of all)
-    × (laid ≡ laid_before + taken all) × (slots ≡ told size laid_before all slots_before)
-all_noted size left all notes notes_before bytes bytes_before laid laid_before slots slots_before none h = (
-  sym (append-nil notes) ∙ rw none at h.notes_are,
-  sym (append-nil bytes) ∙ rw none at h.bytes_are,
-  omega (arith, rw none at h.laid_are),
-  rw none at h.told_are,
-)
+no_field : (xs : List OpenField) → length xs ≡ 0 → xs ≡ []
+no_field [] none = refl
+no_field (x ∷ xs) none = absurd (omega (arith, none))
+
+module _ {size : ℕ} {left all : List OpenField} {notes notes_before : List NotedField}
+    {bytes bytes_before : Bytes} {laid laid_before : ℕ} {slots slots_before : List ℕ}
+    (h : Noting size left all notes notes_before bytes bytes_before laid laid_before slots slots_before)
+  where
+    -- Once none is left all are noted.
+    pub all_noted : left ≡ []
+        → (notes ≡ notes_before ++ notes_of all) × (bytes ≡ bytes_before ++ bytes_of all)
+        × (laid ≡ laid_before + taken all) × (slots ≡ told size laid_before all slots_before)
+    all_noted none = (
+      sym (append-nil notes) ∙ rw none at h.notes_are,
+      sym (append-nil bytes) ∙ rw none at h.bytes_are,
+      omega (arith, rw none at h.laid_are),
+      rw none at h.told_are,
+    )
+
+    -- Once as many are noted as there are, none is left.
+    pub none_left : length notes_before + length all ≤ length notes → left ≡ []
+    none_left many =
+        no_field left (omega (
+          arith,
+          many,
+          ap length h.notes_are,
+          length-append notes (notes_of left),
+          length-append notes_before (notes_of all),
+          length-map left (λ x. x.note),
+          length-map all (λ x. x.note),
+        ))
 
 -- ---- several fields at once
 
@@ -119,14 +138,15 @@ placed_long size laid (x ∷ xs) slots =
     placed_long size (laid + taken_by x.note) xs (slice_set slots x.slot (size - (laid + taken_by x.note)))
     ∙ length-set slots x.slot (size - (laid + taken_by x.note))
 
-pub several_noted : (size : ℕ) (some rest all : List OpenField) (notes new_notes notes_before : List NotedField)
-    (bytes new_bytes bytes_before : Bytes) (laid new_laid laid_before : ℕ) (slots new_slots slots_before : List ℕ)
-    → new_notes ≡ notes ++ notes_of some → new_bytes ≡ bytes ++ bytes_of some → new_laid ≡ laid + taken some
-    → new_slots ≡ told size laid some slots → length new_slots ≡ length slots
-    → Noting size (some ++ rest) all notes notes_before bytes bytes_before laid laid_before slots slots_before
-    → Noting size rest all new_notes notes_before new_bytes bytes_before new_laid laid_before new_slots slots_before
-several_noted size some rest all notes new_notes notes_before bytes new_bytes bytes_before laid new_laid laid_before
-    slots new_slots slots_before notes_are bytes_are laid_are slots_are long h = record {
+module _ {size : ℕ} (some rest : List OpenField) {all : List OpenField}
+    {notes new_notes notes_before : List NotedField} {bytes new_bytes bytes_before : Bytes}
+    {laid new_laid laid_before : ℕ} {slots new_slots slots_before : List ℕ}
+  where
+    pub several_noted : new_notes ≡ notes ++ notes_of some → new_bytes ≡ bytes ++ bytes_of some
+        → new_laid ≡ laid + taken some → new_slots ≡ told size laid some slots → length new_slots ≡ length slots
+        → Noting size (some ++ rest) all notes notes_before bytes bytes_before laid laid_before slots slots_before
+        → Noting size rest all new_notes notes_before new_bytes bytes_before new_laid laid_before new_slots slots_before
+    several_noted notes_are bytes_are laid_are slots_are long h = record {
       notes_are = rw notes_are (append_assoc notes (notes_of some) (notes_of rest)
           ∙ rw (notes_both some rest) at h.notes_are);
       bytes_are = rw bytes_are (append_assoc bytes (bytes_of some) (bytes_of rest)
@@ -144,26 +164,6 @@ none_above a g [] low over = refl
 none_above a g (x ∷ xs) low over =
     at_align_other a x xs (ne_eqb x.align a (λ same. omega (arith, same, low, over)))
     ∙ none_above a g xs (omega (arith, low)) over
-
-no_field : (xs : List OpenField) → length xs ≡ 0 → xs ≡ []
-no_field [] none = refl
-no_field (x ∷ xs) none = absurd (omega (arith, none))
-
--- Once as many are noted as there are, none is left.
-pub none_left : (size : ℕ) (left all : List OpenField) (notes notes_before : List NotedField)
-    (bytes bytes_before : Bytes)
-    (laid laid_before : ℕ) (slots slots_before : List ℕ) → length notes_before + length all ≤ length notes
-    → Noting size left all notes notes_before bytes bytes_before laid laid_before slots slots_before → left ≡ []
-none_left size left all notes notes_before bytes bytes_before laid laid_before slots slots_before many h =
-    no_field left (omega (
-      arith,
-      many,
-      ap length h.notes_are,
-      length-append notes (notes_of left),
-      length-append notes_before (notes_of all),
-      length-map left (λ x. x.note),
-      length-map all (λ x. x.note),
-    ))
 
 -- ---- sums over the fields in the order of slots
 

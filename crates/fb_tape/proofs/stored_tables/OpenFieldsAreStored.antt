@@ -4,8 +4,8 @@ use Rattle.std.proofs.Common.{List, [], ◌∷◌, Option, max, map, refl, sym, 
 use Rattle.std.proofs.lemmas.List.Elements.{All-cons}
 use Rattle.std.specs.List.{All}
 use Rattle.fb_schema.specs.Alignments.{greatest_in}
-use Rattle.fb_layout.specs.Laid.{LaidSchema, Slot, StoredShape, one_of, vector_of, scalar_kind, struct_kind}
-use Rattle.fb_layout.specs.Laid.{table_kind, union_kind, code_kind, text_kind, size_of}
+use Rattle.fb_layout.specs.Laid.{LaidSchema, Slot, StoredShape, one_of, scalar_kind, struct_kind}
+use Rattle.fb_layout.specs.Laid.{code_kind, size_of}
 use Rattle.fb_layout.specs.Sizes.{IsAlignment}
 use Rattle.fb_layout.specs.Widths.{inline_size, inline_align}
 use Rattle.fb_value.specs.Datum.{Datum}
@@ -18,15 +18,9 @@ use Rattle.fb_tape.specs.StoredTables.{taken_by, taken, at_align, StoredAligned}
 use Rattle.fb_tape.specs.declared.ops.NotedField.{NotedField}
 use Rattle.fb_tape.specs.declared.ops.NotedField.TheVariants.{Reference, Inline}
 use Rattle.fb_tape.proofs.stored_tables.FieldsInTurn.{taken_more, at_align_more, at_align_other}
+use Rattle.fb_tape.proofs.stored.SizesOfWhatIsStored.{reference_size}
 
 -- ---- one field
-
-reference_size : (L : LaidSchema) (shape : StoredShape) → is_reference shape ≡ true → inline_size L shape ≡ 4
-reference_size L (vector_of kind) is = refl
-reference_size L (one_of text_kind) is = refl
-reference_size L (one_of (table_kind t)) is = refl
-reference_size L (one_of (union_kind u)) is = refl
-reference_size L _ is = cc
 
 inline_size_is : (L : LaidSchema) (shape : StoredShape) → is_reference shape ≡ false
     → size_of L (inline_kind shape) ≡ inline_size L shape

@@ -19,28 +19,14 @@ use Rattle.fb_tape.specs.Vtables.{stored_end, table_size, offsets_from, trimmed}
 use Rattle.fb_tape.proofs.laying_order.AlignmentsFall.{among, each_once}
 use Rattle.fb_tape.proofs.stored_tables.FieldsInTurn.{placed_long}
 use Rattle.fb_tape.proofs.stored_tables.SlotsAreTold.{laid_before, all_above, at_falling, each_told}
-use Rattle.fb_tape.proofs.stored_tables.OffsetsAreTrimmed.{trimmed_index, all_used, offset_at, none_trimmed}
-use Rattle.fb_tape.proofs.stored_tables.OffsetsAreTrimmed.{zero_trimmed}
-
-got : {A : Type 0} (xs : List A) (i : ℕ) → i < length xs → (x : A) × (slice_get xs i ≡ Some x)
-got [] i low = absurd (omega (arith, low))
-got (x ∷ xs) zero low = (x, refl)
-got (x ∷ xs) (suc i) low = got xs i (omega (arith, low))
+use Rattle.fb_tape.proofs.stored.OffsetsAreTrimmed.{trimmed_index, all_used, offset_at}
+use Rattle.fb_tape.proofs.stored.OffsetsAreTrimmed.{trimmed_short}
+use Rattle.fb_tape.proofs.stored.SizesOfWhatIsStored.{got}
 
 zeros_at : (n i : ℕ) → slice_index (replicate n 0) i ≡ 0
 zeros_at zero i = refl
 zeros_at (suc n) zero = refl
 zeros_at (suc n) (suc i) = zeros_at n i
-
-trimmed_short : (os : List ℕ) → length (trimmed os) ≤ length os
-trimmed_short [] = omega arith
-trimmed_short (suc n ∷ os) = let rest = trimmed_short os in omega (arith, rest)
-trimmed_short (zero ∷ os) = by_rest (trimmed os) refl (trimmed_short os)
-  where
-    by_rest : (ts : List ℕ) → trimmed os ≡ ts → length (trimmed os) ≤ length os
-        → length (trimmed (0 ∷ os)) ≤ suc (length os)
-    by_rest [] is h = rw (none_trimmed os is) (omega arith)
-    by_rest (q ∷ qs) is h = rw (zero_trimmed os q qs is) (omega (arith, rw is at h))
 
 offsets_short : (L : LaidSchema) (FS : List Slot) (XS : List (Option Datum)) (k : ℕ) (fs : List Slot)
     (xs : List (Option Datum)) → (length (offsets_from L FS XS k fs xs) ≤ length fs)

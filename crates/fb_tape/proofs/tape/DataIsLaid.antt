@@ -14,6 +14,7 @@ use Rattle.fb_value.specs.Places.{text_part, vector_part}
 use Rattle.fb_value.specs.Room.{vector_room}
 use Rattle.fb_value.specs.UpTo.{at_most_usize}
 use Rattle.fb_value.specs.View.{parts_in}
+use Rattle.fb_value.specs.Bounds.{most_bytes}
 use Rattle.fb_tape.specs.Alignments.{aligned_to}
 use Rattle.fb_tape.specs.InlineBytes.{AreInlineBytes, AddsInline}
 use Rattle.fb_tape.specs.NamedParts.{NamedPart}
@@ -23,6 +24,7 @@ use Rattle.fb_tape.specs.declared.ops.Alignment.{Alignment}
 use Rattle.fb_tape.specs.declared.ops.Op.TheVariants.{Data}
 use Rattle.fb_tape.proofs.tape.OneMoreIsLaid.{part_waits}
 use Rattle.fb_tape.proofs.tape.RoomsAreSummedUp.{with_room, room_known, not_over}
+use Rattle.fb_tape.proofs.stored.SizesOfWhatIsStored.{elements_long}
 
 -- The unfinished bytes were noted as laid.
 pub record Finishes (before after : Taped) (align : Alignment) (own : Bytes) (room : ℕ) : Type 0 where
@@ -36,7 +38,7 @@ pub record Finishes (before after : Taped) (align : Alignment) (own : Bytes) (ro
 data_waits : (before after : Taped) (part : NamedPart) (align : Alignment) (own : Bytes) (room : ℕ)
     (ps : List NamedPart)
     → Finishes before after align own room → IsData before.layout part (aligned_to align) own
-    → length own + (aligned_to align - 1) ≤ room → after.room ≤ 2147483647
+    → length own + (aligned_to align - 1) ≤ room → after.room ≤ most_bytes
     → Waits before ps → Waits after (ps ++ (part ∷ []))
 data_waits before after part align own room ps h is enough low waits =
     let small : length own % 2 ^ 32 ≡ length own = omega (arith, h.room_is, low, enough) in
@@ -105,14 +107,6 @@ text_waits before sized counted most filled after text align room ps utf8 none e
 
 -- ---- vectors
 
-elements_long : (L : LaidSchema) (kind : StoredKind) (ds : List Datum) (bytes : Bytes)
-    → AreElementBytes L kind ds bytes → length bytes ≡ length ds * size_of L kind
-elements_long L kind [] bytes h = ap length h ∙ omega arith
-elements_long L kind (d ∷ ds) bytes h =
-    let rest = elements_long L kind ds h.behind h.rest in
-    let whole = ap length h.bytes_are ∙ length-append h.own h.behind in
-    omega (arith, whole, rest, h.inline.long)
-
 -- An element more stands behind the others.
 one_element_more : (L : LaidSchema) (kind : StoredKind) (d : Datum) (own : Bytes) → AreInlineBytes L kind d own
     → (ds : List Datum) (bytes : Bytes) → AreElementBytes L kind ds bytes
@@ -160,7 +154,7 @@ pub vector_waits : (before after : Taped) (kind : StoredKind) (align : Alignment
     → IsUnfinished before.layout kind (length ds) ds own → is_reference (one_of kind) ≡ false
     → ItemsKnown before.layout kind ds → align_of before.layout kind ≤ greatest before.layout
     → Finishes before after align own (vector_room before.layout kind (length ds))
-    → after.room ≤ 2147483647 → Waits before ps
+    → after.room ≤ most_bytes → Waits before ps
     → Waits after (ps ++ (record { target = vector_part kind; value = a_vector (parts_in ds) } ∷ []))
 vector_waits before after kind align ds own ps widest begun inline known low h small waits =
     let elements = elements_long before.layout kind ds begun.element_bytes begun.stand in
@@ -184,17 +178,17 @@ vector_waits before after kind align ds own ps widest begun inline known low h s
 
 pub vector_closed : (before sized after : Taped) (kind : StoredKind) (align : Alignment) (count room : ℕ)
     (ds : List Datum) (ps : List NamedPart) → sized ≡ with_room before (at_most_usize (before.room + room))
-    → room ≡ at_most_usize (vector_room before.layout kind count) → (IsTrue false ↔ (2147483647 < sized.room))
+    → room ≡ at_most_usize (vector_room before.layout kind count) → (IsTrue false ↔ (most_bytes < sized.room))
     → after ≡ with_data sized align → aligned_to align ≡ max (align_of before.layout kind) 4
     → is_reference (one_of kind) ≡ false → align_of before.layout kind ≤ greatest before.layout → count ≡ length ds
     → ItemsKnown before.layout kind ds
-    → (before.room + vector_room before.layout kind count ≤ 2147483647
+    → (before.room + vector_room before.layout kind count ≤ most_bytes
     → IsUnfinished before.layout kind count ds before.unfinished) → Waits before ps
     → Waits after (ps ++ (record { target = vector_part kind; value = a_vector (parts_in ds) } ∷ []))
 vector_closed before sized after kind align count room ds ps e1 own over e2 widest inline low many known begun waits
     small =
     let sum = room_known before sized room (vector_room before.layout kind count) e1 own over in
-    let fits : before.room + vector_room before.layout kind count ≤ 2147483647 =
+    let fits : before.room + vector_room before.layout kind count ≤ most_bytes =
     omega (arith, sum, not_over sized.room over, ap (λ (t : Taped). t.room) e1) in
     vector_waits before after kind align ds before.unfinished ps (omega (arith, widest)) (rw (← many) (begun fits))
     inline known low (finished before sized after align (vector_room before.layout kind (length ds))

@@ -8,6 +8,7 @@ use Rattle.fb_value.specs.Places.{vector_part}
 use Rattle.fb_value.specs.Room.{vector_room}
 use Rattle.fb_value.specs.UpTo.{at_most_usize}
 use Rattle.fb_value.specs.View.{parts_in}
+use Rattle.fb_value.specs.Bounds.{most_bytes}
 use Rattle.fb_tape.specs.NamedParts.{NamedPart, elements_apart}
 use Rattle.fb_tape.specs.StoredFields.{is_reference, ItemsKnown}
 use Rattle.fb_tape.specs.Tapes.{Taped, Waits}
@@ -53,7 +54,7 @@ references_wait before after kind count others ds is adds same many known waits 
 pub references_noted : (before sized seen : Taped) (ops : List Op) (kind : StoredKind) (count room : ℕ)
     (others : List NamedPart) (ds : List Datum) → is_reference (one_of kind) ≡ true
     → sized ≡ with_room before (at_most_usize (before.room + room))
-    → room ≡ at_most_usize (vector_room before.layout kind count) → (IsTrue false ↔ (2147483647 < sized.room))
+    → room ≡ at_most_usize (vector_room before.layout kind count) → (IsTrue false ↔ (most_bytes < sized.room))
     → seen ≡ sized → ops ≡ seen.ops ++ (References count ∷ []) → count ≡ length ds → ItemsKnown before.layout kind ds
     → Waits before (others ++ elements_apart kind ds)
     → Waits (record seen { ops = ops }) (others ++ (record {

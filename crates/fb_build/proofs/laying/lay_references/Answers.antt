@@ -1,8 +1,7 @@
 use Rattle.std.proofs.Common.{ℕ, List, ◌≡◌, ◌-◌, ◌≤◌, ◌∙◌, [], ◌∷◌, refl, ap, length, take, drop, arith}
 use Rattle.std.proofs.Common.{length-append, length-drop}
-use Rattle.std.proofs.lemmas.List.{length-take-le}
+use Rattle.std.proofs.lemmas.List.{length-take-le, take_rest}
 use Rattle.fb_build.specs.Referred.{AreReferred}
-use Rattle.fb_build.proofs.taped.NotedFieldsAreLaidInTurn.{all_left}
 use Rattle.fb_build.proofs.taped.StepsOfALaying.{count_within, are_referred, references_now, ends_inside, drop_inside}
 use Rattle.fb_build.proofs.laying.lay_references.Goals as goal
 
@@ -13,7 +12,7 @@ few c =
 
 slice_is : (ends seen : List ℕ) (n len count : ℕ) → seen ≡ ends → len ≡ length ends
     → take (length seen - (len - count)) (drop (len - count) seen) ≡ drop (length ends - count) ends
-slice_is ends seen n len count value long = rw (value, long) (all_left ends (length ends - count))
+slice_is ends seen n len count value long = rw (value, long) (take_rest ends (length ends - count))
 
 pub overflow_sub-first : goal.overflow_sub-first
 overflow_sub-first c = omega (arith, few c, c.len.ensures)

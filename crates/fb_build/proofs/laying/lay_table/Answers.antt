@@ -1,12 +1,11 @@
 use Rattle.std.proofs.Common.{ℕ, List, ◌≡◌, ◌≤◌, ◌-◌, [], ◌∷◌, ap, length, slice_index, take, drop, arith}
 use Rattle.std.proofs.Common.{length-append}
-use Rattle.std.proofs.lemmas.List.{length-take-le}
+use Rattle.std.proofs.lemmas.List.{length-take-le, take_rest}
 use Rattle.fb_layout.specs.Laid.{slots_of}
 use Rattle.fb_build.specs.Fields.{stored_in}
 use Rattle.fb_build.specs.NotesLaid.{AreToBeLaid, notes_references}
 use Rattle.fb_build.specs.Tails.{TailSeen, Grows}
 use Rattle.fb_build.proofs.tail.WhatIsLaidStaysLaid.{then_grows}
-use Rattle.fb_build.proofs.taped.NotedFieldsAreLaidInTurn.{all_left}
 use Rattle.fb_build.proofs.taped.PartsOfATable.{spread}
 use Rattle.fb_build.proofs.taped.TableTakesItsParts.{to_be_laid, table_open, table_waits, vtable_room}
 use Rattle.fb_build.proofs.taped.TableTakesItsParts.{short_vtable, references_within, places_some}
@@ -14,12 +13,12 @@ use Rattle.fb_build.proofs.laying.lay_table.Goals as goal
 
 slice_is : (ends seen : List ℕ) (len count n : ℕ) → seen ≡ ends → len ≡ length ends → count ≡ n
     → take (length seen - (len - count)) (drop (len - count) seen) ≡ drop (length ends - n) ends
-slice_is ends seen len count n value long many = rw (value, long, many) (all_left ends (length ends - n))
+slice_is ends seen len count n value long many = rw (value, long, many) (take_rest ends (length ends - n))
 
 pub overflow_sub-first : goal.overflow_sub-first
 overflow_sub-first c =
     let w = c.requires.ready in
-    let few = references_within _ _ _ _ _ _ _ _ _ _ _ _ _ _ w.may in
+    let few = references_within w.may in
     omega (arith, few, c.len.ensures, c.requires.taken)
 
 pub lay_fields-start-requires : goal.lay_fields-start-requires
@@ -39,7 +38,7 @@ lay_fields-start-requires c =
         targets = spread (slots_of w.layout w.may.lays.table)
             (stored_in (slots_of w.layout w.may.lays.table) w.may.lays.entries)
             (drop (length ends - notes_references c.args.fields.notes.now) ends);
-        are = to_be_laid _ _ _ _ _ _ _ _ _ _ _ _ _ _ w.may;
+        are = to_be_laid w.may;
       });
     }
 
@@ -61,16 +60,16 @@ given c =
           (notes_references c.args.fields.notes.now) c.deref.ensures.value (omega (arith, c.len.ensures))
           c.requires.taken,
       c.bytes.ensures,
-    ) (to_be_laid _ _ _ _ _ _ _ _ _ _ _ _ _ _ w.may)
+    ) (to_be_laid w.may)
 
 pub close_table-end-requires-clause-room : goal.close_table-end-requires-clause-room
 close_table-end-requires-clause-room c =
-    vtable_room _ _ _ _ _ _ _ _ _ _ _ _ _ _ c.requires.ready.may _ c.lay_fields-start.ensures.grows
+    vtable_room c.requires.ready.may _ c.lay_fields-start.ensures.grows
     (rw c.bytes.ensures at c.lay_fields-start.ensures.long)
 
 pub close_table-end-requires-clause-short : goal.close_table-end-requires-clause-short
 close_table-end-requires-clause-short c =
-    short_vtable _ _ _ _ _ _ _ _ _ _ _ _ _ _ c.requires.ready.may _ _
+    short_vtable c.requires.ready.may
     (c.lay_fields-start.ensures.laid _ _ _ _ (given c)) (rw c.bytes.ensures at c.lay_fields-start.ensures.front)
     c.lay_fields-start.ensures.grows
 
@@ -91,7 +90,7 @@ close_table-end-requires-clause-inside c =
 pub wait-requires-clause-within : goal.wait-requires-clause-within
 wait-requires-clause-within c =
     let w = c.requires.ready in
-    let few = references_within _ _ _ _ _ _ _ _ _ _ _ _ _ _ w.may in
+    let few = references_within w.may in
     omega (arith, few, c.requires.taken)
 
 pub returns-clause-laid : goal.returns-clause-laid
@@ -115,11 +114,11 @@ returns-clause-laid c =
           (drop (length ends - notes_references notes) ends)) c.bytes.result notes c.args.fields.bytes.now
           (take (length c.deref.result.now - (c.len.result - c.args.fields.references))
           (drop (c.len.result - c.args.fields.references) c.deref.result.now)) a =
-          rw (slice, c.bytes.ensures) (to_be_laid _ _ _ _ _ _ _ _ _ _ _ _ _ _ m) in
+          rw (slice, c.bytes.ensures) (to_be_laid m) in
           let laid = fields.laid _ _ _ _ to_be in
-          let open_now = table_open _ _ _ _ _ _ _ _ _ _ _ _ _ _ m _ _ laid front fields.grows in
+          let open_now = table_open m laid front fields.grows in
           rw (c.wait.ensures.items, c.requires.taken)
-          (table_waits _ _ _ _ _ _ _ _ _ _ _ _ _ _ m _ _ laid front fields.grows _ _ _ closing.grows most
+          (table_waits m laid front fields.grows _ _ _ closing.grows most
           closing.most (closing.closed _ _ _ _ _ _ open_now)));
       come = omega (arith, closing.come);
       most_waiting = omega (

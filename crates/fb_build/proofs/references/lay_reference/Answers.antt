@@ -1,9 +1,9 @@
 use Rattle.std.proofs.Common.{◌≡◌, ◌<◌, ◌+◌, ◌-◌, ◌^◌, ◌++◌, ◌∙◌, true, ap, length, arith}
 use Rattle.byteorder.specs.Endian.{little_bytes}
 use Rattle.fb_value.specs.Num.{num, divides}
-use Rattle.fb_build.proofs.numbers.NumberReadsBack.{num_first}
 use Rattle.fb_build.proofs.fields.FieldHasItsValue.{reference_end, more_divides}
 use Rattle.fb_build.proofs.references.lay_reference.Goals as goal
+use Rattle.fb_value.proofs.numbers.BytesSumToTheirNumber.{num_first}
 
 pub returns-clause-lies : goal.returns-clause-lies
 returns-clause-lies c L X d h =

@@ -4,6 +4,7 @@ use Rattle.byteorder.specs.Endian.{little_bytes}
 use Rattle.fb_layout.specs.Laid.{LaidSchema}
 use Rattle.fb_value.specs.Datum.{Datum}
 use Rattle.fb_value.specs.Num.{Bytes, divides}
+use Rattle.fb_value.specs.Bounds.{most_bytes}
 use Rattle.fb_build.specs.Covered.{IsCoveredBy}
 use Rattle.fb_build.specs.Pieces.{greatest_align, reached_parts}
 use Rattle.fb_build.proofs.roots.TailWithItsRootIsABuffer.{whole_lies, whole_holds, whole_old}
@@ -18,7 +19,7 @@ multiple_with m n front k is h = rw is at h
 multiple_bare : (m n : ℕ) → divides m (n + 0) ≡ true → divides m n ≡ true
 multiple_bare m n h = let none : n + 0 ≡ n = omega arith in rw none at h
 
-counted : (s b : Bytes) (n : ℕ) → n ≡ length s → b ≡ little_bytes 4 n ++ s → 4 ≤ length s → 4 + length s ≤ 2147483647
+counted : (s b : Bytes) (n : ℕ) → n ≡ length s → b ≡ little_bytes 4 n ++ s → 4 ≤ length s → 4 + length s ≤ most_bytes
     → IsCounted s b
 counted s b n is bytes least short =
     let all : b ≡ little_bytes 4 (length s) ++ s = rw is at bytes in

@@ -3,7 +3,9 @@ use Rattle.std.proofs.Common.{ap, arith, false}
 use Rattle.std.proofs.lemmas.Bool.{eq-eqb, eqb-true}
 use Rattle.std.proofs.lemmas.List.Sums.{sum_by-cons}
 use Rattle.std.proofs.Math.Seq.{drop-cons}
+use Rattle.std.proofs.lemmas.List.{drop_all}
 use Rattle.fb_layout.specs.Sizes.{IsAlignment}
+use Rattle.fb_layout.proofs.sizes.AlignmentsArePowersOfTwo.{four_aligned}
 use Rattle.fb_value.specs.Num.{divides}
 use Rattle.fb_value.proofs.tails.TailsAreKeptInFront.{through}
 use Rattle.fb_tape.specs.declared.ops.NotedField.{NotedField}
@@ -11,9 +13,9 @@ use Rattle.fb_tape.specs.declared.ops.NotedField.TheVariants.{Reference}
 use Rattle.fb_build.specs.Lengths.{zeros_to}
 use Rattle.fb_build.specs.NotesLaid.{noted_size, notes_size}
 use Rattle.fb_build.proofs.fields.FieldsAreLaidInOrder.{none_laid_before, slots_laid, size_laid, leads_laid}
-use Rattle.fb_build.proofs.tail.WhatIsLaidStaysLaid.{same_grows, then_grows, grown_long, four_power, power_divides}
+use Rattle.fb_build.proofs.tail.WhatIsLaidStaysLaid.{same_grows, then_grows, grown_long, power_divides}
 use Rattle.fb_build.proofs.taped.NotedFieldsAreLaidInTurn.{to_be_aligned, fields_wide, note_may, note_laid}
-use Rattle.fb_build.proofs.taped.NotedFieldsAreLaidInTurn.{none_left, none_noted, relinked}
+use Rattle.fb_build.proofs.taped.NotedFieldsAreLaidInTurn.{none_noted, relinked}
 use Rattle.fb_build.proofs.taped.SlotsAreInLayingOrder.{links_next, slots_ordered, first_link}
 use Rattle.fb_tape.specs.LayingOrder.{laying_order}
 use Rattle.fb_build.proofs.taped_fields.lay_fields.Goals as goal
@@ -104,14 +106,14 @@ returns-clause-laid c L fs xs targets is =
     let o = c.loop-i.out in
     let inv = c.loop-i.invariant in
     let start = c.count-start.result in
-    let none = none_left c.args.notes.now c.loop-i.i c.loop-i-test.false in
+    let none = drop_all c.loop-i.i c.args.notes.now c.loop-i-test.false in
     let h = rw none at (inv.laid L fs xs targets is) in
     let last = none_noted L fs xs h.left _ h.noted in
     let link = first_link h.left in
     let power : IsAlignment c.args.align =
     to_be_aligned L fs xs targets c.args.align _ _ _ _ is in
     let four : divides 4 c.args.align ≡ true =
-    power_divides 4 c.args.align four_power power (omega (arith, is.align_is)) in
+    power_divides 4 c.args.align four_aligned power (omega (arith, is.align_is)) in
     let all : length c.fit.new.self.bytes + 0 ≡ length c.fit.new.self.bytes = omega arith in
     let multiple : divides c.args.align (length c.fit.new.self.bytes) ≡ true =
     eq-eqb _ _ (rw all at c.fit.ensures.multiple) in
@@ -131,7 +133,7 @@ returns-clause-laid c L fs xs targets is =
 pub returns-clause-size : goal.returns-clause-size
 returns-clause-size c L fs xs targets is =
     let inv = c.loop-i.invariant in
-    let none = none_left c.args.notes.now c.loop-i.i c.loop-i-test.false in
+    let none = drop_all c.loop-i.i c.args.notes.now c.loop-i-test.false in
     let h = rw none at (inv.laid L fs xs targets is) in
     let last = none_noted L fs xs h.left _ h.noted in
     let size = size_laid L c.loop-i.out c.count-start.result (first_link h.left) fs xs targets h.slot_ends h.upto
@@ -142,7 +144,7 @@ returns-clause-size c L fs xs targets is =
 pub returns-clause-long : goal.returns-clause-long
 returns-clause-long c =
     let inv = c.loop-i.invariant in
-    let none = none_left c.args.notes.now c.loop-i.i c.loop-i-test.false in
+    let none = drop_all c.loop-i.i c.args.notes.now c.loop-i-test.false in
     let long = rw none at inv.long in
     let padded = grown_long _ _ c.fit.ensures.grows in
     let all : length c.args.out.now.bytes + 0 ≡ length c.args.out.now.bytes = omega arith in

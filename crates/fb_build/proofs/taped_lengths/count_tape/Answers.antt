@@ -13,12 +13,12 @@ loop-i-preserved c =
     let most = rw cons at c.loop-i.invariant.most in
     let made : IsWellMade c.args.tape.now.layout = rw c.requires.layout c.layout_is_well_made.ensures in
     let known = c.count_op-counted.ensures.known in
-    let own = taken _ _ _ _ _ _ _ _ made so_far.counted in
+    let own = taken made so_far.counted in
     let laid = rw (← own) at (c.count_op-counted.ensures.laid _ _ _ _ _ so_far.counted.lay.lays) in
     record {
       counted = record {
         notes = drop (op_fields op) so_far.notes;
-        counted = rw (known, laid) (counted _ _ _ _ _ _ _ _ made so_far.counted);
+        counted = rw (known, laid) (counted made so_far.counted);
         long = rw (known, laid) so_far.long;
       };
       most = rw c.count_op-counted.ensures.most most;

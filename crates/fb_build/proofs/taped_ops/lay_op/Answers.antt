@@ -58,6 +58,6 @@ returns-in-References-clause-laid c =
 pub returns-in-Table-clause-laid : goal.returns-in-Table-clause-laid
 returns-in-Table-clause-laid c =
     table_laid c.args.tape.now.vtables c.args.op c.args.fields.now c.args.bytes.now c.args.laying.now
-    c.lay_table.new.laying c.in-Table.align c.in-Table.count c.in-Table.vtable c.taken_by-taken.result.bytes
-    c.new-vtable.result c.in-Table.is (rw c.in-Table.is at c.requires.fields) c.taken_by-taken.ensures.bytes
+    c.lay_table.new.laying c.in-Table.align c.in-Table.count c.in-Table.vtable c.count_notes-taken.result.bytes
+    c.new-vtable.result c.in-Table.is (rw c.in-Table.is at c.requires.fields) c.count_notes-taken.ensures.bytes
     c.new-vtable.ensures.is c.lay_table.ensures.laid

@@ -13,14 +13,14 @@ lay_op-passed_by-requires-clause-fields c =
     let w = c.requires.means in
     let h = rw (op_behind c.ops-ops.result.now c.loop-i.i c.loop-i-test.true) at (c.loop-i.invariant.laid w.parts w.lay)
     in
-    rw c.fields_from-fields_left.ensures.exact (fields_within _ _ _ _ _ _ _ _ h)
+    rw c.fields_from-fields_left.ensures.exact (fields_within h)
 
 pub lay_op-passed_by-requires-clause-bytes : goal.lay_op-passed_by-requires-clause-bytes
 lay_op-passed_by-requires-clause-bytes c =
     let w = c.requires.means in
     let h = rw (op_behind c.ops-ops.result.now c.loop-i.i c.loop-i-test.true) at (c.loop-i.invariant.laid w.parts w.lay)
     in
-    rw (c.fields_from-fields_left.ensures.exact, c.bytes_from-bytes_left.ensures.exact) (bytes_within _ _ _ _ _ _ _ _ h)
+    rw (c.fields_from-fields_left.ensures.exact, c.bytes_from-bytes_left.ensures.exact) (bytes_within h)
 
 pub lay_op-passed_by-requires-clause-ready : goal.lay_op-passed_by-requires-clause-ready
 lay_op-passed_by-requires-clause-ready c =
@@ -28,14 +28,14 @@ lay_op-passed_by-requires-clause-ready c =
     let h = rw (op_behind c.ops-ops.result.now c.loop-i.i c.loop-i-test.true) at (c.loop-i.invariant.laid w.parts w.lay)
     in
     rw (c.fields_from-fields_left.ensures.exact, c.bytes_from-bytes_left.ensures.exact)
-    (may_lay_op _ _ _ _ _ _ _ _ h (rw c.requires.layout c.layout_is_well_made.ensures) c.requires.different)
+    (may_lay_op h (rw c.requires.layout c.layout_is_well_made.ensures) c.requires.different)
 
 pub overflow_add-at_field : goal.overflow_add-at_field
 overflow_add-at_field c =
     let w = c.requires.means in
     let inv = c.loop-i.invariant in
     let h = rw (op_behind c.ops-ops.result.now c.loop-i.i c.loop-i-test.true) at (inv.laid w.parts w.lay) in
-    let within = fields_within _ _ _ _ _ _ _ _ h in
+    let within = fields_within h in
     omega (
       arith,
       within,
@@ -49,7 +49,7 @@ overflow_add-at_byte c =
     let w = c.requires.means in
     let inv = c.loop-i.invariant in
     let h = rw (op_behind c.ops-ops.result.now c.loop-i.i c.loop-i-test.true) at (inv.laid w.parts w.lay) in
-    let within = bytes_within _ _ _ _ _ _ _ _ h in
+    let within = bytes_within h in
     let size = rw c.fields_from-fields_left.ensures.exact at c.lay_op-passed_by.ensures.bytes in
     omega (arith, within, size, length-drop c.loop-i.at_byte c.bytes-bytes.result.now, inv.bytes_within)
 
@@ -77,8 +77,8 @@ loop-i-preserved c =
     rw (← fields_left, ← bytes_left) now.laid in
     let long = rw fields_left at now.long in
     let made : IsWellMade c.args.tape.now.layout = rw c.requires.layout c.layout_is_well_made.ensures in
-    let field_count = fields_within _ _ _ _ _ _ _ _ h in
-    let byte_count = bytes_within _ _ _ _ _ _ _ _ h in
+    let field_count = fields_within h in
+    let byte_count = bytes_within h in
     record {
       fields_within = omega (arith, field_count, now.fields, length-drop f fields, inv.fields_within);
       bytes_within = omega (arith, byte_count, size, length-drop b bytes, inv.bytes_within);
@@ -87,7 +87,7 @@ loop-i-preserved c =
       places = steps.reserved_places ∙ inv.places;
       laid = λ qs lay.
           (rw (now.fields, size, ← drop-drop (op_fields op) f fields, ← drop-drop (op_bytes op own) b bytes)
-          (op_laid _ _ _ _ _ _ _ _ (rw cons at (inv.laid qs lay)) made c.requires.different _ long steps));
+          (op_laid (rw cons at (inv.laid qs lay)) made c.requires.different _ long steps));
       long = (let before = rw cons at inv.long in
           rw (now.fields, ← drop-drop (op_fields op) f fields, steps.come, long) before);
       most = (let before = rw cons at inv.most in rw now.most before);

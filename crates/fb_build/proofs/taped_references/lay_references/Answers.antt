@@ -1,18 +1,19 @@
 use Rattle.std.proofs.Common.{◌≡◌, ◌+◌, ◌-◌, ◌*◌, List, true, max, refl, length, arith}
 use Rattle.std.proofs.lemmas.Bool.{eq-eqb}
 use Rattle.fb_layout.specs.Laid.{LaidSchema, StoredKind, align_of}
+use Rattle.fb_layout.proofs.sizes.AlignmentsArePowersOfTwo.{four_aligned}
 use Rattle.fb_value.specs.Datum.{Datum}
 use Rattle.fb_value.specs.Num.{divides}
 use Rattle.fb_build.specs.Referred.{AreReferred}
 use Rattle.fb_build.proofs.fields.FieldHasItsValue.{target_grown}
 use Rattle.fb_build.proofs.references.ReferencesOfElements.{reference_size, reference_align}
-use Rattle.fb_build.proofs.tail.WhatIsLaidStaysLaid.{four_power, then_grows, grown_long}
+use Rattle.fb_build.proofs.tail.WhatIsLaidStaysLaid.{then_grows, grown_long}
 use Rattle.fb_build.proofs.vectors.ClosedVectorHasItsElements.{IsClosed, closed_lies, closed_adds, closed_leads}
 use Rattle.fb_build.proofs.vectors.VectorHasItsElements.{without_items}
 use Rattle.fb_build.proofs.taped_references.lay_references.Goals as goal
 
 pub fit-requires-clause-power : goal.fit-requires-clause-power
-fit-requires-clause-power c = four_power
+fit-requires-clause-power c = four_aligned
 
 pub lay_elements-requires-clause-inside : goal.lay_elements-requires-clause-inside
 lay_elements-requires-clause-inside c i =
@@ -64,14 +65,14 @@ closed c L kind ds is =
     }
 
 pub returns-clause-lies : goal.returns-clause-lies
-returns-clause-lies c L kind ds is = closed_lies _ _ _ _ _ _ _ _ (closed c L kind ds is)
+returns-clause-lies c L kind ds is = closed_lies (closed c L kind ds is)
 
 pub returns-clause-adds : goal.returns-clause-adds
-returns-clause-adds c L kind ds places is = closed_adds _ _ _ _ _ _ _ _ (closed c L kind ds is) places
+returns-clause-adds c L kind ds places is = closed_adds (closed c L kind ds is) places
 
 pub returns-clause-leads : goal.returns-clause-leads
 returns-clause-leads c L kind ds is =
-    closed_leads _ _ _ _ _ _ _ _ (closed c L kind ds is) c.args.ends.now
+    closed_leads (closed c L kind ds is) c.args.ends.now
     (c.lay_elements.ensures.leads L kind ds (referred c L kind ds is))
 
 pub returns-clause-long : goal.returns-clause-long

@@ -1,10 +1,11 @@
 use Rattle.std.proofs.Common.{arith}
-use Rattle.fb_build.proofs.tail.WhatIsLaidStaysLaid.{four_power, then_grows, grown_long}
+use Rattle.fb_build.proofs.tail.WhatIsLaidStaysLaid.{then_grows, grown_long}
 use Rattle.fb_build.proofs.taped.ClosedTableIsWhole.{IsClosing, table_closed}
 use Rattle.fb_build.proofs.taped_vtables.close_table.Goals as goal
+use Rattle.fb_layout.proofs.sizes.AlignmentsArePowersOfTwo.{four_aligned}
 
 pub fit-requires-clause-power : goal.fit-requires-clause-power
-fit-requires-clause-power c = four_power
+fit-requires-clause-power c = four_aligned
 
 closing : (c : goal.After-lay_vtable) → IsClosing c.args.number c.fit.result c.lay_vtable.result c.args.vtable.now
     c.args.places.now.items c.lay_vtable.new.places.items c.args.out.now c.fit.new.self c.lay_vtable.new.out

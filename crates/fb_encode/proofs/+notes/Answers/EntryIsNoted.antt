@@ -128,8 +128,8 @@ absent_adds_nothing t c =
     (entry_given L c.args.source.unknown (field_seen slot.field.now) (tree_seen c.args.tree)
     (slot_place slot.owner.0 slot.number) slot.code c.args.levels c.args.left)
     (rw (c.in_default.is, c.if-slot.false) refl)
-    c.args.noting.now.tape c.args.noting.now.opened c.requires.whole c.without.result
-    (rw (← c.place.ensures) (c.without.ensures L c.args.levels)))
+    c.args.noting.now.tape c.args.noting.now.opened c.requires.whole c.entry_without_member.result
+    (rw (← c.place.ensures) (c.entry_without_member.ensures L c.args.levels)))
 
 pub null_adds_nothing : goal.entries::note_slot-returns-then-is_null-clause-noted
 null_adds_nothing t c =
@@ -141,5 +141,5 @@ null_adds_nothing t c =
     (entry_given L c.args.source.unknown (field_seen slot.field.now) (tree_seen c.args.tree)
     (slot_place slot.owner.0 slot.number) slot.code c.args.levels c.args.left)
     (rw (c.in-Some.is, c.if-slot.false, null) refl)
-    c.args.noting.now.tape c.args.noting.now.opened c.requires.whole c.without-then-is_null.result
-    (rw (← c.place-then-is_null.ensures) (c.without-then-is_null.ensures L c.args.levels)))
+    c.args.noting.now.tape c.args.noting.now.opened c.requires.whole c.entry_without_member-then-is_null.result
+    (rw (← c.place-then-is_null.ensures) (c.entry_without_member-then-is_null.ensures L c.args.levels)))

@@ -15,9 +15,10 @@ use Rattle.fb_build.proofs.fields.CodeIsBeforeItsUnion.{slots_paired}
 use Rattle.fb_build.proofs.fields.NumbersHaveDefaults.{marks_at}
 use Rattle.fb_encode.proofs.entries.SlotStoresNothing.{given_nothing, nothing_noted}
 use Rattle.fb_encode.proofs.tables.SlotsAreNoted.{all_given, entry_by, next_noted, no_cell, none_noted, open_table}
-use Rattle.fb_encode.proofs.tables.SlotsAreNoted.{slot_there, slots_long, table_noted, too_deep, ungiven, untold}
-use Rattle.fb_encode.proofs.tables.SlotsAreNoted.{opened_again, opened_within}
+use Rattle.fb_encode.proofs.tables.SlotsAreNoted.{slot_there, table_noted, too_deep, ungiven, untold}
 use Rattle.fb_encode.proofs.+notes.Goals as goal
+use Rattle.fb_layout.proofs.slots.SlotsAreAsManyAsFields.{slots_long}
+use Rattle.fb_tape.proofs.stored.OpenFieldsAreAdded.{opened_again, opened_within}
 
 pub deep_table_refused : goal.tables::note_table-returns-then-levels-eq0-clause-refused
 deep_table_refused t c =

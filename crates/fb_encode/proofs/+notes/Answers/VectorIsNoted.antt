@@ -6,7 +6,8 @@ use Rattle.fb_layout.specs.Laid.{stored_kind}
 use Rattle.fb_value.specs.Datum.{a_vector}
 use Rattle.fb_value.specs.Room.{vector_room}
 use Rattle.fb_value.specs.View.{parts_in}
-use Rattle.fb_build.proofs.noted.OneMoreFits.{counted, elements_fit, long_more, parts_room_more}
+use Rattle.fb_value.proofs.types.PartsByTheirIndex.{count_parts}
+use Rattle.fb_build.proofs.noted.OneMoreFits.{elements_fit, long_more, parts_room_more}
 use Rattle.fb_build.proofs.noted.PartsAreAdded.{adds_same, adds_then}
 use Rattle.fb_build.proofs.noted.PartsFollow.{elements_known, named_more}
 use Rattle.fb_encode.proofs.elements.ElementsAreNoted.{one_more_fits, one_more_given}
@@ -72,7 +73,7 @@ references_add t c =
       adds = record {
         waits = λ others w. pushed others h.elements long (elements_known L kind h.elements c.requires.element h.fits)
             (rw same at (h.adds.waits others w));
-        sum = omega (arith, h.adds.sum, sum, ap (vector_room L kind) (counted h.elements ∙ sym long));
+        sum = omega (arith, h.adds.sum, sum, ap (vector_room L kind) (count_parts h.elements ∙ sym long));
         layout = c.push_references.ensures.layout ∙ h.adds.layout;
         whole = c.in_ok-push_references.ensures.whole;
       };

@@ -16,8 +16,9 @@ use Rattle.fb_encode.proofs.objects.SlotsAreFound.{open_fields}
 use Rattle.fb_encode.proofs.objects.TextIsOfItsSlot.{all_read, own_text, read_more}
 use Rattle.fb_encode.proofs.objects.CutObjectIsRead.{members_are_read}
 use Rattle.fb_encode.proofs.parts.TreesByTheirKind.{table_by}
-use Rattle.fb_encode.proofs.tables.SlotsAreNoted.{opened_again, opened_within, slot_there}
+use Rattle.fb_encode.proofs.tables.SlotsAreNoted.{slot_there}
 use Rattle.fb_encode.proofs.+reads.Goals as goal
+use Rattle.fb_tape.proofs.stored.OpenFieldsAreAdded.{opened_again, opened_within}
 
 pub no_slot_yet : goal.objects::note_members-loop-k-init
 no_slot_yet t c =

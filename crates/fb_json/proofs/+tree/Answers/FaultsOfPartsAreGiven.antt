@@ -22,9 +22,9 @@ use Rattle.fb_json.specs.Meant.{Look, if_known, look, meant, names_known, parts_
 use Rattle.fb_json.specs.Meant.{table_meant, type_place}
 use Rattle.fb_json.specs.SlotMembers.{looked_up}
 use Rattle.fb_json.proofs.slots.OneSlotOrFieldMore.{fails_by}
-use Rattle.fb_json.proofs.tree.PathGoesThroughParts.{spent_all}
 use Rattle.fb_json.proofs.tree.TrailLeadsToTheFault.{here, fault_given}
 use Rattle.fb_json.proofs.+tree.Goals as goal
+use Rattle.fb_json.proofs.laws.EachStepOfABindSucceeds.{spends}
 
 -- ---- numbers in structs
 
@@ -127,7 +127,7 @@ table_unknown : (L : LaidSchema) (unknown : Bool) (ms : Members) (seen : Look) (
     → table_meant L unknown ms seen t at levels left ≡ Err f
 unfolding table_meant
 table_unknown L unknown ms seen t at zero left deep some f h = absurd (omega arith)
-table_unknown L unknown ms seen t at (suc levels) left deep some f h = rw (spent_all 1 at left (omega arith), h) refl
+table_unknown L unknown ms seen t at (suc levels) left deep some f h = rw (spends 1 at left (omega arith), h) refl
 
 pub unknown_member_of_table_given : goal.tables::table-returns-in_err-members_by_slot-clause-gives
 unknown_member_of_table_given t c =

@@ -43,10 +43,10 @@ pub refused_element_given : goal.tree::items-returns-in-Err-clause-gives
 refused_element_given t c =
     let L = c.args.source.layout.now in
     let unknown = c.args.source.unknown in
-    fails_after c.in-Err.fault c.after.result (meant L unknown (tree_view c.index-elements-i.result)
+    fails_after c.in-Err.fault c.push_step.result (meant L unknown (tree_view c.index-elements-i.result)
     (One c.args.kind) c.args.place c.args.room.levels c.loop-i.left)
     (items_meant L unknown (items_view c.args.elements.now) c.args.kind c.args.place c.args.room.levels
-    c.args.room.left) c.after.ensures.step (λ h. c.loop-i.invariant.gives ∙ element_ungiven L unknown c.args.kind
+    c.args.room.left) c.push_step.ensures.step (λ h. c.loop-i.invariant.gives ∙ element_ungiven L unknown c.args.kind
     c.args.place c.args.room.levels c.loop-i.left (map view c.loop-i.found.items) c.args.elements.now c.loop-i.i
     c.index-elements-i.result c.loop-i-test.true c.index-elements-i.is c.in-Err.fault h) c.in-Err.ensures.gives
 

@@ -66,9 +66,9 @@ refused_part_given t c ms are =
     let seen = look L unknown ms in
     let found = looked_up_in c.args.trees.now c.args.structure.fields.now ms are c.loop-k.k c.index-fields-k.result
     c.loop-k-test.true c.index-fields-k.is c.get.result c.get.ensures.is L unknown in
-    fails_after c.in-Err.fault c.after.result
+    fails_after c.in-Err.fault c.push_step.result
     (part_meant (looked_up L unknown c.get.result) c.index-fields-k.result.shape
-    (slot_place c.args.structure.owner.0 c.loop-k.k) c.args.room.levels c.loop-k.left) _ c.after.ensures.step
+    (slot_place c.args.structure.owner.0 c.loop-k.k) c.args.room.levels c.loop-k.left) _ c.push_step.ensures.step
     (λ h. (c.loop-k.invariant.read ms are).0 ∙ parts_ungiven L seen c.args.structure.owner.0 c.args.structure.fields.now c.loop-k.k
     c.index-fields-k.result c.loop-k-test.true c.index-fields-k.is (map view c.loop-k.found.items) c.args.room.levels
     c.loop-k.left (slot_place c.args.structure.owner.0 c.loop-k.k) refl _ (rw found h)) c.in-Err.ensures.gives
@@ -80,12 +80,12 @@ trail_to_refused_part t c ms are =
     let seen = look L unknown ms in
     let found = looked_up_in c.args.trees.now c.args.structure.fields.now ms are c.loop-k.k c.index-fields-k.result
     c.loop-k-test.true c.index-fields-k.is c.get.result c.get.ensures.is L unknown in
-    goes c.args.trail.now c.loop-k.trail c.part.new.trail c.after.new.self
+    goes c.args.trail.now c.loop-k.trail c.part.new.trail c.push_step.new.self
     (IsFirstAt L unknown (field_spot (seen (field_seen c.index-fields-k.result).name) c.index-fields-k.result.shape
     (slot_place c.args.structure.owner.0 c.loop-k.k) c.args.room.levels c.loop-k.left))
     (IsFirstIn L unknown (ToField seen c.args.structure.owner (map field_seen c.args.structure.fields.now) c.args.room.levels
-    c.args.room.left)) (Field c.args.structure.owner c.loop-k.k) c.in-Err.fault c.after.result c.loop-k.invariant.trail
-    c.after.ensures.step (rw found c.in-Err.ensures.trail)
+    c.args.room.left)) (Field c.args.structure.owner c.loop-k.k) c.in-Err.fault c.push_step.result c.loop-k.invariant.trail
+    c.push_step.ensures.step (rw found c.in-Err.ensures.trail)
     (λ steps. to_field L unknown seen c.args.structure.owner c.args.structure.fields.now c.loop-k.k c.index-fields-k.result
     c.loop-k-test.true c.index-fields-k.is c.args.room.levels c.args.room.left c.loop-k.left
     (c.loop-k.invariant.read ms are).1 c.in-Err.fault steps)

@@ -29,7 +29,7 @@ note_fields_at-requires-clause-room c =
       all_counted opens c.requires.aligned,
       length-drop c.args.first c.args.opened.now,
     ) in
-    let on = falls_on _ _ _ _ _ _ _ _ _ _ _ c.loop-notes.invariant.left few in
+    let on = falls_on c.loop-notes.invariant.left few in
     let both = taken_both (at_align c.loop-notes.align opens) (fields_below on.exponent opens) in
     omega (arith, on.noting.laid_are, both, c.requires.room, c.loop-notes.invariant.size)
 
@@ -50,7 +50,7 @@ loop-notes-smaller c =
       all_counted opens c.requires.aligned,
       length-drop c.args.first c.args.opened.now,
     ) in
-    let on = falls_on _ _ _ _ _ _ _ _ _ _ _ c.loop-notes.invariant.left few in
+    let on = falls_on c.loop-notes.invariant.left few in
     rw on.align_is (falls on.exponent)
 
 pub loop-notes-preserved : goal.loop-notes-preserved
@@ -67,7 +67,7 @@ loop-notes-preserved c =
       all_counted opens c.requires.aligned,
       length-drop c.args.first c.args.opened.now,
     ) in
-    let on = falls_on _ _ _ _ _ _ _ _ _ _ _ c.loop-notes.invariant.left few in
+    let on = falls_on c.loop-notes.invariant.left few in
     let now = c.in_ok-note_fields_at.ensures in
     let same = c.note_fields_at.ensures.size in
     record {
@@ -79,7 +79,7 @@ loop-notes-preserved c =
         ap length now.notes,
         length-append c.loop-notes.notes.items (notes_of (at_align c.loop-notes.align opens)),
       );
-      left = rw same (falls_next _ _ _ _ _ _ _ _ _ _ _ _ _ _ _ on now.notes now.bytes now.laid now.told
+      left = rw same (falls_next on now.notes now.bytes now.laid now.told
           c.note_fields_at.ensures.slots);
     }
 
@@ -97,7 +97,7 @@ returns-clause-notes c =
       all_counted opens c.requires.aligned,
       length-drop c.args.first c.args.opened.now,
     ) in
-    (none_falls _ _ _ _ _ _ _ _ _ _ _ c.loop-notes.invariant.left many).0
+    (none_falls c.loop-notes.invariant.left many).0
 
 pub returns-clause-bytes : goal.returns-clause-bytes
 returns-clause-bytes c =
@@ -113,7 +113,7 @@ returns-clause-bytes c =
       all_counted opens c.requires.aligned,
       length-drop c.args.first c.args.opened.now,
     ) in
-    (none_falls _ _ _ _ _ _ _ _ _ _ _ c.loop-notes.invariant.left many).1
+    (none_falls c.loop-notes.invariant.left many).1
 
 pub returns-clause-told : goal.returns-clause-told
 returns-clause-told c =
@@ -130,4 +130,4 @@ returns-clause-told c =
       length-drop c.args.first c.args.opened.now,
     ) in
     rw (← c.loop-notes.invariant.size)
-    ((none_falls _ _ _ _ _ _ _ _ _ _ _ c.loop-notes.invariant.left many).3)
+    ((none_falls c.loop-notes.invariant.left many).3)

@@ -17,7 +17,7 @@ overflow_add-offsets c =
     let next = drop_next c.args.opened.now c.loop-i.i x c.field-field.ensures.is.1 in
     let more = at_align_more c.args.align x (drop (c.loop-i.i + 1) c.args.opened.now)
     (eq-eqb _ _ c.if-field-align.false) in
-    let room = room_here _ _ _ _ _ _ _ _ _ _ _ _ (rw (next, more) at c.loop-i.invariant.3) in
+    let room = room_here (rw (next, more) at c.loop-i.invariant.3) in
     omega (arith, room, c.size_of.ensures, c.requires.room)
 
 pub tell-requires-clause-laid : goal.tell-requires-clause-laid
@@ -26,7 +26,7 @@ tell-requires-clause-laid c =
     let next = drop_next c.args.opened.now c.loop-i.i x c.field-field.ensures.is.1 in
     let more = at_align_more c.args.align x (drop (c.loop-i.i + 1) c.args.opened.now)
     (eq-eqb _ _ c.if-field-align.false) in
-    let room = room_here _ _ _ _ _ _ _ _ _ _ _ _ (rw (next, more) at c.loop-i.invariant.3) in
+    let room = room_here (rw (next, more) at c.loop-i.invariant.3) in
     omega (arith, room, c.size_of.ensures, c.requires.room, c.loop-i.invariant.1)
 
 pub tell-requires-clause-room : goal.tell-requires-clause-room
@@ -61,7 +61,7 @@ loop-i-preserved c =
     let next = drop_next c.args.opened.now c.loop-i.i x c.field-field.ensures.is.1 in
     let more = at_align_more c.args.align x (drop (c.loop-i.i + 1) c.args.opened.now)
     (eq-eqb _ _ c.if-field-align.false) in
-    let now = noted _ _ _ _ _ _ _ _ _ _ _ _ (rw (next, more) at c.loop-i.invariant.3) in
+    let now = noted (rw (next, more) at c.loop-i.invariant.3) in
     let own = c.bytes_of-own.ensures.are x c.field-field.ensures.is.1 in (
       omega (
         arith,
@@ -90,19 +90,19 @@ returns-clause-size c = c.loop-i.invariant.1
 pub returns-clause-notes : goal.returns-clause-notes
 returns-clause-notes c =
     let none = drop_all c.loop-i.i c.args.opened.now (omega (arith, c.loop-i-test.false, c.len-i-end.ensures)) in
-    (all_noted _ _ _ _ _ _ _ _ _ _ _ refl (rw none at c.loop-i.invariant.3)).0
+    (all_noted (rw none at c.loop-i.invariant.3) refl).0
 
 pub returns-clause-bytes : goal.returns-clause-bytes
 returns-clause-bytes c =
     let none = drop_all c.loop-i.i c.args.opened.now (omega (arith, c.loop-i-test.false, c.len-i-end.ensures)) in
-    (all_noted _ _ _ _ _ _ _ _ _ _ _ refl (rw none at c.loop-i.invariant.3)).1
+    (all_noted (rw none at c.loop-i.invariant.3) refl).1
 
 pub returns-clause-laid : goal.returns-clause-laid
 returns-clause-laid c =
     let none = drop_all c.loop-i.i c.args.opened.now (omega (arith, c.loop-i-test.false, c.len-i-end.ensures)) in
-    (all_noted _ _ _ _ _ _ _ _ _ _ _ refl (rw none at c.loop-i.invariant.3)).2
+    (all_noted (rw none at c.loop-i.invariant.3) refl).2
 
 pub returns-clause-told : goal.returns-clause-told
 returns-clause-told c =
     let none = drop_all c.loop-i.i c.args.opened.now (omega (arith, c.loop-i-test.false, c.len-i-end.ensures)) in
-    rw (← c.loop-i.invariant.1) ((all_noted _ _ _ _ _ _ _ _ _ _ _ refl (rw none at c.loop-i.invariant.3)).3)
+    rw (← c.loop-i.invariant.1) ((all_noted (rw none at c.loop-i.invariant.3) refl).3)

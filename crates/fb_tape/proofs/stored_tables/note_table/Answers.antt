@@ -1,10 +1,11 @@
 use Rattle.std.proofs.Common.{◌≡◌, ◌∙◌, ◌+◌, ℕ, drop, length, replicate, ap, arith}
 use Rattle.std.proofs.lemmas.List.{length-replicate}
 use Rattle.fb_layout.specs.Sizes.{ceil4}
+use Rattle.fb_layout.proofs.sizes.AlignmentsArePowersOfTwo.{four_aligned}
 use Rattle.fb_tape.specs.StoredTables.{in_order}
 use Rattle.fb_tape.specs.Vtables.{offsets_from, trimmed, table_size}
 use Rattle.fb_tape.proofs.laying_order.AllIsInOrder.{all_taken}
-use Rattle.fb_tape.proofs.laying_order.LowAlignmentsAreLeft.{greatest_aligned, four_aligned}
+use Rattle.fb_tape.proofs.laying_order.LowAlignmentsAreLeft.{greatest_aligned}
 use Rattle.fb_tape.proofs.laying_order.NotesFollowTheOrder.{all_in_order}
 use Rattle.fb_tape.proofs.stored_tables.OffsetsArePut.{all_put, vtable_long}
 use Rattle.fb_tape.proofs.stored_tables.OpenFieldsAreStored.{taken_is, all_aligned}

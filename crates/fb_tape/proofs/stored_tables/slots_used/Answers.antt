@@ -2,7 +2,7 @@ use Rattle.std.proofs.Common.{◌≡◌, ◌+◌, ◌-◌, ◌<◌, ℕ, zero, s
 use Rattle.std.proofs.Common.{arith}
 use Rattle.std.proofs.lemmas.List.{drop_all, length-drop}
 use Rattle.fb_tape.specs.OpenList.{field_seen}
-use Rattle.fb_tape.proofs.stored_tables.OffsetsAreTrimmed.{all_used}
+use Rattle.fb_tape.proofs.stored.OffsetsAreTrimmed.{all_used}
 use Rattle.fb_tape.proofs.stored_tables.slots_used.Goals as goal
 
 dropped : {A : Type 0} (xs : List A) (n i : ℕ) (x : A) → slice_get xs (n + i) ≡ Some x

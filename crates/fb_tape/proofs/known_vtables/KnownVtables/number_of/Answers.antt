@@ -1,9 +1,9 @@
-use Rattle.std.proofs.Common.{◌≡◌, ◌∙◌, ◌-◌, ◌+◌, ◌++◌, inr, [], ◌∷◌, List, length, arith, ap}
+use Rattle.std.proofs.Common.{◌≡◌, ◌∙◌, ◌-◌, ◌++◌, inr, [], ◌∷◌, List, length, arith, ap}
 use Rattle.std.proofs.Common.{length-append, refl}
 use Rattle.std.proofs.lemmas.List.{length-map}
 use Rattle.fb_value.specs.Num.{Bytes, part_of}
 use Rattle.fb_tape.specs.declared.known_vtables.VtableRange.{VtableRange}
-use Rattle.fb_tape.specs.VtablesHeld.{AreIndexed, vtables_in}
+use Rattle.fb_tape.specs.VtablesHeld.{vtables_in}
 use Rattle.fb_index.proofs.LastEntry.{entry_last}
 use Rattle.fb_tape.proofs.known_vtables.OneMoreIsKnown.{range_after, indexed_more, vtables_more}
 use Rattle.fb_tape.proofs.known_vtables.KnownVtables.number_of.Goals as goal

@@ -1,7 +1,7 @@
 use Rattle.std.proofs.Common.{◌≡◌, ◌≤◌, ◌*◌, take}
 use Rattle.fb_build.specs.NotesLaid.{notes_references}
 use Rattle.fb_build.specs.TapeLaid.{notes_bytes}
-use Rattle.fb_build.proofs.taped_fields.taken_by.Given as goal
+use Rattle.fb_build.proofs.taped_fields.count_notes.Given as goal
 
 abbrev pub invariant-loop-i : goal.invariant-loop-i
 invariant-loop-i l = record {

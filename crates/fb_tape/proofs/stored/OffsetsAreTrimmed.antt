@@ -156,3 +156,13 @@ module _ (L : LaidSchema) (FS : List Slot) (XS : List (Option Datum)) where
   offset_at k (g ∷ fs) (y ∷ xs) (suc i) f x fi xi =
       let same : k + suc i ≡ suc k + i = omega arith in
       rw same (offset_at (suc k) fs xs i f x fi xi)
+
+pub trimmed_short : (os : List ℕ) → length (trimmed os) ≤ length os
+trimmed_short [] = omega arith
+trimmed_short (suc n ∷ os) = let rest = trimmed_short os in omega (arith, rest)
+trimmed_short (zero ∷ os) = by_rest (trimmed os) refl (trimmed_short os)
+  where
+    by_rest : (ts : List ℕ) → trimmed os ≡ ts → length (trimmed os) ≤ length os
+        → length (trimmed (0 ∷ os)) ≤ suc (length os)
+    by_rest [] is h = rw (none_trimmed os is) (omega arith)
+    by_rest (q ∷ qs) is h = rw (zero_trimmed os q qs is) (omega (arith, rw is at h))

@@ -1,2 +1,0 @@
--- What the proofs of src/members.rt use.
-pub mod LookUpFindsMembers
