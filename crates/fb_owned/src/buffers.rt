@@ -1,6 +1,6 @@
 //! Builds buffers of values.
 ghost use Rattle.std.specs.Prelude.{◌≡◌, ◌≤◌, ◌<◌, length, true, Bool, IfOk, IfErr};
-ghost use Rattle.fb_value.specs.Bounds.{Bounds};
+ghost use Rattle.fb_value.specs.Bounds.{Bounds, most_bytes};
 ghost use Rattle.fb_value.specs.Counts.{cells, depth, is_whole};
 ghost use Rattle.fb_value.specs.Fits.{FitsRoot};
 ghost use Rattle.fb_value.specs.Holds.{Holds};
@@ -25,9 +25,9 @@ pub fn plan<'v>(alloc: Global, layout: &'v Layout, value: &'v Value) -> Result<P
     requires deep { depth (view value.now) ≤ 127 }
     ensures layout { IfOk result (λ p. p.layout ≡ layout.now) }
     ensures value { IfOk result (λ p. view p.value ≡ view value.now) }
-    ensures small { IfOk result (λ p. room_of layout.now (view value.now) ≤ 2147483647) }
-    ensures too_big { IfErr result (λ e. e ≡ TooBig → 2147483647 < room_of layout.now (view value.now)) }
-    ensures memory { IfErr result (λ e. e ≡ Memory → room_of layout.now (view value.now) ≤ 2147483647) }
+    ensures small { IfOk result (λ p. room_of layout.now (view value.now) ≤ most_bytes) }
+    ensures too_big { IfErr result (λ e. e ≡ TooBig → most_bytes < room_of layout.now (view value.now)) }
+    ensures memory { IfErr result (λ e. e ≡ Memory → room_of layout.now (view value.now) ≤ most_bytes) }
 {
     layout_is_well_made(layout);
     let Value::Fields(table, entries) = value else {
@@ -53,9 +53,9 @@ pub fn build(alloc: Global, layout: &Layout, value: &Value) -> Result<Vec<u8>, B
     ensures covered { IfOk result (λ b. Covered layout.now b.items) }
     ensures aligned { IfOk result (λ b. EndsAligned layout.now b.items) }
     ensures short { IfOk result (λ b. length b.items ≤ room_of layout.now (view value.now)) }
-    ensures small { IfOk result (λ b. room_of layout.now (view value.now) ≤ 2147483647) }
-    ensures too_big { IfErr result (λ e. e ≡ TooBig → 2147483647 < room_of layout.now (view value.now)) }
-    ensures memory { IfErr result (λ e. e ≡ Memory → room_of layout.now (view value.now) ≤ 2147483647) }
+    ensures small { IfOk result (λ b. room_of layout.now (view value.now) ≤ most_bytes) }
+    ensures too_big { IfErr result (λ e. e ≡ TooBig → most_bytes < room_of layout.now (view value.now)) }
+    ensures memory { IfErr result (λ e. e ≡ Memory → room_of layout.now (view value.now) ≤ most_bytes) }
 {
     Ok(plan(alloc, layout, value)?.finish())
 }

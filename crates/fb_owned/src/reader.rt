@@ -51,7 +51,7 @@ pub fn read<'a>(
     read_framed(alloc, layout, bytes, limits, raw, false, entries)
 }
 
-/// The same of a buffer that may be `prefixed`: with the count of its bytes in front, from which positions and
+/// The same of a buffer that may be `prefixed`: with a size prefix, from which positions and
 /// alignment count.
 pub fn read_framed<'a>(
     alloc: Global,

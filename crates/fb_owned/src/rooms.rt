@@ -7,6 +7,7 @@ ghost use Rattle.fb_value.specs.Fits.{FitsRoot};
 ghost use Rattle.fb_value.specs.Room.{room as room_at, parts_room, entries_room, room_of};
 ghost use Rattle.fb_value.specs.Entries.{entry_room};
 ghost use Rattle.fb_value.specs.UpTo.{SomeUpTo, at_most_usize};
+ghost use Rattle.fb_value.specs.Bounds.{most_bytes};
 
 use fb_layout::Layout;
 use fb_schema::{FieldInfo, Kind, Shape};
@@ -18,7 +19,7 @@ use fb_value::Value;
 pub fn room(layout: &Layout, value: &Value) -> Option<u32>
     requires nests { nesting (view value.now) ≤ 300 }
     requires fits { FitsRoot layout.now (view value.now) }
-    ensures { SomeUpTo 2147483647 result (room_of layout.now (view value.now)) }
+    ensures { SomeUpTo most_bytes result (room_of layout.now (view value.now)) }
 {
     let shape = Shape::One(Kind::Table(layout.schema().root()));
     buffer_room(layout, room_in(layout, shape, value))

@@ -7,6 +7,7 @@ ghost use Rattle.fb_value.specs.View.{view, entries_view};
 ghost use Rattle.fb_text.specs.Shown.{IsTop, HasWeight};
 ghost use Rattle.fb_owned.specs.ShownValues.{size, size_in, count_in};
 
+use fb_read::{NumberItems, TextItems};
 use fb_text::{Found, Shown};
 use fb_value::Value;
 
@@ -118,6 +119,16 @@ impl Shown for ValueEntry<'_> {
             Some(value) => count_of(value),
             None => 0,
         }
+    }
+
+    #[inline]
+    fn numbers(&self) -> Option<NumberItems<'_>> {
+        None
+    }
+
+    #[inline]
+    fn texts(&self) -> Option<TextItems<'_>> {
+        None
     }
 
     #[inline]

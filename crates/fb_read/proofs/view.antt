@@ -3,3 +3,4 @@ pub mod AccessorsReadTheEntry
 pub mod EachSortHasItsClass
 pub mod ViewHasAVtable
 pub mod ViewsAreWithinTheBuffer
+pub mod WholeViewsHaveWholeChildren

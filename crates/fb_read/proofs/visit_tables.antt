@@ -5,6 +5,7 @@ pub mod EndsAtASlot
 pub mod FrontIsFreeOfFaults
 pub mod HearsTheWayBack
 pub mod PartsAddUp
+pub mod StaysWhole
 pub mod StepLeadsToTheLeast
 pub mod VisitsOnePlaceAfterAnother
 pub mod VisitsTakeTheSameAgain

@@ -8,10 +8,7 @@ ghost use Rattle.fb_read.specs.Walks.{IsBufferOf};
 use crate::buffer::Buffer;
 use crate::numbers::u32_at;
 use fb_layout::{Layout, layout_is_well_made};
-use fb_value::{Limits, ReadFault};
-
-// The maximum length of a buffer.
-const MOST_BYTES: usize = 2_147_483_647;
+use fb_value::{Limits, MOST_BYTES, ReadFault};
 
 #[tactic(auto, unfolding(fb_value::specs::Rules::first_failing))]
 fn check_identified(bytes: &[u8], front: usize, identifier: [u8; 4]) -> Result<(), ReadFault>

@@ -1,6 +1,7 @@
 //! Vectors that lie in bytes, and their elements.
-ghost use Rattle.std.specs.Prelude.{◌≡◌, ◌+◌, ◌*◌, ◌<◌, ◌≤◌, ◌^◌, length, option_copied, IfSome};
+ghost use Rattle.std.specs.Prelude.{◌≡◌, ◌+◌, ◌*◌, ◌<◌, ◌≤◌, ◌^◌, length, option_copied, IfSome, IsTrue, true};
 ghost use Rattle.fb_layout.specs.Laid.{stored_kind, size_of};
+ghost use Rattle.fb_value.specs.Counts.{parts_whole};
 ghost use Rattle.fb_value.specs.Datum.{Parts, count};
 ghost use Rattle.fb_value.specs.Lies.{LiesItems};
 ghost use Rattle.fb_value.specs.Nth.{nth_part};
@@ -8,10 +9,11 @@ ghost use Rattle.fb_read.specs.Views.{number_in, text_in};
 
 use crate::entry::Entry;
 use crate::fixed_view::FixedView;
-use crate::kinds::{base_of, is_text, structure_of, table_of};
+use crate::kinds::{base_of, is_text, size_in, structure_of, table_of};
 use crate::numbers::{number_at, u32_at};
 use crate::places::text_behind;
-use crate::view::View;
+use crate::typed_items::{NumberItems, TextItems};
+use crate::view::{View, vtable_in};
 use fb_layout::Layout;
 use fb_schema::Kind;
 
@@ -23,15 +25,20 @@ pub struct Items<'a> {
     pub kind: Kind,
     pub at: usize,
     pub len: u32,
+    /// Set where it is known that each union's code in the elements is known to the schema.
+    pub(crate) whole: bool,
     ghost short: { length bytes.now < 2 ^ 31 },
     ghost within: { at + len * size_of layout.now (stored_kind layout.now.schema kind) ≤ length bytes.now },
     ghost lies: { ∥ ((ds : Parts) × (count ds ≡ len) × LiesItems layout.now bytes.now
         (stored_kind layout.now.schema kind) at ds) ∥₁ },
+    ghost known: { IsTrue whole → (ds : Parts) → (count ds ≡ len) × LiesItems layout.now bytes.now
+        (stored_kind layout.now.schema kind) at ds → parts_whole ds ≡ true },
 }
 
 impl<'a> Items<'a> {
     ghost use Rattle.fb_read.specs.Weights.{ShowsEntry, weight_of, items_weight};
     ghost use Rattle.fb_read.specs.Shows.{item_at, ShowsItems, ShowsStruct, ShowsTable};
+    ghost use Rattle.fb_read.specs.TypedItems.{ShowsNumbers, ShowsTexts};
 
     /// The layout.
     pub fn layout(self) -> &'a Layout
@@ -51,7 +58,7 @@ impl<'a> Items<'a> {
         requires { i < self.len }
         ensures { result ≡ item_at self.entry i }
     {
-        self.at + i as usize * self.layout.size_of(self.kind) as usize
+        self.at + i as usize * size_in(self.layout, self.kind) as usize
     }
 
     /// The number that an element is.
@@ -61,6 +68,33 @@ impl<'a> Items<'a> {
     {
         let base = base_of(self.layout, self.kind)?;
         Some(number_at(self.bytes, self.position(i), base))
+    }
+
+    /// The elements, where they are numbers.
+    pub fn numbers(self) -> Option<NumberItems<'a>>
+        ensures { (ds : Parts) → ShowsItems self.entry ds → ShowsNumbers result ds }
+    {
+        let base = base_of(self.layout, self.kind)?;
+        Some(NumberItems {
+            bytes: self.bytes,
+            base,
+            at: self.at,
+            len: self.len,
+        })
+    }
+
+    /// The elements, where they are strings.
+    pub fn texts(self) -> Option<TextItems<'a>>
+        ensures { (ds : Parts) → ShowsItems self.entry ds → ShowsTexts result ds }
+    {
+        if !is_text(self.kind) {
+            return None;
+        }
+        Some(TextItems {
+            bytes: self.bytes,
+            at: self.at,
+            len: self.len,
+        })
     }
 
     /// The string that an element is, borrowed from the buffer.
@@ -96,12 +130,15 @@ impl<'a> Items<'a> {
         ensures layout { IfSome result (λ view. view.layout.now ≡ self.entry.layout.now) }
     {
         let table = table_of(self.kind)?;
-        let at = self.position(i);
+        let place = self.position(i);
+        let at = place + u32_at(self.bytes, place) as usize;
         Some(View {
             layout: self.layout,
             bytes: self.bytes,
             table,
-            at: at + u32_at(self.bytes, at) as usize,
+            at,
+            vtable_at: vtable_in(self.layout, self.bytes, table, at),
+            whole: self.whole,
         })
     }
 
@@ -125,12 +162,17 @@ impl<'a> Items<'a> {
                 structure,
                 at,
             }),
-            Kind::Table(table) => Entry::Table(View {
-                layout,
-                bytes,
-                table,
-                at: at + u32_at(bytes, at) as usize,
-            }),
+            Kind::Table(table) => {
+                let target = at + u32_at(bytes, at) as usize;
+                Entry::Table(View {
+                    layout,
+                    bytes,
+                    table,
+                    at: target,
+                    vtable_at: vtable_in(layout, bytes, table, target),
+                    whole: self.whole,
+                })
+            }
             Kind::Union(_) | Kind::Code(_) => Entry::Absent,
         }
     }

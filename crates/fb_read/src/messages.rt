@@ -1,4 +1,4 @@
-//! Size-prefixed buffers, one behind the other.
+//! Size-prefixed buffers, one after the other.
 ghost use Rattle.std.specs.Prelude.{◌≡◌, ◌++◌, length, Some, IfOk, IfErr, MatchOption};
 ghost use Rattle.fb_value.specs.Messages.{IsMessage, whole_rules};
 ghost use Rattle.fb_value.specs.Rules.{first_failing};
@@ -6,7 +6,7 @@ ghost use Rattle.fb_value.specs.Rules.{first_failing};
 use crate::numbers::u32_at;
 use fb_value::ReadFault;
 
-/// The first message of a stream of size-prefixed buffers, its count included, and what is behind it.
+/// The first message of a stream of size-prefixed buffers, its size prefix included, and what follows it.
 ///
 /// None where the stream has ended. `Short` where fewer than four bytes are left, and `OutOfBounds` at 0 where the
 /// count is more than what follows it: then the stream is cut, or more of it is to be read. What the message holds

@@ -1,7 +1,7 @@
 //! Parts of a buffer that references lead to.
 use fb_schema::{Kind, TypeId};
 
-/// What the part behind a reference is.
+/// What the part of a reference is.
 #[derive(Clone, Copy, PartialEq, Eq, Drop)]
 pub enum Part {
     /// A string.

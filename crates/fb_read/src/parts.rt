@@ -69,7 +69,7 @@ impl<'a> EnteredTable<'a> {
         self.place.vtable_at
     }
 
-    /// The vtable's number for a slot: how far behind the table's begin its field is, 0 where it is absent.
+    /// The vtable's number for a slot: how far after the table's start its field is, 0 where it is absent.
     pub fn offset_of(self, slot: u16) -> usize
         ensures number { result ≡ slot_number self.entry.bytes.now self.entry.place.at slot }
         ensures small { result < 2 ^ 16 }

@@ -13,7 +13,7 @@ use crate::buffer::Buffer;
 use crate::entries::Entries;
 use crate::hearer::Nobody;
 use crate::numbers::u32_at;
-use crate::view::View;
+use crate::view::{View, vtable_in};
 use fb_layout::Layout;
 use fb_value::{Limits, ReadFault, front_of};
 use ticks::visit_buffer;
@@ -70,7 +70,7 @@ pub fn verify_framed<'a>(
 {
     let buffer = Buffer::checked(layout, bytes, limits, raw, prefixed)?;
     let root = layout.schema().root();
-    let (_nobody, visited) = visit_buffer(&buffer, Nobody, prefixed, entries);
+    let (_nobody, visited, whole) = visit_buffer(&buffer, Nobody, prefixed, entries);
     visited?;
     let front = front_of(prefixed);
     let at = front + u32_at(bytes, front) as usize;
@@ -79,5 +79,7 @@ pub fn verify_framed<'a>(
         bytes,
         table: root,
         at,
+        vtable_at: vtable_in(layout, bytes, root, at),
+        whole,
     })
 }

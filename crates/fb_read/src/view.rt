@@ -1,6 +1,8 @@
 //! Tables that lie in bytes, and what their slots have.
-ghost use Rattle.std.specs.Prelude.{◌≡◌, ℕ, ◌+◌, ◌<◌, ◌≤◌, ◌^◌, length, option_copied, slice_get, IfSome, Some};
+ghost use Rattle.std.specs.Prelude.{◌≡◌, ℕ, ◌+◌, ◌<◌, ◌≤◌, ◌^◌, length, option_copied, slice_get, IfSome, IsTrue, Some};
+ghost use Rattle.std.specs.Prelude.{true};
 ghost use Rattle.fb_layout.specs.Laid.{Slot, slots_of};
+ghost use Rattle.fb_value.specs.Counts.{is_whole};
 ghost use Rattle.fb_value.specs.Datum.{Datum};
 ghost use Rattle.fb_value.specs.Num.{num};
 ghost use Rattle.fb_value.specs.Places.{table_part, part_place, vtable};
@@ -25,8 +27,34 @@ pub struct View<'a> {
     pub bytes: &'a [u8],
     pub table: TypeId,
     pub at: usize,
+    /// The place of its vtable, which is found once for all slots.
+    pub(crate) vtable_at: u32,
+    /// Set where it is known that each union's code in the table is known to the schema.
+    pub(crate) whole: bool,
     ghost short: { length bytes.now < 2 ^ 31 },
+    ghost vtable: { vtable_at ≡ vtable bytes.now at },
+    ghost vtable_whole: { vtable_at + num bytes.now vtable_at 2 ≤ length bytes.now },
+    ghost vtable_within: { vtable_at + 2 ≤ length bytes.now },
     ghost lies: { ∥ ((d : Datum) × Lies layout.now bytes.now (part_place (table_part table.0)) at d) ∥₁ },
+    ghost known: { IsTrue whole → (d : Datum) → Lies layout.now bytes.now (part_place (table_part table.0)) at d
+        → is_whole d ≡ true },
+}
+
+/// The place of the vtable of the table at a position.
+#[inline]
+pub(crate) fn vtable_in(layout: &Layout, bytes: &[u8], table: TypeId, at: usize) -> u32
+    requires short { length bytes.now < 2 ^ 31 }
+    requires lies { ∥ ((d : Datum) × Lies layout.now bytes.now (part_place (table_part table.0)) at d) ∥₁ }
+    ensures vtable { result ≡ vtable bytes.now at }
+    ensures whole { result + num bytes.now result 2 ≤ length bytes.now }
+    ensures within { result + 2 ≤ length bytes.now }
+{
+    let _ = layout; // the contract names both, the code needs neither
+    let _ = table;
+    match vtable_of(bytes, at) {
+        Some(place) => place as u32,
+        None => 0,
+    }
 }
 
 impl<'a> View<'a> {
@@ -38,6 +66,14 @@ impl<'a> View<'a> {
         ensures { result.now ≡ self.entry.layout.now }
     {
         self.layout
+    }
+
+    /// Whether it is known that the schema declares each union's code in the table. Where this isn't known, a search
+    /// decides it.
+    pub fn is_known_whole(self) -> bool
+        ensures { IsTrue result → (d : Datum) → Shows self.entry d → is_whole d ≡ true }
+    {
+        self.whole
     }
 
     /// The table's type.
@@ -53,10 +89,7 @@ impl<'a> View<'a> {
         ensures within { result + 2 ≤ length self.entry.bytes.now }
         ensures low { self.entry.at < 2 ^ 32 }
     {
-        match vtable_of(self.bytes, self.at) {
-            Some(place) => place,
-            None => 0,
-        }
+        self.vtable_at as usize
     }
 
     pub(crate) fn stored(self, slot: u16) -> Stored
@@ -108,12 +141,15 @@ impl<'a> View<'a> {
         ensures shows { (d : Datum) → Shows self.entry d → ShowsTable result (entry_of d slot) }
         ensures layout { IfSome result (λ view. view.layout.now ≡ self.entry.layout.now) }
     {
-        let (table, at) = self.stored(slot).table()?;
+        let (table, place) = self.stored(slot).table()?;
+        let at = place + u32_at(self.bytes, place) as usize;
         Some(View {
             layout: self.layout,
             bytes: self.bytes,
             table,
-            at: at + u32_at(self.bytes, at) as usize,
+            at,
+            vtable_at: vtable_in(self.layout, self.bytes, table, at),
+            whole: self.whole,
         })
     }
 
@@ -122,12 +158,15 @@ impl<'a> View<'a> {
         ensures shows { (d : Datum) → Shows self.entry d → ShowsMember result (entry_of d slot) }
         ensures layout { IfSome result (λ member. member.1.layout.now ≡ self.entry.layout.now) }
     {
-        let (code, table, at) = self.stored(slot).member()?;
+        let (code, table, place) = self.stored(slot).member()?;
+        let at = place + u32_at(self.bytes, place) as usize;
         let view = View {
             layout: self.layout,
             bytes: self.bytes,
             table,
-            at: at + u32_at(self.bytes, at) as usize,
+            at,
+            vtable_at: vtable_in(self.layout, self.bytes, table, at),
+            whole: self.whole,
         };
         Some((code, view))
     }
@@ -159,6 +198,7 @@ impl<'a> View<'a> {
             kind,
             at: target + 4,
             len: u32_at(self.bytes, target),
+            whole: self.whole,
         })
     }
 
@@ -182,14 +222,19 @@ impl<'a> View<'a> {
                 structure,
                 at,
             }),
-            Stored::Table(table, at) => Entry::Table(View {
-                layout,
-                bytes,
-                table,
-                at: at + u32_at(bytes, at) as usize,
-            }),
-            Stored::Member(code, table, at) => {
-                let at = at + u32_at(bytes, at) as usize;
+            Stored::Table(table, place) => {
+                let at = place + u32_at(bytes, place) as usize;
+                Entry::Table(View {
+                    layout,
+                    bytes,
+                    table,
+                    at,
+                    vtable_at: vtable_in(layout, bytes, table, at),
+                    whole: self.whole,
+                })
+            }
+            Stored::Member(code, table, place) => {
+                let at = place + u32_at(bytes, place) as usize;
                 Entry::Member(
                     code,
                     View {
@@ -197,6 +242,8 @@ impl<'a> View<'a> {
                         bytes,
                         table,
                         at,
+                        vtable_at: vtable_in(layout, bytes, table, at),
+                        whole: self.whole,
                     },
                 )
             }
@@ -209,12 +256,13 @@ impl<'a> View<'a> {
                     kind,
                     at: target + 4,
                     len,
+                    whole: self.whole,
                 })
             }
         }
     }
 
-    /// How many of the table's slots its vtable has numbers for. Those behind them have nothing but
+    /// How many of the table's slots its vtable has numbers for. Those after them have nothing but
     /// their defaults.
     pub fn stored_slots(self) -> u16
         ensures few { result ≤ length (slots_of self.entry.layout.now self.entry.table.0) }

@@ -8,6 +8,7 @@ ghost use Rattle.fb_value.specs.Nth.{slot_place};
 ghost use Rattle.fb_read.specs.Visits.{Visits, slot_seen, slots_seen};
 ghost use Rattle.fb_read.specs.Walks.{place, visit_in, visit_entry_in, HasVtable, IsWithin};
 ghost use Rattle.fb_read.specs.Ends.{EndsAt, parts_in_entry};
+ghost use Rattle.fb_read.specs.Whole.{WholeEntry};
 
 use crate::buffer::Buffer;
 use crate::hearer::Hearer;
@@ -44,7 +45,7 @@ pub fn visit_text<H: Hearer>(
     Ok(())
 }
 
-/// Visits the text behind a reference.
+/// Visits the text of a reference.
 #[inline(always)]
 pub fn visit_text_behind<H: Hearer>(
     buffer: &Buffer,
@@ -127,6 +128,8 @@ pub fn is_settled(buffer: &Buffer, field: &FieldInfo, table: TableAt, slot: usiz
         (slot_seen buffer.now.layout.now field.now)) tables spent ≡ Ok spent }
     ensures parts { IsTrue result → (fs : List Slot) → parts_in_entry buffer.now (slot_place buffer.now.layout.now
         buffer.now.bytes.now table.at slot fs (slot_seen buffer.now.layout.now field.now)) ≡ 0 }
+    ensures whole { IsTrue result → (fs : List Slot) → WholeEntry buffer.now (slot_place buffer.now.layout.now
+        buffer.now.bytes.now table.at slot fs (slot_seen buffer.now.layout.now field.now)) }
 {
     let offset = held_slot(buffer.bytes, table.at, table.vtable_at, slot);
     if offset == 0 {

@@ -25,7 +25,7 @@ use crate::walk::{NumberedSlot, TableAt, Walk, leave, pass_over, tell};
 use fb_schema::{FieldInfo, Kind, Shape, TypeId};
 use fb_value::ReadFault;
 
-/// Visits the table behind a reference.
+/// Visits the table of a reference.
 #[inline(always)]
 #[cycle(visit)]
 pub fn visit_table_behind<H: Hearer>(
@@ -180,7 +180,10 @@ fn visit_union<H: Hearer>(
 {
     match buffer.layout.schema().member_by_code(union, code) {
         Some(table) => visit_table_behind(buffer, walk, table, at, tables),
-        None => Ok(()),
+        None => {
+            walk.whole = false;
+            Ok(())
+        }
     }
 }
 

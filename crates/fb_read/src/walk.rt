@@ -13,10 +13,12 @@ use crate::visited::Visited;
 use fb_schema::FieldInfo;
 use fb_value::ReadFault;
 
-/// What rises along a walk, the cells spent so far and the parts entered, and its hearer.
+/// What a walk notes, and its hearer: the cells spent so far, the parts entered, and whether it was whole so far.
 pub struct Walk<H> {
     pub spent: u64,
     pub ticks: Ticks,
+    /// Whether each union that it has met is of a code that its schema knows. What it has passed over it doesn't know.
+    pub whole: bool,
     pub hearer: H,
 }
 
@@ -25,6 +27,7 @@ pub struct Walk<H> {
 pub fn tell<H: Hearer>(walk: &mut Walk<H>, step: Step, visited: &Result<(), ReadFault>)
     ensures spent { walk.new.spent ≡ walk.old.spent }
     ensures ticks { walk.new.ticks ≡ walk.old.ticks }
+    ensures whole { walk.new.whole ≡ walk.old.whole }
     ensures told { MatchResult visited.now (λ _. walk.new.hearer ≡ walk.old.hearer)
         (λ _. (first : H) (steps : List Step) → H.told first steps walk.old.hearer
         → H.told first (step ∷ steps) walk.new.hearer) }
@@ -79,6 +82,7 @@ pub fn pass_over<H: Hearer>(
     };
     walk.spent += visited.cells;
     walk.ticks.count_again(&visited.parts);
+    walk.whole = false;
     true
 }
 
@@ -96,6 +100,7 @@ pub fn leave<H: Hearer>(
         walk.old) }
     ensures spent { walk.new.spent ≡ walk.old.spent }
     ensures ticks { walk.new.ticks ≡ walk.old.ticks }
+    ensures whole { walk.new.whole ≡ walk.old.whole }
     ensures told { MatchResult visited.now (λ _. walk.new.hearer ≡ walk.old.hearer)
         (λ _. (first : H) (steps : List Step) → H.told first steps walk.old.hearer
         → H.told first (Step.Reference ∷ steps) walk.new.hearer) }

@@ -9,6 +9,7 @@ use Rattle.fb_value.specs.Room.{entries_room, room, room_of, table_room}
 use Rattle.fb_value.specs.UpTo.{at_most_usize}
 use Rattle.fb_value.specs.View.{entries_in, entries_view, view}
 use Rattle.fb_value.specs.declared.values.Value.{Value, Fields}
+use Rattle.fb_value.specs.Bounds.{most_bytes}
 use Rattle.fb_value.proofs.types.EachVariantHasItsView.{view-Fields}
 use Rattle.fb_tape.specs.Tapes.{Taped, Waits, MeansRoot}
 use Rattle.fb_build.specs.Fields.{entries_seen}
@@ -27,7 +28,7 @@ pub record IsNotedRoot (L : LaidSchema) (value : Value) (es : Vec (Option Value)
 
 pub root_noted : (L : LaidSchema) (value : Value) (table : TypeId) (es : Vec (Option Value) Global) (tape : Taped)
     → value ≡ Fields table es → Fits L (one_of (table_kind L.schema.root)) (view value) → tape.layout ≡ L
-    → room_of L (view value) ≤ 2147483647
+    → room_of L (view value) ≤ most_bytes
     → Waits tape (record { target = table_part table.0; value = a_table table.0 (entries_view es.items) } ∷ [])
     → at_most_usize tape.room
     ≡ at_most_usize (table_room L table.0 + entries_room L (slots_of L table.0) (entries_view es.items))

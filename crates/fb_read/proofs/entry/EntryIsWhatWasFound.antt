@@ -5,7 +5,7 @@ use Rattle.std.proofs.lemmas.Bool.{leb-true}
 use Rattle.std.proofs.lemmas.Bool.Decides.{nat_tests}
 use Rattle.fb_schema.specs.Seen.{field_seen}
 use Rattle.fb_schema.specs.declared.types.FieldInfo.{FieldInfo}
-use Rattle.fb_schema.specs.Schema.{DeclaredSchema, body_at, slots_in}
+use Rattle.fb_schema.specs.Schema.{DeclaredSchema}
 use Rattle.fb_layout.specs.Laid.{LaidSchema, Slot, slot_of, slots_of, StoredKind, scalar_kind, struct_kind}
 use Rattle.fb_value.specs.Datum.{Datum, a_number, a_text, a_vector, a_struct, a_table, a_member, Parts}
 use Rattle.fb_value.specs.Num.{Bytes}
@@ -82,10 +82,6 @@ entry_unset L b t p _ k s lies there none = absurd lies
 slots_mapped : (S : DeclaredSchema) (xs : List FieldInfo) → length (map (slot_of S) (map field_seen xs)) ≡ length xs
 slots_mapped S [] = refl
 slots_mapped S (x ∷ xs) = rw (slots_mapped S xs) refl
-
-pub slots_long : (L : LaidSchema) (t : ℕ) (xs : List FieldInfo) → map field_seen xs ≡ slots_in (body_at L.schema t)
-    → length (slots_of L t) ≡ length xs
-slots_long L t xs seen = rw (← seen) (slots_mapped L.schema xs)
 
 -- a slot behind those that the vtable has numbers for
 pub entry_behind : (L : LaidSchema) (b : Bytes) (t p n m k : ℕ) (d : Datum) (s : Slot)

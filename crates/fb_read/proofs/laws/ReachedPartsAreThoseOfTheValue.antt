@@ -16,6 +16,7 @@ use Rattle.fb_value.specs.Faults.{sum_over}
 use Rattle.fb_value.proofs.reached.CellsAreThoseReached.{unknown_keeps}
 use Rattle.fb_read.specs.Entered.{own_parts, parts_from, PartsOfValue}
 use Rattle.fb_read.proofs.visit_tables.PartsAddUp.{parts_kept, member_part_parts}
+use Rattle.fb_value.proofs.reached.CellsAreThoseReached.{element_size}
 
 mutual
   -- Numbers and structs have none.
@@ -32,13 +33,6 @@ mutual
   fields_entered L b (k ∷ ks) (o ∷ os) p (more_parts d ds) lies =
       omega (arith, inline_entered L b k (p + o) d lies.0, fields_entered L b ks os p ds lies.1)
   fields_entered L b _ _ p _ lies = absurd lies
-
--- references take four bytes
-target_size : (L : LaidSchema) (kind : StoredKind) (X : Target) → target_of kind ≡ Some X → size_of L kind ≡ 4
-target_size L text_kind X e = refl
-target_size L (table_kind t) X e = refl
-target_size L (scalar_kind base) X e = cc
-target_size L _ X e = cc
 
 kept_at : (L : LaidSchema) (b : Bytes) (s : Sort) (p : ℕ) → Keeps L b s p
     → parts_from L b (record { sort = s; at = p }) ≡ own_parts s + sum_over (parts_from L b) (named L b s p)
@@ -101,7 +95,7 @@ element_parts : (L : LaidSchema) (b : Bytes) (kind : StoredKind) (o : Option Tar
 unfolding references named_elements
 element_parts L b kind None p n d is known lies = omega (arith, inline_entered L b kind p d lies)
 element_parts L b kind (Some X) p n d is known lies =
-    rw (target_size L kind X is) (omega (arith, behind_parts L b (ref_place X) p d known lies))
+    rw (element_size L kind X is) (omega (arith, behind_parts L b (ref_place X) p d known lies))
 
 -- No elements add no parts.
 no_references : (L : LaidSchema) (b : Bytes) (o : Option Target) (p : ℕ) → 0 ≡ references L b o p 0

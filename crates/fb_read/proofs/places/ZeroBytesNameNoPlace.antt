@@ -3,7 +3,7 @@ use Rattle.std.proofs.Common.{◌≡◌, ◌<◌, ◌≤◌, ℕ, zero, suc, ◌
 use Rattle.std.proofs.Common.{◌∙◌, arith}
 use Rattle.fb_value.specs.Num.{Bytes, num}
 use Rattle.fb_value.specs.Places.{slot_number, vtable}
-use Rattle.fb_read.proofs.numbers.SumIsWhatByteorderReads.{lowest}
+use Rattle.fb_value.proofs.numbers.BytesSumToTheirNumber.{lowest}
 
 none : (b : Bytes) (p : ℕ) → num b p 0 ≡ 0
 unfolding num

@@ -1,14 +1,15 @@
 -- A visit from the root decides whether the buffer holds a value.
 use Rattle.std.proofs.Common.{◌≡◌, ℕ, ◌+◌, ◌<◌, ◌⊎◌, inl, inr, List, [], ◌∷◌, Option, None, Some, Result, Ok, Err}
-use Rattle.std.proofs.Common.{OnOk, IfErr, map, refl, sym, arith}
+use Rattle.std.proofs.Common.{OnOk, IfErr, map, true, refl, sym, arith}
 use Rattle.std.proofs.lemmas.Bool.{cases_order}
 use Rattle.fb_layout.specs.Laid.{LaidSchema}
 use Rattle.fb_layout.specs.WellMade.{IsWellMade}
 use Rattle.fb_value.specs.declared.faults.ReadFault.{ReadFault}
 use Rattle.fb_value.specs.Bounds.{Bounds}
+use Rattle.fb_value.specs.Counts.{is_whole}
 use Rattle.fb_value.specs.Datum.{Datum}
 use Rattle.fb_value.specs.Num.{Bytes, num}
-use Rattle.fb_value.specs.Lies.{Lies}
+use Rattle.fb_value.specs.Lies.{EntryAt, Lies}
 use Rattle.fb_value.specs.Places.{part_place, table_part, Place}
 use Rattle.fb_value.specs.Faults.{fault_from}
 use Rattle.fb_value.proofs.rules.ComputedFaultIsTheLeast.{from_none, from_some}
@@ -110,6 +111,14 @@ module _ (p : ℕ) (front : Option ReadFault) (L : LaidSchema) (most : Bounds) (
   view_lies t at header fine root place =
       let held = held_root header fine in
       (held.0, rw (root, place) held.1.lies.1)
+
+  -- What lies in the root table is whole, where what lies at the root is.
+  pub view_known : (t at : ℕ) → front ≡ None → fault_from L b most (root_at L p) 0 0 ≡ None → t ≡ L.schema.root
+      → at ≡ p + num b p 4 → ((d : Datum)
+      → EntryAt L b (root_at L p).sort (root_at L p).at d (λ s q. Lies L b s q d) → is_whole d ≡ true)
+      → (d : Datum) → Lies L b (part_place (table_part t)) at d → is_whole d ≡ true
+  view_known t at header fine root place whole d lies =
+      whole d ((held_root header fine).1.lies.0, rw (root, place) at lies)
 
 module _ (p : ℕ) (front : Option ReadFault) (L : LaidSchema) (most : Bounds) (b : Bytes) where
   -- no fault behind a front that keeps its rules

@@ -84,7 +84,7 @@ text_behind_sure L b q there = record {
   valid = sure_of _ there (λ found. text_valid L b (q + num b q 4) (text_keeps L b (q + num b q 4) found.0 found.2));
 }
 
-vector_keeps : (L : LaidSchema) (b : Bytes) (kind : StoredKind) (q : ℕ) (d : Datum)
+pub vector_keeps : (L : LaidSchema) (b : Bytes) (kind : StoredKind) (q : ℕ) (d : Datum)
     → Lies L b (part_place (vector_part kind)) q d → Keeps L b (part_place (vector_part kind)) q
 vector_keeps L b kind q (a_vector ds) lies = lies.0
 vector_keeps L b kind q _ lies = absurd lies

@@ -1,6 +1,6 @@
 -- How a walk ends at a place, by how it ends at what the place names.
-use Rattle.std.proofs.Common.{◌≡◌, ℕ, ◌+◌, ◌≤◌, List, [], ◌∷◌, Some, Result, Ok, Err, MatchResult, IfErr, OnOk, ◌∙◌}
-use Rattle.std.proofs.Common.{arith}
+use Rattle.std.proofs.Common.{◌≡◌, ℕ, ◌+◌, ◌≤◌, List, [], ◌∷◌, Some, Result, Ok, Err, MatchResult, IfErr, OnOk, IsTrue, ◌∙◌}
+use Rattle.std.proofs.Common.{sym, arith}
 use Rattle.fb_value.specs.declared.faults.ReadFault.{ReadFault}
 use Rattle.fb_value.specs.Num.{num}
 use Rattle.fb_value.specs.Places.{Target, vector_part, ref_place, part_place, Place, named_elements, target_of}
@@ -17,14 +17,16 @@ use Rattle.fb_read.specs.FaultPaths.{Hears}
 use Rattle.fb_read.specs.Visited.{HasVisited}
 use Rattle.fb_read.specs.Visits.{Visits}
 use Rattle.fb_read.specs.Walks.{place, limits_of, visit_in}
+use Rattle.fb_read.specs.Whole.{WholeAt}
 use Rattle.fb_layout.specs.Laid.{StoredKind}
 use Rattle.fb_read.proofs.visit_tables.VisitsOnePlaceAfterAnother.{visit_fault, visit_over, visit_ref, visit_vector}
 use Rattle.fb_read.proofs.visit_tables.HearsTheWayBack.{rule_heard, limit_heard, ref_heard, vector_heard}
 use Rattle.fb_read.proofs.visit_tables.PartsAddUp.{parts_ref, parts_vector}
+use Rattle.fb_read.proofs.visit_tables.StaysWhole.{behind, vector_at}
 
 -- a walk that has entered a part
 abbrev pub ticked : {H : Type 0} → Walk H → ℕ → Walk H
-ticked walk ticks = record { spent = walk.spent; ticks = ticks; hearer = walk.hearer }
+ticked walk ticks = record { spent = walk.spent; ticks = ticks; whole = walk.whole; hearer = walk.hearer }
 
 -- ---- what each way to end says
 
@@ -51,6 +53,11 @@ module _ {H T : Type 0} (told : H → List Step → H → Type 0) (buffer : Buff
       × ComesFrom told buffer (Some x) tables old.spent old.hearer new.hearer old.ticks new.ticks)
   ends_reached (Ok y) passes = tt
   ends_reached (Err f) ends = (ends.visit, ends.comes)
+
+  pub ends_whole : (r : Result T ReadFault) → EndsAt told buffer x tables old new r
+      → OnOk r (IsTrue new.whole → WholeAt buffer x)
+  ends_whole (Ok y) passes = λ still. (passes.whole still).1
+  ends_whole (Err f) ends = tt
 
   -- where the result is known
   pub ends_passed : (r : Result T ReadFault) (y : T) → r ≡ Ok y → EndsAt told buffer x tables old new r
@@ -110,6 +117,7 @@ passes_behind buffer X p q tables old new rules is passes = record {
   ticks = passes.ticks;
   exact = rw (parts_ref buffer.layout.now buffer.bytes.now X p q rules is) passes.exact;
   silent = passes.silent;
+  whole = λ still. (let passed = passes.whole still in (passed.0, behind buffer X p q is passed.1));
 }
 
 module _ {H T : Type 0} (told : H → List Step → H → Type 0) (silent : (h : H) → told h [] h) (buffer : Buffer) where
@@ -117,10 +125,11 @@ module _ {H T : Type 0} (told : H → List Step → H → Type 0) (silent : (h :
   pub ends_behind : (X : Target) (p q tables : ℕ) (old mid new : Walk H) (r : Result T ReadFault)
       → Keeps buffer.layout.now buffer.bytes.now (ref_place X) p → q ≡ p + num buffer.bytes.now p 4
       → EndsAt told buffer (place (part_place X) q) tables old mid r → new.spent ≡ mid.spent → new.ticks ≡ mid.ticks
+      → new.whole ≡ mid.whole
       → MatchResult r (λ _. new.hearer ≡ mid.hearer)
       (λ _. (first : H) (steps : List Step) → told first steps mid.hearer → told first (Reference ∷ steps) new.hearer)
       → EndsAt told buffer (place (ref_place X) p) tables old new r
-  ends_behind X p q tables old mid new (Ok y) rules is ends spent ticks tells =
+  ends_behind X p q tables old mid new (Ok y) rules is ends spent ticks same tells =
       let passes = passes_behind buffer X p q tables old mid rules is ends in
       record {
         visit = rw spent passes.visit;
@@ -128,8 +137,9 @@ module _ {H T : Type 0} (told : H → List Step → H → Type 0) (silent : (h :
         ticks = rw (spent, ticks) passes.ticks;
         exact = rw ticks passes.exact;
         silent = tells ∙ passes.silent;
+        whole = λ still. passes.whole (sym same ∙ still);
       }
-  ends_behind X p q tables old mid new (Err f) rules is ends spent ticks tells = record {
+  ends_behind X p q tables old mid new (Err f) rules is ends spent ticks same tells = record {
     visit = visit_ref buffer.layout.now buffer.bytes.now (limits_of buffer) X p tables old.spent rules
         ∙ (rw is at ends.visit);
     ticks = rw ticks ends.ticks;
@@ -153,10 +163,10 @@ module _ {H T : Type 0} (told : H → List Step → H → Type 0) (silent : (h :
   pub vector_ends : (kind : StoredKind) (X : Target) (p tables n : ℕ) (old mid new : Walk H) (r : Result T ReadFault)
       → target_of kind ≡ Some X → Keeps buffer.layout.now buffer.bytes.now (part_place (vector_part kind)) p
       → n ≡ num buffer.bytes.now p 4 → old.spent + (1 + n) ≤ buffer.most_cells → mid.spent ≡ old.spent + (1 + n)
-      → mid.ticks ≡ old.ticks + 1 → mid.hearer ≡ old.hearer
+      → mid.ticks ≡ old.ticks + 1 → mid.hearer ≡ old.hearer → mid.whole ≡ old.whole
       → EndsAtEach told (λ i. Element i) buffer (named_elements X (p + 4) n) tables mid new r
       → EndsAt told buffer (place (part_place (vector_part kind)) p) tables old new r
-  vector_ends kind X p tables n old mid new (Ok y) X_is rules is small spent ticks same passes =
+  vector_ends kind X p tables n old mid new (Ok y) X_is rules is small spent ticks same so_far passes =
       let L = buffer.layout.now in
       let b = buffer.bytes.now in
       record {
@@ -166,8 +176,14 @@ module _ {H T : Type 0} (told : H → List Step → H → Type 0) (silent : (h :
         ticks = omega (arith, passes.ticks);
         exact = rw (parts_vector L b kind p rules, X_is, ← is) (omega (arith, ticks, passes.exact));
         silent = passes.silent ∙ same;
+        whole = λ still.
+            (let passed = passes.whole still in (
+              sym so_far ∙ passed.0,
+              vector_at buffer kind p (λ Y Y_is.
+                  (let led : X ≡ Y = (let e : Some X ≡ Some Y = sym X_is ∙ Y_is in cc) in rw (← led, ← is) passed.1)),
+            ));
       }
-  vector_ends kind X p tables n old mid new (Err f) X_is rules is small spent ticks same ends =
+  vector_ends kind X p tables n old mid new (Err f) X_is rules is small spent ticks same so_far ends =
       let L = buffer.layout.now in
       let b = buffer.bytes.now in
       record {

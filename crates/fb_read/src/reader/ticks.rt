@@ -3,13 +3,14 @@
 //! What a walk enters is counted by the counter that it borrows. A walk that made a counter of its own
 //! could enter each table twice and count it once. So only `visit_buffer` makes one. It can't be dropped: what it has
 //! counted is added to the caller's part count, once, there.
-ghost use Rattle.std.specs.Prelude.{◌≡◌, ◌+◌, ◌-◌, ◌≤◌, OnOk, IfErr, Some};
+ghost use Rattle.std.specs.Prelude.{◌≡◌, ◌+◌, ◌-◌, ◌≤◌, OnOk, IfErr, IsTrue, Some};
 ghost use Rattle.fb_value.specs.Holds.{root_at, front_of};
 ghost use Rattle.fb_value.specs.Faults.{fault_from};
 ghost use Rattle.fb_read.specs.Entered.{EntersToFault};
 ghost use Rattle.fb_read.specs.FaultPaths.{Hears};
 ghost use Rattle.fb_read.specs.Values.{Finds};
 ghost use Rattle.fb_read.specs.Walks.{limits_of, EntersAt};
+ghost use Rattle.fb_read.specs.Whole.{WholeAt};
 
 use crate::buffer::Buffer;
 use crate::entries::Entries;
@@ -21,13 +22,15 @@ use std::marker::Model;
 
 /// Walks over all that is reached from the root of a buffer, which may be `prefixed`, and returns the hearer.
 /// `entries` rises by one for each table, vector and text that is entered.
+///
+/// The flag is set where the walk has passed over no part and each union's code that it has met is known to the schema.
 #[inline(always)]
 pub fn visit_buffer<H: Hearer>(
     buffer: &Buffer,
     hearer: H,
     prefixed: bool,
     entries: &mut Entries,
-) -> (H, Result<(), ReadFault>)
+) -> (H, Result<(), ReadFault>, bool)
     requires knows { H.knows hearer buffer.now }
     ensures finds { Finds result.1 (fault_from buffer.now.layout.now buffer.now.bytes.now (limits_of buffer.now)
         (root_at buffer.now.layout.now (front_of prefixed)) 0 0) }
@@ -40,10 +43,13 @@ pub fn visit_buffer<H: Hearer>(
     ensures refused { IfErr result.1 (λ f. EntersToFault buffer.now.layout.now buffer.now.bytes.now
         (limits_of buffer.now) (root_at buffer.now.layout.now (front_of prefixed)) f entries.old.count
         entries.new.count) }
+    ensures whole { OnOk result.1 (IsTrue result.2 → WholeAt buffer.now (root_at buffer.now.layout.now
+        (front_of prefixed))) }
 {
     let mut walk = Walk {
         spent: 0,
         ticks: Ticks::new(),
+        whole: true,
         hearer,
     };
     let root = buffer.layout.schema().root();
@@ -51,10 +57,11 @@ pub fn visit_buffer<H: Hearer>(
     let Walk {
         spent: _,
         ticks,
+        whole,
         hearer,
     } = walk;
     ticks.add_to(entries);
-    (hearer, visited)
+    (hearer, visited, whole)
 }
 
 /// How many tables, vectors and texts a walk has entered. It takes no bytes at run time, and can't be dropped.

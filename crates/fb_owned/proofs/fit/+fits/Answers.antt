@@ -5,7 +5,8 @@ use Rattle.fb_layout.specs.Laid.{stored_shape}
 use Rattle.fb_value.specs.View.{parts_view, entries_view}
 use Rattle.fb_value.proofs.types.EachVariantHasItsView.{view-Fixed, view-Fields}
 use Rattle.fb_owned.proofs.rooms.RoomIsThatOfTheParts.{slots_seen}
-use Rattle.fb_value.proofs.types.ValueFitsPartByPart.{kinds_seen, parts_count, entries_count, struct_fits, table_fits}
+use Rattle.fb_layout.specs.Seen.{kinds_seen}
+use Rattle.fb_value.proofs.types.ValueFitsPartByPart.{parts_count, entries_count, struct_fits, table_fits}
 use Rattle.fb_owned.proofs.fit.+fits.Goals as goal
 
 pub parts_fit-returns-then-fields-parts : goal.parts_fit-returns-then-fields-parts

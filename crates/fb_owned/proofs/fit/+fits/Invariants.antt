@@ -3,7 +3,7 @@ use Rattle.fb_layout.specs.Laid.{stored_kind}
 use Rattle.fb_value.specs.View.{parts_view, entries_view}
 use Rattle.fb_value.specs.Fits.{PartsFit, EachFits, EntriesFit}
 use Rattle.fb_owned.proofs.rooms.RoomIsThatOfTheParts.{slots_seen}
-use Rattle.fb_value.proofs.types.ValueFitsPartByPart.{kinds_seen}
+use Rattle.fb_layout.specs.Seen.{kinds_seen}
 use Rattle.fb_owned.proofs.fit.+fits.Given as goal
 
 abbrev pub invariant-each_fits-loop-item : goal.invariant-each_fits-loop-item

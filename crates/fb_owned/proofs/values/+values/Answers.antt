@@ -17,13 +17,7 @@ use Rattle.fb_owned.proofs.values.FrontsGrow.{entry_more, entries_whole, value_m
 use Rattle.fb_owned.proofs.values.+values.Goals.{values_of_fields-in-Some+in_ok-push, values_of_fields-in_default}
 use Rattle.fb_owned.proofs.values.+values.Goals.{values_of_items-in-Some+in_ok-push, values_of_items-in_default}
 use Rattle.fb_owned.proofs.values.+values.Goals as goal
-
--- as many slots as fields
-slots_long : (L : LaidSchema) (t : ℕ) (fs : List FieldInfo) → map field_seen fs ≡ slots_in (body_at L.schema t)
-    → length (slots_of L t) ≡ length fs
-slots_long L t fs seen =
-    length-map (slots_in (body_at L.schema t)) (slot_of L.schema)
-    ∙ (ap (λ gs. length gs) (sym seen) ∙ length-map fs field_seen)
+use Rattle.fb_layout.proofs.slots.SlotsAreAsManyAsFields.{slots_long}
 
 fields_long : (L : LaidSchema) (b : Bytes) (s p : ℕ) (fs : List FieldInfo) (ds : Parts)
     → map field_seen fs ≡ fields_in (body_at L.schema s)

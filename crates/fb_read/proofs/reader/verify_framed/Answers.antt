@@ -6,7 +6,7 @@ use Rattle.fb_value.specs.declared.faults.ReadFault.{ReadFault}
 use Rattle.fb_value.specs.Bounds.{Bounds}
 use Rattle.fb_value.specs.Num.{Bytes}
 use Rattle.fb_value.specs.Holds.{front_of, RefusesBehind}
-use Rattle.fb_read.proofs.reader.RootVisitDecides.{refused_root, held_root, view_lies}
+use Rattle.fb_read.proofs.reader.RootVisitDecides.{refused_root, held_root, view_lies, view_known}
 use Rattle.fb_read.proofs.reader.verify_framed.Goals as goal
 
 none_more : (n : ℕ) → n ≤ n
@@ -86,6 +86,18 @@ returns-clause-held c =
     held_root (front_of c.args.prefixed) _ c.args.layout.now c.args.limits c.args.bytes.now
     c.schema.ensures.made c.in_ok-buffer.ensures.front fine
 
+pub vtable_in-requires-clause-lies : goal.vtable_in-requires-clause-lies
+vtable_in-requires-clause-lies c =
+    let same = c.in_ok-buffer.ensures.buffer in
+    let fine = rw (same.layout, same.bytes, same.depth, same.cells) at
+    (rw c.in_ok-visited.was at c.visit_buffer-visited.ensures.finds) in
+    let root = rw c.schema.ensures.schema at c.root-root.ensures in
+    let from = c.front_of-front.ensures.exact in
+    let there = rw from at c.u32_at.ensures in
+    merely (view_lies (front_of c.args.prefixed) _ c.args.layout.now c.args.limits c.args.bytes.now
+    c.schema.ensures.made
+    _ _ c.in_ok-buffer.ensures.front fine root (omega (arith, from, there)))
+
 pub invariant_of-result : goal.invariant_of-result
 invariant_of-result c =
     let same = c.in_ok-buffer.ensures.buffer in
@@ -94,9 +106,16 @@ invariant_of-result c =
     let root = rw c.schema.ensures.schema at c.root-root.ensures in
     let from = c.front_of-front.ensures.exact in
     let there = rw from at c.u32_at.ensures in
+    let whole = rw (same.layout, same.bytes) at (rw c.in_ok-visited.was at c.visit_buffer-visited.ensures.whole) in
     record {
       short = rw same.bytes at c.in_ok-buffer.buffer.short;
       lies = merely (view_lies (front_of c.args.prefixed) _ c.args.layout.now c.args.limits c.args.bytes.now
           c.schema.ensures.made
           _ _ c.in_ok-buffer.ensures.front fine root (omega (arith, from, there)));
+      vtable = c.vtable_in.ensures.vtable;
+      vtable_whole = c.vtable_in.ensures.whole;
+      vtable_within = c.vtable_in.ensures.within;
+      known = λ known. view_known (front_of c.args.prefixed) _ c.args.layout.now c.args.limits c.args.bytes.now
+          c.schema.ensures.made
+          _ _ c.in_ok-buffer.ensures.front fine root (omega (arith, from, there)) (whole known);
     }

@@ -1,4 +1,4 @@
-use Rattle.std.proofs.Common.{◌≡◌, ℕ, ◌-◌, ◌≤◌, ◌%◌, nat_eq, ap, arith}
+use Rattle.std.proofs.Common.{◌≡◌, ℕ, ◌-◌, ◌%◌, nat_eq, ap, arith}
 use Rattle.std.specs.Int.Bits.{bit_and}
 use Rattle.std.proofs.lemmas.Nat.{and_mask}
 use Rattle.fb_schema.specs.declared.kinds.Base.{Base}
@@ -6,6 +6,7 @@ use Rattle.fb_schema.specs.declared.kinds.Base.TheVariants.{I8, U8, I16, U16, I3
 use Rattle.fb_schema.specs.declared.kinds.Base.TheVariants.{Bool as Boolean}
 use Rattle.fb_schema.specs.Alignments.{base_size}
 use Rattle.fb_read.proofs.rules.is_aligned.Goals as goal
+use Rattle.fb_layout.proofs.sizes.EachFieldTakesAByte.{base_takes}
 
 -- The bits below a basic type's size are the rest of a division by it.
 masked : (at : ℕ) (base : Base) → bit_and at (base_size base - 1) ≡ at % base_size base
@@ -19,19 +20,8 @@ masked at U32 = and_mask at 2
 masked at I64 = and_mask at 3
 masked at U64 = and_mask at 3
 
-positive : (base : Base) → 1 ≤ base_size base
-positive Boolean = omega arith
-positive I8 = omega arith
-positive U8 = omega arith
-positive I16 = omega arith
-positive U16 = omega arith
-positive I32 = omega arith
-positive U32 = omega arith
-positive I64 = omega arith
-positive U64 = omega arith
-
 pub overflow_sub-result : goal.overflow_sub-result
-overflow_sub-result c = let size = positive c.args.base in omega (arith, c.size.ensures, c.from-size.ensures)
+overflow_sub-result c = let size = base_takes c.args.base in omega (arith, c.size.ensures, c.from-size.ensures)
 
 pub returns : goal.returns
 returns c =

@@ -9,6 +9,7 @@ use Rattle.fb_read.specs.Kinds.{base_wanted}
 use Rattle.fb_read.specs.Visits.{slot_seen}
 use Rattle.fb_read.specs.Walks.{place}
 use Rattle.fb_read.proofs.visit_tables.PartsAddUp.{parts_none}
+use Rattle.fb_read.proofs.visit_tables.StaysWhole.{inline_at}
 use Rattle.fb_read.proofs.visit_tables.VisitsOnePlaceAfterAnother.{visit_inline}
 use Rattle.fb_read.proofs.visit_leaves.is_settled.Goals as goal
 
@@ -57,3 +58,17 @@ returns-clause-parts c fine fs =
     }) = search rules in
     rw named (parts_none L b (place (inline_place (scalar_kind c.in-Some.base)) (c.args.table.at
     + c.held_slot-offset.result)) refl refl)
+
+pub returns-clause-whole : goal.returns-clause-whole
+returns-clause-whole c fine fs =
+    let L = c.args.buffer.now.layout.now in
+    let b = c.args.buffer.now.bytes.now in
+    let number : stored_kind L.schema c.in-One.kind ≡ scalar_kind c.in-Some.base =
+    number_kind _ _ (sym c.in-Some.ensures) in
+    let named : slot_place L b c.args.table.at c.args.slot fs (slot_seen L c.args.field.now)
+    ≡ Some (record {
+      sort = inline_place (scalar_kind c.in-Some.base);
+      at =
+          c.args.table.at + c.held_slot-offset.result;
+    }) = search rules in
+    rw named (inline_at c.args.buffer.now (scalar_kind c.in-Some.base) (c.args.table.at + c.held_slot-offset.result))

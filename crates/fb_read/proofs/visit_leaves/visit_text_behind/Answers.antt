@@ -40,4 +40,4 @@ returns g c =
     ends_behind g.H.Hearer.told g.met.H.Hearer.silent c.args.buffer.now
     text_part c.args.at c.in_ok-target.target c.args.tables c.args.walk.now c.visit_text-visited.new.walk
     c.leave.new.walk c.visit_text-visited.result rules.0
-    rules.1 ends c.leave.ensures.spent c.leave.ensures.ticks c.leave.ensures.told
+    rules.1 ends c.leave.ensures.spent c.leave.ensures.ticks c.leave.ensures.whole c.leave.ensures.told

@@ -2,7 +2,8 @@ use Rattle.std.proofs.Common.{◌≡◌, ◌+◌, ◌*◌, ◌-◌, ◌≤◌, O
 use Rattle.fb_value.specs.Places.{named_slots, named_elements}
 use Rattle.fb_read.specs.Values.{led_to}
 use Rattle.fb_read.specs.Visits.{slots_seen}
-use Rattle.fb_read.specs.Ends.{parts_in_each}
+use Rattle.fb_read.specs.Ends.{StaysWhole, parts_in_each, slots_at}
+use Rattle.fb_read.specs.Whole.{WholeFront}
 use Rattle.fb_read.specs.Walks.{visit_each_in}
 use Rattle.fb_read.proofs.visit_tables.+visit.Given as goal
 
@@ -38,6 +39,7 @@ abbrev pub invariant-visit_slots-loop-slot : goal.invariant-visit_slots-loop-slo
 invariant-visit_slots-loop-slot g l = record {
   before : visit_each_in l.buffer (take l.slot (named_slots l.buffer.layout.now l.buffer.bytes.now l.table.at 0
       (slots_seen l.buffer.layout.now l.slots))) l.tables l.fn.walk.spent ≡ Ok l.walk.spent;
+  whole : StaysWhole l.fn.walk l.walk (WholeFront l.buffer (slots_at l.buffer l.table.at l.slots) l.slot);
   silent : l.walk.hearer ≡ l.fn.walk.hearer;
   few : l.walk.spent ≤ l.buffer.most_cells;
   ticked : l.walk.ticks + l.fn.walk.spent ≤ l.fn.walk.ticks + l.walk.spent;
@@ -49,6 +51,7 @@ abbrev pub invariant-visit_elements-loop-i : goal.invariant-visit_elements-loop-
 invariant-visit_elements-loop-i g l = record {
   before : visit_each_in l.buffer (take l.i (named_elements (led_to l.reference) l.at l.count)) l.tables
       l.fn.walk.spent ≡ Ok l.walk.spent;
+  whole : StaysWhole l.fn.walk l.walk (WholeFront l.buffer (named_elements (led_to l.reference) l.at l.count) l.i);
   silent : l.walk.hearer ≡ l.fn.walk.hearer;
   few : l.walk.spent ≤ l.buffer.most_cells;
   ticked : l.walk.ticks + l.fn.walk.spent ≤ l.fn.walk.ticks + l.walk.spent;

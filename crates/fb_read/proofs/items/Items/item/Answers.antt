@@ -9,6 +9,7 @@ use Rattle.fb_read.specs.Stored.{text_behind}
 use Rattle.fb_read.proofs.placed.PartsLieInTheirPlaces.{item_within, item_number, item_text_sure, item_text}
 use Rattle.fb_read.proofs.placed.PartsLieInTheirPlaces.{item_table_lies, item_table, item_struct, base_fits}
 use Rattle.fb_read.proofs.entry.EntryIsWhatWasFound.{number_told, text_told, table_told, struct_told}
+use Rattle.fb_read.proofs.view.WholeViewsHaveWholeChildren.{item_whole}
 use Rattle.fb_read.proofs.items.Items.item.Goals as goal
 
 pub number_at-requires : goal.number_at-requires
@@ -76,6 +77,14 @@ returns-in-Struct-clause-shows c ds lies =
     (ap (λ (k : Kind). structure_wanted (stored_kind L.schema k)) c.in-Struct.is) in
     rw c.position-at.ensures (refl, found.0, struct_told _ found.0 found.1, found.2)
 
+pub vtable_in-requires-clause-lies : goal.vtable_in-requires-clause-lies
+vtable_in-requires-clause-lies c =
+    let L = c.args.self.layout.now in
+    rw (c.u32_at.ensures, c.position-at.ensures)
+    (item_table_lies L c.args.self.bytes.now (stored_kind L.schema c.args.self.kind) c.args.self.at
+    c.args.self.len c.args.i c.requires c.args.self.lies c.in-Table.table.0
+    (ap (λ (k : Kind). table_wanted (stored_kind L.schema k)) c.in-Table.is))
+
 pub invariant_of-result-in-Table : goal.invariant_of-result-in-Table
 invariant_of-result-in-Table c =
     let L = c.args.self.layout.now in
@@ -84,6 +93,13 @@ invariant_of-result-in-Table c =
       lies = rw (c.u32_at.ensures, c.position-at.ensures)
           (item_table_lies L c.args.self.bytes.now (stored_kind L.schema c.args.self.kind) c.args.self.at
           c.args.self.len c.args.i c.requires c.args.self.lies c.in-Table.table.0
+          (ap (λ (k : Kind). table_wanted (stored_kind L.schema k)) c.in-Table.is));
+      vtable = c.vtable_in.ensures.vtable;
+      vtable_whole = c.vtable_in.ensures.whole;
+      vtable_within = c.vtable_in.ensures.within;
+      known = rw (c.u32_at.ensures, c.position-at.ensures) (λ known. item_whole L c.args.self.bytes.now
+          (stored_kind L.schema c.args.self.kind) c.args.self.at c.args.self.len c.args.i c.requires c.args.self.lies
+          (c.args.self.known known) c.in-Table.table.0
           (ap (λ (k : Kind). table_wanted (stored_kind L.schema k)) c.in-Table.is));
     }
 

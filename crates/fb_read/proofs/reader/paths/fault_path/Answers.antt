@@ -19,7 +19,7 @@ returns-in-Ok-visited-clause-path c =
     let same = c.in-Ok.ensures.buffer in
     let fine = rw (same.layout, same.bytes, same.depth, same.cells) at
     (rw c.in-Ok-visited.is at c.visit_buffer-trail.ensures.finds) in
-    inr (no_fault (front_of c.args.prefixed) _ c.args.layout.now c.args.limits c.args.bytes.now
+    inr (no_fault (front_of c.args.framing.prefixed) _ c.args.layout.now c.args.limits c.args.bytes.now
     c.in-Ok.ensures.front fine)
 
 pub returns-in_ok-into_steps-in-Err-clause-path : goal.returns-in_ok-into_steps-in-Err-clause-path
@@ -28,7 +28,7 @@ returns-in_ok-into_steps-in-Err-clause-path c =
     let found = c.in_ok-into_steps-in-Err.ensures in
     let hears = rw c.in-Err.is at c.visit_buffer-trail.ensures.hears in
     let told = leads_in_bytes _ c.args.layout.now c.args.bytes.now c.args.limits c.in-Ok.buffer
-    (front_of c.args.prefixed) _ _ same hears in
+    (front_of c.args.framing.prefixed) _ _ same hears in
     let heard = told.2 found.0 in
     let steps = told_steps _ _ c.in_ok-into_steps-in-Err.field-0.items told.0 c.new.ensures heard.1 found.1 in
     (told.1, rw steps (record { header = c.in-Ok.ensures.front; least = told.3.0; each = told.3.1 }))
@@ -39,10 +39,10 @@ returns-in_ok-into_steps-in-Err-clause-each c =
     let found = c.in_ok-into_steps-in-Err.ensures in
     let hears = rw c.in-Err.is at c.visit_buffer-trail.ensures.hears in
     let told = leads_in_bytes _ c.args.layout.now c.args.bytes.now c.args.limits c.in-Ok.buffer
-    (front_of c.args.prefixed) _ _ same hears in
+    (front_of c.args.framing.prefixed) _ _ same hears in
     let heard = told.2 found.0 in
     let enters = rw (same.layout, same.bytes, same.depth, same.cells) at
     (rw c.in-Err.is at c.visit_buffer-trail.ensures.refused) in
     let steps = told_steps _ _ c.in_ok-into_steps-in-Err.field-0.items told.0 c.new.ensures heard.1 found.1 in
     rw steps (enters_along c.args.layout.now c.args.bytes.now c.args.limits
-    (root_at c.args.layout.now (front_of c.args.prefixed)) (map number_of told.0) _ told.1 _ _ enters told.3.0)
+    (root_at c.args.layout.now (front_of c.args.framing.prefixed)) (map number_of told.0) _ told.1 _ _ enters told.3.0)

@@ -3,6 +3,7 @@ use Rattle.fb_value.specs.Places.{table_part, ref_place}
 use Rattle.fb_read.specs.Walks.{place, limits_of}
 use Rattle.fb_read.proofs.reader.RootVisitDecides.{visit_finds, entered_more, enters_refused}
 use Rattle.fb_read.proofs.visit_tables.EndsAtAPlace.{ends_given, ends_counted, ends_reached, ends_heard}
+use Rattle.fb_read.proofs.visit_tables.EndsAtAPlace.{ends_whole}
 use Rattle.fb_read.proofs.reader.ticks.visit_buffer.Goals as goal
 
 pub returns-clause-finds : goal.returns-clause-finds
@@ -37,5 +38,12 @@ pub returns-clause-hears : goal.returns-clause-hears
 returns-clause-hears g c =
     rw (c.root-root.ensures, c.front_of.ensures.exact, c.schema.ensures.schema) at
     (ends_heard g.H.Hearer.told c.args.buffer.now
+    (place (ref_place (table_part c.root-root.result.0)) c.front_of.result) 0 _ _ c.visit_table_behind-visited.result
+    c.visit_table_behind-visited.ensures)
+
+pub returns-clause-whole : goal.returns-clause-whole
+returns-clause-whole g c =
+    rw (c.root-root.ensures, c.front_of.ensures.exact, c.schema.ensures.schema) at
+    (ends_whole g.H.Hearer.told c.args.buffer.now
     (place (ref_place (table_part c.root-root.result.0)) c.front_of.result) 0 _ _ c.visit_table_behind-visited.result
     c.visit_table_behind-visited.ensures)

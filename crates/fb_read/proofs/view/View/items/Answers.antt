@@ -2,6 +2,7 @@ use Rattle.std.proofs.Common.{sym, arith}
 use Rattle.fb_read.specs.Views.{entry_of}
 use Rattle.fb_read.proofs.view.AccessorsReadTheEntry.{vector_found, vector_none}
 use Rattle.fb_read.proofs.view.ViewsAreWithinTheBuffer.{vector_sure, count_sure, items_sure, items_lie}
+use Rattle.fb_read.proofs.view.WholeViewsHaveWholeChildren.{vector_whole}
 use Rattle.fb_read.proofs.view.View.items.Goals as goal
 
 pub u32_at-requires : goal.u32_at-requires
@@ -38,6 +39,9 @@ invariant_of-result c = record {
       (items_lie c.args.self.layout.now c.args.self.bytes.now c.args.self.table.0 c.args.self.at c.args.slot
       c.stored.result c.args.self.lies c.stored.ensures.stands c.in_ok-kind.kind c.in_ok-kind.at (sym
       c.in_ok-kind.ensures));
+  known = rw (c.u32_at-2.ensures, c.u32_at.ensures) (λ known. vector_whole c.args.self.layout.now c.args.self.bytes.now c.args.self.table.0 c.args.self.at
+      c.args.slot c.stored.result c.args.self.lies c.stored.ensures.stands (c.args.self.known known)
+      c.in_ok-kind.kind c.in_ok-kind.at (sym c.in_ok-kind.ensures));
 }
 
 pub returns-clause-shows : goal.returns-clause-shows

@@ -8,6 +8,7 @@ use Rattle.fb_read.proofs.view.AccessorsReadTheEntry.{vector_found, table_found,
 use Rattle.fb_read.proofs.view.ViewsAreWithinTheBuffer.{number_sure, text_sure, struct_sure, table_sure, table_lies}
 use Rattle.fb_read.proofs.view.ViewsAreWithinTheBuffer.{member_sure, member_lies, vector_sure, count_sure, items_sure}
 use Rattle.fb_read.proofs.view.ViewsAreWithinTheBuffer.{items_lie}
+use Rattle.fb_read.proofs.view.WholeViewsHaveWholeChildren.{table_whole, member_whole, vector_whole}
 use Rattle.fb_read.proofs.view.View.slot.Goals as goal
 
 pub number_at-requires : goal.number_at-requires
@@ -29,22 +30,34 @@ invariant_of-result c = record {
 
 pub u32_at-requires : goal.u32_at-requires
 u32_at-requires c = table_sure c.args.self.layout.now c.args.self.bytes.now c.args.self.table.0 c.args.self.at
-    c.args.slot c.stored.result c.args.self.lies c.stored.ensures.stands c.in-Table.table c.in-Table.at
+    c.args.slot c.stored.result c.args.self.lies c.stored.ensures.stands c.in-Table.table c.in-Table.place
     (ap table_place_of c.in-Table.is)
 
-pub overflow_add-result : goal.overflow_add-result
-overflow_add-result c =
+pub overflow_add-at : goal.overflow_add-at
+overflow_add-at c =
     let within = table_sure c.args.self.layout.now c.args.self.bytes.now c.args.self.table.0 c.args.self.at c.args.slot
-    c.stored.result c.args.self.lies c.stored.ensures.stands c.in-Table.table c.in-Table.at
+    c.stored.result c.args.self.lies c.stored.ensures.stands c.in-Table.table c.in-Table.place
     (ap table_place_of c.in-Table.is) in
     omega (arith, within, c.args.self.short, c.u32_at.type_inv)
+
+pub vtable_in-requires-clause-lies : goal.vtable_in-requires-clause-lies
+vtable_in-requires-clause-lies c =
+    rw c.u32_at.ensures (table_lies c.args.self.layout.now c.args.self.bytes.now c.args.self.table.0 c.args.self.at
+    c.args.slot c.stored.result c.args.self.lies c.stored.ensures.stands c.in-Table.table c.in-Table.place
+    (ap table_place_of c.in-Table.is))
 
 pub invariant_of-result-in-Table : goal.invariant_of-result-in-Table
 invariant_of-result-in-Table c = record {
   short = c.args.self.short;
   lies = rw c.u32_at.ensures (table_lies c.args.self.layout.now c.args.self.bytes.now c.args.self.table.0 c.args.self.at
-      c.args.slot c.stored.result c.args.self.lies c.stored.ensures.stands c.in-Table.table c.in-Table.at
+      c.args.slot c.stored.result c.args.self.lies c.stored.ensures.stands c.in-Table.table c.in-Table.place
       (ap table_place_of c.in-Table.is));
+  vtable = c.vtable_in.ensures.vtable;
+  vtable_whole = c.vtable_in.ensures.whole;
+  vtable_within = c.vtable_in.ensures.within;
+  known = rw c.u32_at.ensures (λ known. table_whole c.args.self.layout.now c.args.self.bytes.now c.args.self.table.0 c.args.self.at
+      c.args.slot c.stored.result c.args.self.lies c.stored.ensures.stands (c.args.self.known known)
+      c.in-Table.table c.in-Table.place (ap table_place_of c.in-Table.is));
 }
 
 pub returns-in-Table : goal.returns-in-Table
@@ -55,7 +68,7 @@ returns-in-Table c =
     record {
       shows = λ d lies.
           let found = table_found c.args.self.layout.now c.args.self.bytes.now c.stored.result c.in-Table.table
-          c.in-Table.at (entry_of d c.args.slot) (ap table_place_of c.in-Table.is) (c.stored.ensures.stands d lies)
+          c.in-Table.place (entry_of d c.args.slot) (ap table_place_of c.in-Table.is) (c.stored.ensures.stands d lies)
           in
           rw c.u32_at.ensures (refl, found.0, table_told (entry_of d c.args.slot) found.0 found.1, found.2);
       lighter = omega (arith, behind, here);
@@ -64,21 +77,33 @@ returns-in-Table c =
 pub u32_at-requires-in-Member : goal.u32_at-requires-in-Member
 u32_at-requires-in-Member c = member_sure c.args.self.layout.now c.args.self.bytes.now c.args.self.table.0
     c.args.self.at c.args.slot c.stored.result c.args.self.lies c.stored.ensures.stands c.in-Member.code
-    c.in-Member.table c.in-Member.at (ap member_place_of c.in-Member.is)
+    c.in-Member.table c.in-Member.place (ap member_place_of c.in-Member.is)
 
-pub overflow_add-at : goal.overflow_add-at
-overflow_add-at c =
+pub overflow_add-at-in-Member : goal.overflow_add-at-in-Member
+overflow_add-at-in-Member c =
     let within = member_sure c.args.self.layout.now c.args.self.bytes.now c.args.self.table.0 c.args.self.at c.args.slot
-    c.stored.result c.args.self.lies c.stored.ensures.stands c.in-Member.code c.in-Member.table c.in-Member.at
+    c.stored.result c.args.self.lies c.stored.ensures.stands c.in-Member.code c.in-Member.table c.in-Member.place
     (ap member_place_of c.in-Member.is) in
     omega (arith, within, c.args.self.short, c.u32_at-in-Member.type_inv)
+
+pub vtable_in-requires-in-Member-clause-lies : goal.vtable_in-requires-in-Member-clause-lies
+vtable_in-requires-in-Member-clause-lies c =
+    rw c.u32_at-in-Member.ensures (member_lies c.args.self.layout.now c.args.self.bytes.now c.args.self.table.0
+    c.args.self.at c.args.slot c.stored.result c.args.self.lies c.stored.ensures.stands c.in-Member.code
+    c.in-Member.table c.in-Member.place (ap member_place_of c.in-Member.is))
 
 pub invariant_of-result-in-Member : goal.invariant_of-result-in-Member
 invariant_of-result-in-Member c = record {
   short = c.args.self.short;
   lies = rw c.u32_at-in-Member.ensures (member_lies c.args.self.layout.now c.args.self.bytes.now c.args.self.table.0
       c.args.self.at c.args.slot c.stored.result c.args.self.lies c.stored.ensures.stands c.in-Member.code
-      c.in-Member.table c.in-Member.at (ap member_place_of c.in-Member.is));
+      c.in-Member.table c.in-Member.place (ap member_place_of c.in-Member.is));
+  vtable = c.vtable_in-in-Member.ensures.vtable;
+  vtable_whole = c.vtable_in-in-Member.ensures.whole;
+  vtable_within = c.vtable_in-in-Member.ensures.within;
+  known = rw c.u32_at-in-Member.ensures (λ known. member_whole c.args.self.layout.now c.args.self.bytes.now c.args.self.table.0 c.args.self.at
+      c.args.slot c.stored.result c.args.self.lies c.stored.ensures.stands (c.args.self.known known)
+      c.in-Member.code c.in-Member.table c.in-Member.place (ap member_place_of c.in-Member.is));
 }
 
 pub returns-in-Member : goal.returns-in-Member
@@ -89,7 +114,7 @@ returns-in-Member c =
     record {
       shows = λ d lies.
           let found = member_found c.args.self.layout.now c.args.self.bytes.now c.stored.result c.in-Member.code
-          c.in-Member.table c.in-Member.at (entry_of d c.args.slot) (ap member_place_of c.in-Member.is)
+          c.in-Member.table c.in-Member.place (entry_of d c.args.slot) (ap member_place_of c.in-Member.is)
           (c.stored.ensures.stands d lies) in
           rw c.u32_at-in-Member.ensures (
             refl,
@@ -119,8 +144,8 @@ u32_at-len-requires c = rw c.u32_at-in-Vector.ensures
     c.stored.result c.args.self.lies c.stored.ensures.stands c.in-Vector.kind c.in-Vector.at
     (ap vector_place_of c.in-Vector.is))
 
-pub overflow_add-result-in-Vector : goal.overflow_add-result-in-Vector
-overflow_add-result-in-Vector c =
+pub overflow_add-result : goal.overflow_add-result
+overflow_add-result c =
     let within = count_sure c.args.self.layout.now c.args.self.bytes.now c.args.self.table.0 c.args.self.at c.args.slot
     c.stored.result c.args.self.lies c.stored.ensures.stands c.in-Vector.kind c.in-Vector.at
     (ap vector_place_of c.in-Vector.is) in
@@ -137,6 +162,9 @@ invariant_of-result-in-Vector c = record {
       (items_lie c.args.self.layout.now c.args.self.bytes.now c.args.self.table.0 c.args.self.at c.args.slot
       c.stored.result c.args.self.lies c.stored.ensures.stands c.in-Vector.kind c.in-Vector.at
       (ap vector_place_of c.in-Vector.is));
+  known = rw (c.u32_at-len.ensures, c.u32_at-in-Vector.ensures) (λ known. vector_whole c.args.self.layout.now c.args.self.bytes.now c.args.self.table.0 c.args.self.at
+      c.args.slot c.stored.result c.args.self.lies c.stored.ensures.stands (c.args.self.known known)
+      c.in-Vector.kind c.in-Vector.at (ap vector_place_of c.in-Vector.is));
 }
 
 pub returns-in-Vector : goal.returns-in-Vector

@@ -1,5 +1,6 @@
-use Rattle.fb_read.proofs.entry.EntryIsWhatWasFound.{entry_behind, slots_long}
+use Rattle.fb_read.proofs.entry.EntryIsWhatWasFound.{entry_behind}
 use Rattle.fb_read.proofs.view.View.stored_slots.Goals as goal
+use Rattle.fb_layout.proofs.slots.SlotsAreAsManyAsFields.{slots_long}
 
 pub returns : goal.returns
 returns c =

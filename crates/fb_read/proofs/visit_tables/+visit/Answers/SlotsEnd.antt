@@ -12,6 +12,7 @@ use Rattle.fb_read.specs.Visits.{slots_seen}
 use Rattle.fb_read.specs.Walks.{place, limits_of}
 use Rattle.fb_read.proofs.visit_tables.CountsGoOn.{refused_then, exact_then, at_end, below}
 use Rattle.fb_read.proofs.visit_tables.PartsAddUp.{slots_sum}
+use Rattle.fb_read.proofs.visit_tables.StaysWhole.{all_slots_whole, inline_at}
 use Rattle.fb_read.proofs.stored.SlotNamesItsPlace.{slot_names, slot_names_one, slot_names_code, slot_names_none}
 use Rattle.fb_read.proofs.stored.SlotNamesItsPlace.{slot_names_union}
 use Rattle.fb_read.proofs.visit_tables.EndsAtASlot.{slot_ends, no_place_passes, leaf_ends, member_ends}
@@ -72,6 +73,8 @@ slots_passed g t c =
       exact = slots_sum L b (parts_from L b) c.args.table.at c.loop-slot.slot c.stored_slots-present.result
           c.args.slots.now c.args.walk.now.ticks c.loop-slot.walk.ticks end past c.loop-slot.invariant.exact;
       silent = c.loop-slot.invariant.silent;
+      whole = all_slots_whole buffer c.args.table.at c.loop-slot.slot c.stored_slots-present.result c.args.slots.now
+          c.args.walk.now c.loop-slot.walk end past c.loop-slot.invariant.whole;
     }
 
 pub deprecated_passed : goal.visit_slot-returns-then-slot
@@ -149,7 +152,7 @@ code_slot_ends g t c =
     c.args.slot.later.now c.args.slot.field.now c.in-One-Code.field-0 c.in-One-Code.union c.if-slot.false
     c.in-One-Code.is
     (rw c.in-One-Code.is at c.in-One-Code.field-0-is) c.held_slot-offset.ensures.number c.if-offset-eq0.false) refl refl
-    c.requires.limits.few (c.visit_code.ensures c.args.tables c.args.walk.now.spent c.in-One-Code.union.0)
+    (λ d lies. absurd lies) c.requires.limits.few (c.visit_code.ensures c.args.tables c.args.walk.now.spent c.in-One-Code.union.0)
 
 pub number_slot_ends : goal.visit_slot-returns-in-One-Scalar
 number_slot_ends g t c =
@@ -162,7 +165,8 @@ number_slot_ends g t c =
     (slot_names_one buffer.layout.now buffer.bytes.now c.args.table.at c.args.slot.number c.held_slot-offset.result
     c.args.slot.later.now c.args.slot.field.now c.in-One-Scalar.field-0 kind c.if-slot.false c.in-One-Scalar.is
     (rw c.in-One-Scalar.is at c.in-One-Scalar.field-0-is) c.held_slot-offset.ensures.number c.if-offset-eq0.false refl)
-    refl refl c.requires.limits.few (c.visit_inline.ensures c.args.tables c.args.walk.now.spent)
+    refl refl (inline_at buffer (stored_kind buffer.layout.now.schema kind) (c.args.table.at
+    + c.held_slot-offset.result)) c.requires.limits.few (c.visit_inline.ensures c.args.tables c.args.walk.now.spent)
 
 pub enum_slot_ends : goal.visit_slot-returns-in-One-Enum
 enum_slot_ends g t c =
@@ -175,7 +179,8 @@ enum_slot_ends g t c =
     (slot_names_one buffer.layout.now buffer.bytes.now c.args.table.at c.args.slot.number c.held_slot-offset.result
     c.args.slot.later.now c.args.slot.field.now c.in-One-Enum.field-0 kind c.if-slot.false c.in-One-Enum.is
     (rw c.in-One-Enum.is at c.in-One-Enum.field-0-is) c.held_slot-offset.ensures.number c.if-offset-eq0.false refl)
-    refl refl c.requires.limits.few (c.visit_inline-in-One-Enum.ensures c.args.tables c.args.walk.now.spent)
+    refl refl (inline_at buffer (stored_kind buffer.layout.now.schema kind) (c.args.table.at
+    + c.held_slot-offset.result)) c.requires.limits.few (c.visit_inline-in-One-Enum.ensures c.args.tables c.args.walk.now.spent)
 
 pub struct_slot_ends : goal.visit_slot-returns-in-One-Struct
 struct_slot_ends g t c =
@@ -188,7 +193,8 @@ struct_slot_ends g t c =
     (slot_names_one buffer.layout.now buffer.bytes.now c.args.table.at c.args.slot.number c.held_slot-offset.result
     c.args.slot.later.now c.args.slot.field.now c.in-One-Struct.field-0 kind c.if-slot.false c.in-One-Struct.is
     (rw c.in-One-Struct.is at c.in-One-Struct.field-0-is) c.held_slot-offset.ensures.number c.if-offset-eq0.false refl)
-    refl refl c.requires.limits.few (c.visit_inline-in-One-Struct.ensures c.args.tables c.args.walk.now.spent)
+    refl refl (inline_at buffer (stored_kind buffer.layout.now.schema kind) (c.args.table.at
+    + c.held_slot-offset.result)) c.requires.limits.few (c.visit_inline-in-One-Struct.ensures c.args.tables c.args.walk.now.spent)
 
 pub member_value_ends : goal.visit_union-returns-in-Some
 member_value_ends g t c =

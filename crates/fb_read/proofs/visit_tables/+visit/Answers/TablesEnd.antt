@@ -22,6 +22,7 @@ use Rattle.fb_read.proofs.visit_tables.EndsAtAPlace.{ends_behind, has_visited}
 use Rattle.fb_read.proofs.visit_tables.CountsGoOn.{not_entered, just_entered, table_then, table_refused_then}
 use Rattle.fb_read.proofs.visit_tables.HearsTheWayBack.{table_heard}
 use Rattle.fb_read.proofs.visit_tables.PartsAddUp.{parts_table}
+use Rattle.fb_read.proofs.visit_tables.StaysWhole.{table_at}
 use Rattle.fb_read.proofs.visit_tables.VisitsOnePlaceAfterAnother.{visit_table, deep_no, both_no}
 use Rattle.fb_read.proofs.visit_tables.+visit.Goals as goal
 
@@ -59,7 +60,8 @@ table_behind_ends g t c =
     let ends = rw (c.pass_over.ensures.before c.if-pass_over.false) at c.visit_table-visited.ensures in
     ends_behind g.H.Hearer.told g.met.H.Hearer.silent c.args.buffer.now X
     c.args.at c.in_ok-target.target c.args.tables c.args.walk.now c.visit_table-visited.new.walk c.leave.new.walk
-    c.visit_table-visited.result rules.0 rules.1 ends c.leave.ensures.spent c.leave.ensures.ticks c.leave.ensures.told
+    c.visit_table-visited.result rules.0 rules.1 ends c.leave.ensures.spent c.leave.ensures.ticks c.leave.ensures.whole
+    c.leave.ensures.told
 
 pub table_refused : goal.visit_table-returns-in_err-vtable_at
 table_refused g t c =
@@ -107,10 +109,10 @@ slots_end : {H T : Type 0} (told : H → List Step → H → Type 0) (silent : (
     → slots_of buffer.layout.now table.0 ≡ slots_seen buffer.layout.now slots
     → Keeps buffer.layout.now buffer.bytes.now (part_place (table_part table.0)) p → tables < buffer.most_depth
     → old.spent < buffer.most_cells → mid.spent ≡ old.spent + 1 → mid.ticks ≡ old.ticks + 1
-    → mid.hearer ≡ old.hearer
+    → mid.hearer ≡ old.hearer → mid.whole ≡ old.whole
     → EndsAtEach told (λ k. SlotStep table k) buffer (slots_at buffer p slots) (tables + 1) mid new r
     → EndsAt told buffer (place (part_place (table_part table.0)) p) tables old new r
-slots_end told silent buffer table p tables slots old mid new (Ok y) seen rules deep small spent ticks same passes =
+slots_end told silent buffer table p tables slots old mid new (Ok y) seen rules deep small spent ticks same so_far passes =
     let L = buffer.layout.now in
     let b = buffer.bytes.now in
     record {
@@ -120,8 +122,11 @@ slots_end told silent buffer table p tables slots old mid new (Ok y) seen rules 
       ticks = table_then old.ticks mid.ticks old.spent new.ticks new.spent ticks (rw spent at passes.ticks);
       exact = rw (parts_table L b table.0 p rules, seen) (omega (arith, ticks, passes.exact));
       silent = passes.silent ∙ same;
+      whole = λ still.
+          (let passed = passes.whole still in
+          (sym so_far ∙ passed.0, table_at buffer table.0 p (rw seen passed.1)));
     }
-slots_end told silent buffer table p tables slots old mid new (Err f) seen rules deep small spent ticks same ends =
+slots_end told silent buffer table p tables slots old mid new (Err f) seen rules deep small spent ticks same so_far ends =
     let L = buffer.layout.now in
     let b = buffer.bytes.now in
     record {
@@ -139,8 +144,8 @@ table_ends g t c =
     let walk = c.args.walk.now in
     slots_end g.H.Hearer.told g.met.H.Hearer.silent buffer c.args.table c.args.at c.args.tables
     c.slots_of-slots.result.now walk
-    (record { spent = walk.spent + 1; ticks = c.tick.new.self; hearer = walk.hearer }) c.visit_slots.new.walk
+    (record { spent = walk.spent + 1; ticks = c.tick.new.self; whole = walk.whole; hearer = walk.hearer }) c.visit_slots.new.walk
     c.visit_slots.result
     (slots_are_seen buffer.layout.now c.args.table.0 c.slots_of-slots.result.now c.slots_of-slots.ensures.slots)
     c.in_ok-vtable_at.ensures.rules c.if-tables-buffer.false (rw (← c.from.ensures) c.if-walk-from.false) refl
-    c.tick.ensures refl c.visit_slots.ensures
+    c.tick.ensures refl refl c.visit_slots.ensures

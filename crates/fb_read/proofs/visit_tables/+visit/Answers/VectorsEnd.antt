@@ -1,5 +1,5 @@
 -- How a walk ends at a vector, at its elements, and behind a reference.
-use Rattle.std.proofs.Common.{◌≡◌, ◌+◌, ◌*◌, ◌≤◌, Some, refl, sym, ◌∙◌, arith, add-zero}
+use Rattle.std.proofs.Common.{◌≡◌, ◌+◌, ◌*◌, ◌≤◌, None, Some, refl, sym, ◌∙◌, arith, add-zero}
 use Rattle.std.proofs.lemmas.List.{take_all}
 use Rattle.std.proofs.lemmas.Result.{err_from_is_err_and}
 use Rattle.fb_layout.specs.Laid.{stored_kind}
@@ -10,6 +10,7 @@ use Rattle.fb_read.specs.Values.{led_to}
 use Rattle.fb_read.specs.Walks.{place, limits_of}
 use Rattle.fb_read.proofs.visit_tables.CountsGoOn.{not_entered, just_entered, refused_then, exact_then, at_end}
 use Rattle.fb_read.proofs.visit_tables.PartsAddUp.{parts_vector}
+use Rattle.fb_read.proofs.visit_tables.StaysWhole.{vector_at, elements_whole}
 use Rattle.fb_read.proofs.visit_tables.EndsAtAPlace.{ticked, ends_refused, place_refused, rule_refused}
 use Rattle.fb_read.proofs.visit_tables.EndsAtAPlace.{limit_refused}
 use Rattle.fb_read.proofs.visit_tables.EndsAtAPlace.{passes_behind, ends_behind, has_visited, vector_ends}
@@ -55,7 +56,8 @@ vector_behind_ends g t c =
     let ends = rw (c.pass_over.ensures.before c.if-pass_over.false) at c.visit_vector-visited.ensures in
     ends_behind g.H.Hearer.told g.met.H.Hearer.silent c.args.buffer.now X
     c.args.at c.in_ok-target.target c.args.tables c.args.walk.now c.visit_vector-visited.new.walk c.leave.new.walk
-    c.visit_vector-visited.result rules.0 rules.1 ends c.leave.ensures.spent c.leave.ensures.ticks c.leave.ensures.told
+    c.visit_vector-visited.result rules.0 rules.1 ends c.leave.ensures.spent c.leave.ensures.ticks
+    c.leave.ensures.whole c.leave.ensures.told
 
 pub vector_refused : goal.visit_vector-returns-in_err-count
 vector_refused g t c =
@@ -96,11 +98,12 @@ references_end g t c =
     (record {
       spent = c.args.walk.now.spent + (1 + c.from.result);
       ticks = c.tick.new.self;
+      whole = c.args.walk.now.whole;
       hearer = c.args.walk.now.hearer;
     })
     c.visit_elements.new.walk c.visit_elements.result (sym (c.in-Some.ensures L))
     (c.in_ok-count.ensures.rules L kind c.size_in-size.ensures c.align_in.ensures) c.in_ok-count.ensures.count
-    (omega arith) (rw c.from.ensures refl) c.tick.ensures refl c.visit_elements.ensures
+    (omega arith) (rw c.from.ensures refl) c.tick.ensures refl refl c.visit_elements.ensures
 
 pub inlines_passed : goal.visit_vector-returns-in-None
 inlines_passed g t c =
@@ -122,6 +125,11 @@ inlines_passed g t c =
       ticks = omega arith;
       exact = rw (parts_vector L b kind c.args.at keeps, none) c.tick.ensures;
       silent = refl {a = c.args.walk.now.hearer};
+      whole = λ still. (
+        still,
+        vector_at c.args.buffer.now kind c.args.at (λ X is.
+            absurd (let clash : None ≡ Some X = sym none ∙ is in cc)),
+      );
     }
 
 pub element_refused : goal.visit_elements-returns-in_err-visited
@@ -169,4 +177,6 @@ elements_passed g t c =
       exact = rw (take_all c.loop-i.i (named_elements X c.args.at c.args.count) (omega (arith, long))) at
           c.loop-i.invariant.exact;
       silent = c.loop-i.invariant.silent;
+      whole = elements_whole c.args.buffer.now (named_elements X c.args.at c.args.count) c.args.walk.now c.loop-i.walk
+          c.loop-i.walk c.loop-i.walk c.loop-i.i (omega (arith, long)) c.loop-i.invariant.whole;
     }

@@ -10,6 +10,7 @@ use Rattle.fb_read.proofs.visit_tables.EndsAtASlot.{slot_passed}
 use Rattle.fb_read.proofs.visit_tables.CountsGoOn.{entered_then, below}
 use Rattle.fb_read.specs.Entered.{parts_from}
 use Rattle.fb_read.proofs.visit_tables.PartsAddUp.{sum_next}
+use Rattle.fb_read.proofs.visit_tables.StaysWhole.{next_whole}
 use Rattle.fb_read.proofs.visit_tables.VisitsOnePlaceAfterAnother.{each_nil}
 use Rattle.fb_read.proofs.visit_tables.FrontIsFreeOfFaults.{front_next}
 use Rattle.fb_read.proofs.visit_tables.FrontIsFreeOfFaults.{slot_found, element_named}
@@ -31,6 +32,8 @@ next_element_visited g t c =
           c.args.walk.now.spent c.loop-i.walk.spent c.visit_behind-visited.new.walk.spent named
           c.loop-i.invariant.before passes.visit);
       silent = told ∙ passes.silent ∙ c.loop-i.invariant.silent;
+      whole = next_whole buffer xs c.args.walk.now c.loop-i.walk c.visit_behind-visited.new.walk c.tell.new.walk
+          c.loop-i.i (Some here) named c.loop-i.invariant.whole passes.whole c.tell.ensures.whole;
       few = rw c.tell.ensures.spent passes.few;
       ticked = entered_then c.args.walk.now.ticks c.args.walk.now.spent c.loop-i.walk.ticks c.loop-i.walk.spent
           c.visit_behind-visited.new.walk.ticks c.visit_behind-visited.new.walk.spent c.tell.new.walk.ticks
@@ -60,6 +63,8 @@ next_slot_visited g t c =
           c.args.walk.now.spent c.loop-slot.walk.spent c.visit_slot-visited.new.walk.spent found
           c.loop-slot.invariant.before passes.visit);
       silent = told ∙ passes.silent ∙ c.loop-slot.invariant.silent;
+      whole = next_whole buffer xs c.args.walk.now c.loop-slot.walk c.visit_slot-visited.new.walk c.tell.new.walk
+          c.loop-slot.slot _ found c.loop-slot.invariant.whole passes.whole c.tell.ensures.whole;
       few = rw c.tell.ensures.spent passes.few;
       ticked = entered_then c.args.walk.now.ticks c.args.walk.now.spent c.loop-slot.walk.ticks c.loop-slot.walk.spent
           c.visit_slot-visited.new.walk.ticks c.visit_slot-visited.new.walk.spent c.tell.new.walk.ticks
@@ -85,6 +90,9 @@ next_slot_passed_by g t c =
       before = front_next L b (limits_of buffer) xs c.loop-slot.slot _ c.args.tables c.args.walk.now.spent
           c.loop-slot.walk.spent c.loop-slot.walk.spent found c.loop-slot.invariant.before fine;
       silent = c.loop-slot.invariant.silent;
+      whole = next_whole buffer xs c.args.walk.now c.loop-slot.walk c.loop-slot.walk c.loop-slot.walk
+          c.loop-slot.slot _ found c.loop-slot.invariant.whole
+          (λ still. (still, c.is_settled.ensures.whole c.if-is_settled.true rest)) refl;
       few = c.loop-slot.invariant.few;
       ticked = c.loop-slot.invariant.ticked;
       exact = sum_next (parts_from L b) xs c.loop-slot.slot _ c.args.walk.now.ticks c.loop-slot.walk.ticks
@@ -97,6 +105,7 @@ no_slot_yet g t c = record {
   before = each_nil c.args.buffer.now.layout.now c.args.buffer.now.bytes.now (limits_of c.args.buffer.now) c.args.tables
       c.args.walk.now.spent;
   silent = refl;
+  whole = λ still. (still, λ j none. absurd (omega arith));
   few = c.requires.limits.few;
   ticked = omega arith;
   exact = omega arith;
@@ -107,6 +116,7 @@ no_element_yet g t c = record {
   before = each_nil c.args.buffer.now.layout.now c.args.buffer.now.bytes.now (limits_of c.args.buffer.now) c.args.tables
       c.args.walk.now.spent;
   silent = refl;
+  whole = λ still. (still, λ j none. absurd (omega arith));
   few = c.requires.limits.few;
   ticked = omega arith;
   exact = omega arith;
