@@ -2,3 +2,4 @@
 pub mod NoBitsHaveNoNames
 pub mod LowestBit
 pub mod LowBits
+pub mod LowBitsAreNamed

@@ -1,5 +1,7 @@
 pub mod Names
 pub mod Texts
+pub mod Bits
+pub mod Forms
 pub mod Escapes
 pub mod Indents
 pub mod Unnamed

@@ -4,6 +4,7 @@ ghost use Rattle.std.specs.Int.{trailing_zeros, w64};
 ghost use Rattle.std.specs.Option.{unwrap_or};
 ghost use Rattle.fb_schema.specs.Schema.{body_at};
 ghost use Rattle.fb_schema.specs.Found.{name_numbered};
+ghost use Rattle.fb_text.specs.Bits.{AreBitsNamed};
 ghost use Rattle.fb_text.specs.Texts.{are_flags, are_named, bits_of, bits_text};
 ghost use Rattle.fb_text.specs.Writes.{Prints};
 
@@ -30,6 +31,18 @@ fn bit_name<'a>(names: &Names<'a>, place: u32) -> Option<&'a str>
     names.name(i128::from(1u64 << place), place as usize)
 }
 
+/// How many of the lowest bits have names: the place of the first bit without one, at most 63.
+pub(crate) fn named_bits(names: &Names) -> u32
+    ensures few { result < 64 }
+    ensures named { AreBitsNamed (body_at names.now.schema.now names.now.enumeration.0) result }
+{
+    let mut place = 0;
+    while place < 63 && bit_name(names, place).is_some() {
+        place += 1;
+    }
+    place
+}
+
 /// The bits that are set but for the lowest.
 fn higher_bits(bits: u64) -> u64
     requires { 0 < bits }
@@ -53,15 +66,23 @@ fn are_named(names: &Names, bits: u64) -> bool
     are_named(names, higher_bits(bits))
 }
 
+/// Whether each bit that is set has a name. Bits that are known to have names aren't looked up.
+fn have_names(names: &Names, bits: u64) -> bool
+    ensures { result
+        ≡ are_named (name_numbered (body_at names.now.schema.now names.now.enumeration.0)) 64 1 bits }
+{
+    names.are_known(bits) || are_named(names, bits)
+}
+
 /// Whether a number has bits and each has a name.
 pub(crate) fn are_flags(names: &Names, number: i128) -> bool
     ensures { result
         ≡ are_flags (body_at names.now.schema.now names.now.enumeration.0) (bits_of number) }
 {
-    number > 0 && are_named(names, bits_of(number))
+    number > 0 && have_names(names, bits_of(number))
 }
 
-/// Adds a blank, behind an earlier name.
+/// Adds a blank after an earlier name.
 #[tactic(auto, using(crate::proofs::noted::PiecesAddUp::added_none))]
 fn put_gap<W: Write>(out: &mut Noted<W>, some: bool)
     ensures { Prints W.contents out.old out.new (if some then codes " " else []) }

@@ -12,12 +12,14 @@ mod nested;
 mod noted;
 mod numbers;
 mod pages;
+mod plain;
 mod quotes;
 mod shown;
 mod stored;
 mod text;
 mod unnamed;
 mod values;
+mod vectors;
 
 pub use faults::{TextFault, WriteFault};
 pub use indents::Spacing;

@@ -1,5 +1,5 @@
 //! The lines of a JSON text.
-ghost use Rattle.std.specs.Prelude.{◌≡◌, ◌++◌, [], codes, Some, if◌then◌else◌};
+ghost use Rattle.std.specs.Prelude.{◌≡◌, ◌++◌, [], codes, Some, true, IfSome, if◌then◌else◌};
 ghost use Rattle.std.specs.Option.{unwrap_or};
 ghost use Rattle.fb_text.specs.Indents.{blanks, levels_blanks};
 ghost use Rattle.fb_text.specs.Texts.{line, closing, colon, member_line, in_quotes};
@@ -38,6 +38,8 @@ fn put_blanks<W: Write>(out: &mut Noted<W>, indent: &Indent)
 }
 
 /// Adds a comma, if something is in front, and a new line with its indent, if there are lines.
+#[cold]
+#[inline(never)]
 fn put_far_line<W: Write>(out: &mut Noted<W>, indent: &Indent, some: bool)
     ensures { Prints W.contents out.old out.new (line (blanks indent.now) some) }
 {
@@ -48,75 +50,24 @@ fn put_far_line<W: Write>(out: &mut Noted<W>, indent: &Indent, some: bool)
     put_blanks(out, indent);
 }
 
-/// Adds what is in front of a member or an element: few levels in one piece.
+/// Adds the comma, the line feed and the indent before a member or an element. A piece of 16 bytes has room for those of
+/// seven levels.
+#[inline(always)]
 pub(crate) fn put_line<W: Write>(out: &mut Noted<W>, indent: &Indent, some: bool)
     ensures { Prints W.contents out.old out.new (line (blanks indent.now) some) }
 {
     let Indent::Levels(levels) = indent else {
         return put_far_line(out, indent, some);
     };
-    match *levels {
-        0 => out.put_str(if some { ",\n" } else { "\n" }),
-        1 => out.put_str(if some { ",\n  " } else { "\n  " }),
-        2 => out.put_str(if some { ",\n    " } else { "\n    " }),
-        3 => out.put_str(if some { ",\n      " } else { "\n      " }),
-        4 => out.put_str(if some { ",\n        " } else { "\n        " }),
-        _ => put_far_line(out, indent, some),
+    if *levels > 7 {
+        return put_far_line(out, indent, some);
     }
-}
-
-/// Adds what is in front of a member's name, its quote included, in two pieces or more.
-fn put_far_line_to_name<W: Write>(out: &mut Noted<W>, indent: &Indent, some: bool)
-    ensures { Prints W.contents out.old out.new (line (blanks indent.now) some ++ codes "\"") }
-{
-    put_far_line(out, indent, some);
-    out.put_str("\"");
-}
-
-/// Adds what is in front of a member's name, its quote included: few levels in one piece.
-fn put_line_to_name<W: Write>(out: &mut Noted<W>, levels: u64, some: bool)
-    ensures { Prints W.contents out.old out.new (line (Some (levels_blanks levels)) some ++ codes "\"") }
-{
-    match levels {
-        0 => out.put_str(if some { ",\n\"" } else { "\n\"" }),
-        1 => out.put_str(if some { ",\n  \"" } else { "\n  \"" }),
-        2 => out.put_str(if some { ",\n    \"" } else { "\n    \"" }),
-        3 => out.put_str(if some { ",\n      \"" } else { "\n      \"" }),
-        4 => out.put_str(if some {
-            ",\n        \""
-        } else {
-            "\n        \""
-        }),
-        _ => put_far_line_to_name(out, &Indent::Levels(levels), some),
+    let blanks = 2 * *levels as usize;
+    if some {
+        out.put_front(b",\n              ", 2 + blanks);
+    } else {
+        out.put_front(b"\n               ", 1 + blanks);
     }
-}
-
-/// What stands behind a member's name.
-fn colon(indent: &Indent) -> &'static str
-    ensures { result.now ≡ colon (blanks indent.now) }
-{
-    match indent {
-        Indent::Levels(_) | Indent::Deeper(_, _) => "\": ",
-        Indent::Compact => "\":",
-    }
-}
-
-/// Adds the line of a member up to its value, in four pieces or more.
-#[tactic(auto, using(crate::proofs::noted::PiecesAddUp::added_then))]
-fn put_far_member_line<W: Write>(
-    out: &mut Noted<W>,
-    indent: &Indent,
-    some: bool,
-    name: &str,
-    is_code: bool,
-)
-    ensures { Prints W.contents out.old out.new
-        (member_line (blanks indent.now) some name.now (if is_code then codes "_type" else [])) }
-{
-    put_far_line_to_name(out, indent, some);
-    out.put_str(name);
-    out.put_str(if is_code { "_type" } else { "" });
-    out.put_str(colon(indent));
 }
 
 /// Adds what is in front of a closing bracket.
@@ -140,12 +91,15 @@ pub(crate) fn put_member_line<W: Write>(
     ensures { Prints W.contents out.old out.new
         (member_line (blanks indent.now) some name.now (if is_code then codes "_type" else [])) }
 {
-    let Indent::Levels(levels) = indent else {
-        return put_far_member_line(out, indent, some, name, is_code);
-    };
-    put_line_to_name(out, *levels, some);
-    out.put_str(name);
-    out.put_str(if is_code { "_type\": " } else { "\": " });
+    put_line(out, indent, some);
+    if let Indent::Compact = indent {
+        let ending = if is_code { "_type\":" } else { "\":" };
+        return out.put_three("\"", name, ending);
+    }
+    if is_code {
+        return out.put_three("\"", name, "_type\": ");
+    }
+    out.put_three("\"", name, "\": ");
 }
 
 /// Adds a name in quotes.

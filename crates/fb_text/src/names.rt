@@ -1,8 +1,10 @@
 //! The names of an enum's values.
-ghost use Rattle.std.specs.Prelude.{◌≡◌, ◌≢◌, AllPairs, map, option_copied, string_bytes};
+ghost use Rattle.std.specs.Prelude.{◌≡◌, ◌≢◌, ◌<◌, AllPairs, map, option_copied, string_bytes, IsTrue, true};
 ghost use Rattle.fb_schema.specs.Schema.{body_at, values_in};
 ghost use Rattle.fb_schema.specs.Found.{name_numbered};
 ghost use Rattle.fb_schema.specs.Indexed.{inner_numbers};
+ghost use Rattle.fb_text.specs.Bits.{AreBitsNamed};
+ghost use Rattle.fb_text.specs.Texts.{are_named};
 
 use fb_schema::{Schema, TypeId};
 
@@ -33,6 +35,10 @@ pub(crate) struct Names<'a> {
     pub schema: &'a Schema,
     pub enumeration: TypeId,
     values: &'a [(String, i128)],
+    /// Each bit at a place below this is known to have a name.
+    named: u32,
+    ghost few: { named < 64 },
+    ghost known: { AreBitsNamed (body_at schema.now enumeration.0) named },
     ghost same: { map (λ v. (string_bytes v.0, v.1)) values.now
         ≡ values_in (body_at schema.now enumeration.0) },
 }
@@ -48,7 +54,32 @@ impl<'a> Names<'a> {
             schema,
             enumeration,
             values: values_of(schema, enumeration),
+            named: 0,
         }
+    }
+
+    /// These names, with the knowledge that each bit at a place below `named` has one.
+    pub(crate) fn with_named_bits(self, named: u32) -> Names<'a>
+        requires few { named < 64 }
+        requires known { AreBitsNamed (body_at self.schema.now self.enumeration.0) named }
+        ensures schema { result.schema.now ≡ self.entry.schema.now }
+        ensures enumeration { result.enumeration ≡ self.entry.enumeration }
+    {
+        Names {
+            schema: self.schema,
+            enumeration: self.enumeration,
+            values: self.values,
+            named,
+        }
+    }
+
+    /// Whether each bit that is set is known to have a name.
+    #[inline(always)]
+    pub(crate) fn are_known(&self, bits: u64) -> bool
+        ensures { IsTrue result
+            → are_named (name_numbered (body_at self.now.schema.now self.now.enumeration.0)) 64 1 bits ≡ true }
+    {
+        bits >> self.named == 0
     }
 
     /// The name of a number. The value at a place is tried first.

@@ -21,7 +21,7 @@ pub(crate) struct StructCursor<S> {
     pub shown: S,
     /// How many structs are around it.
     pub depth: u64,
-    /// Where it begins, in bytes behind the begin of the outermost.
+    /// Where it begins, in bytes after the start of the outermost.
     pub at: u32,
     pub next: u16,
     /// Whether a field of it was printed.
@@ -159,7 +159,7 @@ fn inner_at<S: Shown>(layout: &Layout, here: StructCursor<S>, byte: u32) -> Stru
     }
 }
 
-/// The struct around one, behind the field that has that one. It is found by its bytes, from the outermost
+/// The struct around one, after the field that has that one. It is found by its bytes, from the outermost
 /// struct down, which has the type `structure` and is read from `shown`.
 pub(crate) fn parent_of<S: Shown>(
     layout: &Layout,

@@ -1,5 +1,5 @@
 //! A writer that remembers whether its last write failed, and the page on which a text is collected for it.
-ghost use Rattle.std.specs.Prelude.{◌≡◌, ◌↔◌, ◌<◌, [], length, take, false, true, IsTrue};
+ghost use Rattle.std.specs.Prelude.{◌≡◌, ◌↔◌, ◌<◌, ◌≤◌, [], ◌++◌, length, take, false, true, IsTrue};
 ghost use Rattle.std.specs.Io.{WritesAtMost};
 ghost use Rattle.std.specs.Io.KnownBytes.{Appends, WriteAppends, Keeps};
 ghost use Rattle.fb_text.specs.Noted.{TookNone};
@@ -139,7 +139,7 @@ impl<W: Write> Noted<W> {
         self.page.restart(before.saturating_add(written as u64));
     }
 
-    /// Adds a piece of a text. What waits is written where the piece has no room behind it.
+    /// Adds a piece of a text. What waits is written where the piece has no room after it.
     #[inline]
     #[tactic(auto, using(crate::proofs::noted::PiecesAddUp::added_then))]
     pub(crate) fn put(&mut self, piece: &[u8])
@@ -161,28 +161,49 @@ impl<W: Write> Noted<W> {
         self.put(piece.as_bytes());
     }
 
-    /// Adds a quote, a piece and a quote, one after the other.
-    #[cold]
-    #[inline(never)]
-    fn put_each_quote(&mut self, piece: &str)
-        ensures { Prints W.contents self.old self.new (in_quotes piece.now) }
+    /// Adds the first bytes of a piece.
+    #[inline]
+    pub(crate) fn put_front(&mut self, piece: &[u8; 16], len: usize)
+        requires { len ≤ 16 }
+        ensures { Prints W.contents self.old self.new (take len piece.now) }
     {
-        self.put(b"\"");
-        self.put_str(piece);
-        self.put(b"\"");
+        if !self.page.has_room(piece.len()) {
+            return self.put(&piece[..len]);
+        }
+        self.page.add_front(piece, len);
     }
 
-    /// Adds a piece in quotes, all at once where the page has room.
+    /// Adds three pieces, one after another.
+    #[cold]
+    #[inline(never)]
+    fn put_each(&mut self, first: &str, second: &str, third: &str)
+        ensures { Prints W.contents self.old self.new (first.now ++ (second.now ++ third.now)) }
+    {
+        self.put_str(first);
+        self.put_str(second);
+        self.put_str(third);
+    }
+
+    /// Adds three pieces, with one test for room where the page has it.
+    #[inline]
+    pub(crate) fn put_three(&mut self, first: &str, second: &str, third: &str)
+        ensures { Prints W.contents self.old self.new (first.now ++ (second.now ++ third.now)) }
+    {
+        let around = first.len().saturating_add(third.len());
+        if !self.page.has_room(second.len().saturating_add(around)) {
+            return self.put_each(first, second, third);
+        }
+        self.page.add(first.as_bytes());
+        self.page.add(second.as_bytes());
+        self.page.add(third.as_bytes());
+    }
+
+    /// Adds a piece in quotes.
     #[inline]
     pub(crate) fn put_in_quotes(&mut self, piece: &str)
         ensures { Prints W.contents self.old self.new (in_quotes piece.now) }
     {
-        if !self.page.has_room(piece.len().saturating_add(2)) {
-            return self.put_each_quote(piece);
-        }
-        self.page.add(b"\"");
-        self.page.add(piece.as_bytes());
-        self.page.add(b"\"");
+        self.put_three("\"", piece, "\"");
     }
 
     /// Writes what waits, and returns whether all of a text was written.

@@ -1,5 +1,5 @@
 //! Bytes that are collected before they are written.
-ghost use Rattle.std.specs.Prelude.{◌≡◌, ◌≤◌, ◌+◌, [], ◌++◌, length, true};
+ghost use Rattle.std.specs.Prelude.{◌≡◌, ◌≤◌, ◌+◌, [], ◌++◌, length, take, true};
 ghost use Rattle.fb_text.specs.declared.pages.TheConstants.{CAPACITY};
 
 /// How many bytes a page takes: as many as Rust's `BufWriter` collects. It is set to zero for each
@@ -38,7 +38,7 @@ impl Page {
         &self.bytes[..self.len]
     }
 
-    /// Whether so many bytes have room behind those that wait.
+    /// Whether these bytes have room after those that wait.
     pub(crate) fn has_room(&self, more: usize) -> bool
         ensures { result ≡ true → length (pending self.now) + more ≤ CAPACITY }
     {
@@ -54,6 +54,19 @@ impl Page {
         let end = self.len + more.len();
         self.bytes[self.len..end].copy_from_slice(more);
         self.len = end;
+    }
+
+    /// Adds the first bytes of a piece that is copied whole, as one load and one store.
+    #[inline]
+    pub(crate) fn add_front(&mut self, piece: &[u8; 16], len: usize)
+        requires few { len ≤ 16 }
+        requires room { length (pending self.old) + 16 ≤ CAPACITY }
+        ensures pending { pending self.new ≡ pending self.old ++ take len piece.now }
+        ensures written { written_before self.new ≡ written_before self.old }
+    {
+        let end = self.len + piece.len();
+        self.bytes[self.len..end].copy_from_slice(piece);
+        self.len += len;
     }
 
     /// Begins anew, with no bytes, once so many were written.

@@ -7,14 +7,26 @@ ghost use Rattle.fb_text.specs.Escapes.{is_plain};
 ghost use Rattle.fb_text.specs.Writes.{Prints};
 
 use crate::noted::Noted;
+use crate::plain::needs_no_escape;
 use std::io::Write;
 
 /// Adds a text in quotes, escaped.
 pub(crate) fn put_quoted<W: Write>(out: &mut Noted<W>, content: &str)
     ensures { Prints W.contents out.old out.new (quoted content.now) }
 {
+    if needs_no_escape(content.as_bytes()) {
+        return out.put_in_quotes(content); // as most texts are
+    }
+    put_escaped_in_quotes(out, content.as_bytes());
+}
+
+/// Adds a text in quotes that may have escapes.
+#[inline(never)]
+fn put_escaped_in_quotes<W: Write>(out: &mut Noted<W>, content: &[u8])
+    ensures { Prints W.contents out.old out.new (quoted content.now) }
+{
     out.put(b"\"");
-    put_escaped(out, content.as_bytes());
+    put_escaped(out, content);
     out.put(b"\"");
 }
 

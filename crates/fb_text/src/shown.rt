@@ -1,14 +1,16 @@
 //! What a printer reads values from.
-ghost use Rattle.std.specs.Prelude.{◌≡◌, ℕ, ◌<◌, ◌≤◌, max, Option, Some, None, length, slice_get, false};
+ghost use Rattle.std.specs.Prelude.{◌≡◌, ℕ, ◌<◌, ◌≤◌, max, Option, Some, None, length, slice_get, false, IfSome};
 ghost use Rattle.fb_schema.specs.Schema.{DeclaredField, body_at, slots_in};
 ghost use Rattle.fb_layout.specs.Laid.{LaidSchema};
 ghost use Rattle.fb_value.specs.Datum.{Datum, Parts, SlotEntries, count, a_vector, a_table};
 ghost use Rattle.fb_value.specs.Nth.{nth_entry};
+ghost use Rattle.fb_read.specs.TypedItems.{AreNumbers, AreTexts};
 ghost use Rattle.fb_json.specs.declared.faults.Place.{Place};
 ghost use Rattle.fb_text.specs.Printed.{is_entry_printed, first_in_entry};
 ghost use Rattle.fb_text.specs.Shown.{IsTop, HasWeight};
 ghost use Rattle.fb_text.specs.Unnamed.{nth_child, unnamed_from};
 
+use fb_read::{NumberItems, TextItems};
 use fb_schema::TypeId;
 
 /// What is found where a value is read.
@@ -42,7 +44,7 @@ pub trait Shown: Copy {
         ensures top { (L : LaidSchema) (o : Option Datum) → shows self.now L o → IsTop result o }
         ensures heavy { HasWeight result (weight self.now) };
 
-    /// How many of a table's slots are to be read, of all that its type has. None behind them is printed.
+    /// How many of a table's slots are to be read, of all that its type has. None after them is printed.
     fn printed_slots(self, defaults: bool, all: usize) -> usize
         ensures few { result ≤ all }
         ensures behind { (L : LaidSchema) (t : ℕ) (es : SlotEntries) (k : ℕ) (f : DeclaredField)
@@ -65,7 +67,17 @@ pub trait Shown: Copy {
         ensures few { result ≤ width self }
         ensures all { (L : LaidSchema) (ds : Parts) → shows self L (Some (a_vector ds)) → result ≡ count ds };
 
-    /// How many of its children are to be searched for unions whose codes have no name. None behind them is one
+    /// The elements of a vector of numbers that is in a buffer, which are read without a walk.
+    fn numbers(&self) -> Option<NumberItems<'_>>
+        ensures { (L : LaidSchema) (ds : Parts) → shows self.now L (Some (a_vector ds))
+            → IfSome result (λ numbers. AreNumbers numbers ds) };
+
+    /// The same of a vector of texts.
+    fn texts(&self) -> Option<TextItems<'_>>
+        ensures { (L : LaidSchema) (ds : Parts) → shows self.now L (Some (a_vector ds))
+            → IfSome result (λ texts. AreTexts texts ds) };
+
+    /// How many of its children are to be searched for unions whose codes have no name. None after them is one
     /// or has one in it.
     fn searched(&self) -> usize
         ensures few { result ≤ max 65536 (width self.now) }

@@ -4,7 +4,7 @@ ghost use Rattle.std.specs.Prelude.{◌≡◌};
 ghost use Rattle.fb_text.specs.Unnamed.{may_have_unions};
 
 use crate::shown::{Found, Shown};
-use fb_read::Entry;
+use fb_read::{Entry, NumberItems, TextItems};
 use fb_schema::{Kind, Shape};
 
 /// Whether what is stored under a shape may be a union or have one in it.
@@ -67,6 +67,22 @@ impl Shown for Entry<'_> {
     }
 
     #[inline]
+    fn numbers(&self) -> Option<NumberItems<'_>> {
+        match self {
+            Entry::Vector(items) => items.numbers(),
+            _ => None,
+        }
+    }
+
+    #[inline]
+    fn texts(&self) -> Option<TextItems<'_>> {
+        match self {
+            Entry::Vector(items) => items.texts(),
+            _ => None,
+        }
+    }
+
+    #[inline]
     fn searched(&self) -> usize {
         match self {
             Entry::Table(view) => usize::from(view.stored_slots()),
@@ -100,7 +116,7 @@ impl Shown for Entry<'_> {
         may_have_unions(slots[i].shape)
     }
 
-    #[inline]
+    #[inline(always)]
     fn child(self, i: usize) -> Self {
         match self {
             Entry::Table(view) => view.slot(i as u16),

@@ -6,6 +6,7 @@ ghost use Rattle.fb_json.specs.Meant.{type_place};
 ghost use Rattle.fb_text.specs.Texts.{json_text, spaced_text};
 ghost use Rattle.fb_text.specs.Noted.{write_failed, writer_of};
 ghost use Rattle.fb_text.specs.Printed.{IsPrinted, TellsFailure, IfUnnamed};
+ghost use Rattle.fb_text.specs.Unnamed.{first_unnamed};
 ghost use Rattle.fb_text.specs.Writes.{IsWritten};
 
 use crate::faults::WriteFault;
@@ -44,6 +45,21 @@ pub fn write_shown<W: Write, S: Shown>(
     out.finish()
 }
 
+/// The place of the first union, in the order of printing, whose code names no member. A table that is known to be
+/// whole has none, and isn't searched.
+fn unnamed_in(view: &View) -> Option<Place>
+    ensures { (d : Datum) → Shows view.now d → result ≡ first_unnamed (type_place view.now.table.0) d }
+{
+    if view.is_known_whole() {
+        return None;
+    }
+    let place = Place {
+        owner: view.type_id(),
+        slot: None,
+    };
+    first_unnamed(place, Entry::Table(*view))
+}
+
 /// Writes the indented JSON text of a table, as `write_spaced` does.
 pub fn write_text<W: Write>(
     view: &View,
@@ -75,11 +91,7 @@ pub fn write_spaced<W: Write>(
     ensures failed { TellsFailure (write_failed out.new) result }
     ensures untouched { IfUnnamed result (out.new ≡ out.old) }
 {
-    let place = Place {
-        owner: view.type_id(),
-        slot: None,
-    };
-    if let Some(unnamed) = first_unnamed(place, Entry::Table(*view)) {
+    if let Some(unnamed) = unnamed_in(view) {
         return Err(WriteFault::NoMemberName(unnamed));
     }
     if out.failed() {

@@ -22,6 +22,7 @@ use crate::noted::Noted;
 use crate::numbers::put_number;
 use crate::quotes::put_quoted;
 use crate::shown::{Found, Shown};
+use crate::vectors::{put_numbers, put_texts};
 use fb_layout::{Layout, layout_is_well_made};
 use fb_schema::{FieldInfo, Kind, Shape, TypeId};
 use std::io::Write;
@@ -113,8 +114,14 @@ fn put_vector<W: Write, S: Shown>(
         → Prints W.contents out.old out.new (value_text style.entry.layout.now style.entry.defaults
         (blanks indent.now) (Many kind) (a_vector ds)) }
 {
-    let inner = indent.inside();
     out.put_str("[");
+    if let Some(numbers) = shown.numbers() {
+        return put_numbers(out, style.layout, indent, kind, numbers);
+    }
+    if let Some(texts) = shown.texts() {
+        return put_texts(out, indent, texts);
+    }
+    let inner = indent.inside();
     let mut some = false;
     for i in 0..shown.count() {
         if out.failed() {

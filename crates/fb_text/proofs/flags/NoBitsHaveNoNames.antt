@@ -1,11 +1,8 @@
 -- A number without bits has no names to look for and none to write.
-use Rattle.std.proofs.Common.{◌≡◌, ℕ, zero, suc, ◌+◌, ◌||◌, ℤ, [], true, false, Bool, Option, refl, ap, ◌∙◌}
+use Rattle.std.proofs.Common.{◌≡◌, ℕ, zero, suc, ◌+◌, ℤ, [], true, Bool, Option, refl, ap, ◌∙◌}
 use Rattle.fb_schema.specs.Schema.{Name}
 use Rattle.fb_text.specs.Texts.{are_named, bits_text}
-
-or_false : (some : Bool) → (some || false) ≡ some
-or_false true = refl
-or_false false = refl
+use Rattle.std.proofs.Math.Bool.{or-false}
 
 module _ (name : ℤ → Option Name) where
   pub none_named : (left bit : ℕ) → are_named name left bit 0 ≡ true
@@ -16,5 +13,5 @@ module _ (name : ℤ → Option Name) where
   pub none_written : (left bit : ℕ) (some : Bool) → bits_text name left bit 0 some ≡ []
   unfolding bits_text
   none_written zero bit some = refl
-  none_written (suc left) bit some = ap (bits_text name left (bit + bit) 0) (or_false some)
+  none_written (suc left) bit some = ap (bits_text name left (bit + bit) 0) (or-false some)
       ∙ none_written left (bit + bit) some

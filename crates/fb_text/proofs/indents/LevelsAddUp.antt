@@ -28,12 +28,15 @@ levels_long : (n : ℕ) → length (levels_blanks n) ≡ 2 * n
 levels_long zero = omega arith
 levels_long (suc n) = omega (arith, levels_long n, length-append (codes "  ") (levels_blanks n))
 
--- the front of the blanks of 32 levels
-pub blanks_front : (n : ℕ) → n ≤ 32 → take (2 * n) (levels_blanks 32) ≡ levels_blanks n
-blanks_front n few =
-    let whole : levels_blanks n ++ levels_blanks (32 - n) ≡ levels_blanks 32 =
-    levels_joined n (32 - n) 32 (omega arith) in
-    rw (← whole) (rw (← (levels_long n)) (take-append_seam (levels_blanks n) (levels_blanks (32 - n))))
+-- the front of the blanks of some levels, whatever follows them
+pub levels_front : (most n : ℕ) (tail : List ℕ) → n ≤ most
+    → take (2 * n) (levels_blanks most ++ tail) ≡ levels_blanks n
+levels_front most n tail few =
+    let more = levels_blanks (most - n) in
+    let whole : levels_blanks n ++ (more ++ tail) ≡ levels_blanks most ++ tail =
+    sym (append_assoc (levels_blanks n) more tail)
+    ∙ ap (λ (l : List ℕ). l ++ tail) (levels_joined n (most - n) most (omega arith)) in
+    rw (← whole) (rw (← (levels_long n)) (take-append_seam (levels_blanks n) (more ++ tail)))
 
 -- levels behind a line's blanks
 pub deeper_behind : (n : ℕ) (before : List ℕ) → deeper n (Some before) ≡ Some (before ++ levels_blanks n)

@@ -1,5 +1,5 @@
 -- In a well-made layout each field of a struct has its bytes for itself, and one at least.
-use Rattle.std.proofs.Common.{◌≡◌, ℕ, zero, suc, ◌+◌, ◌<◌, ◌≤◌, ◌⊎◌, inl, inr, List, [], ◌∷◌, length, map, slice_get}
+use Rattle.std.proofs.Common.{◌≡◌, ℕ, zero, suc, ◌+◌, ◌<◌, ◌≤◌, inl, inr, List, [], ◌∷◌, length, map, slice_get}
 use Rattle.std.proofs.Common.{slice_index, Some, IsTrue, refl, ap, ◌∙◌, arith}
 use Rattle.std.specs.Option.{option_map}
 use Rattle.std.proofs.lemmas.Option.{slice_get-map}
@@ -13,6 +13,7 @@ use Rattle.fb_layout.proofs.sizes.StructsAreDeclared.{struct_told, body_told}
 use Rattle.fb_layout.proofs.sizes.EachFieldTakesAByte.{struct_filled}
 use Rattle.fb_value.specs.Datum.{Parts}
 use Rattle.fb_text.specs.Nested.{HasByte, HasStruct}
+use Rattle.std.proofs.lemmas.Bool.{cases_lt}
 
 -- a field ends before the end, and before a later one begins
 field_behind : (L : LaidSchema) (p : ℕ) (kinds : List StoredKind) (os : List ℕ) (end k : ℕ) (kind : StoredKind)
@@ -63,11 +64,6 @@ field_there [] k less = absurd (omega (arith, less))
 field_there (f ∷ fs) zero less = (f, refl)
 field_there (f ∷ fs) (suc k) less = field_there fs k (omega (arith, less))
 
-lower : (i j : ℕ) → (i < j) ⊎ (j ≤ i)
-lower i zero = inr (omega arith)
-lower zero (suc j) = inl (omega arith)
-lower (suc i) (suc j) = elim (lower i j) [ inl h ↦ inl (omega (arith, h)) | inr h ↦ inr (omega (arith, h)) ]
-
 module _ (L : LaidSchema) (made : IsWellMade L) (t : TypeId) where
   -- where two fields stand
   in_order : (j k : ℕ) (f g : DeclaredField) → j < k → slice_get (parts_in (body_at L.schema t.0)) j ≡ Some f
@@ -83,7 +79,7 @@ module _ (L : LaidSchema) (made : IsWellMade L) (t : TypeId) where
   pub begins_before : (m k : ℕ) (f : DeclaredField) (byte : ℕ) → m < length (parts_in (body_at L.schema t.0))
       → slice_get (parts_in (body_at L.schema t.0)) k ≡ Some f → HasByte L t k f byte
       → slice_index (struct_at L t.0).offsets m ≤ byte → m ≤ k
-  begins_before m k f byte within at has begins = elim (lower k m) [
+  begins_before m k f byte within at has begins = elim (cases_lt k m) [
     | inl less ↦ absurd (let other = field_there (parts_in (body_at L.schema t.0)) m within in
         let order = in_order k m f other.0 less at other.1 in
         omega (arith, order, has.1, begins))
@@ -93,9 +89,9 @@ module _ (L : LaidSchema) (made : IsWellMade L) (t : TypeId) where
   pub begins_behind : (m k : ℕ) (f : DeclaredField) (byte : ℕ) → m < length (parts_in (body_at L.schema t.0))
       → slice_get (parts_in (body_at L.schema t.0)) k ≡ Some f → HasByte L t k f byte
       → byte < slice_index (struct_at L t.0).offsets m → k < m
-  begins_behind m k f byte within at has begins = elim (lower k m) [
+  begins_behind m k f byte within at has begins = elim (cases_lt k m) [
     | inl less ↦ less
-    | inr below ↦ absurd (elim (lower m k) [
+    | inr below ↦ absurd (elim (cases_lt m k) [
       | inl less ↦ (let other = field_there (parts_in (body_at L.schema t.0)) m within in
           let order = in_order m k other.0 f less other.1 at in
           omega (arith, order, has.0, begins))

@@ -39,6 +39,13 @@ pub named_whole : (at : Place) (d : Datum) → None ≡ first_unnamed at d → i
 named_whole at d e = let same : not (is_some (first_unnamed at d)) ≡ true = rw (← e) refl in
     rw (← unnamed_whole at d) same
 
+pub whole_named : (at : Place) (d : Datum) → is_whole d ≡ true → None ≡ first_unnamed at d
+whole_named at d whole = none (first_unnamed at d) (unnamed_whole at d ∙ whole)
+  where
+    none : (o : Option Place) → not (is_some o) ≡ true → None ≡ o
+    none None e = refl
+    none (Some p) e = cc
+
 pub unnamed_part : (at p : Place) (d : Datum) → Some p ≡ first_unnamed at d → is_whole d ≡ false
 unnamed_part at p d e = let same : not (is_some (first_unnamed at d)) ≡ false = rw (← e) refl in
     rw (← unnamed_whole at d) same

@@ -1,6 +1,6 @@
 -- The text of a struct in a struct, and of what stands behind it.
 use Rattle.std.proofs.Common.{◌≡◌, ℕ, suc, ◌++◌, ◌||◌, List, [], Bool, true, false, None, Some, slice_get}
-use Rattle.std.proofs.Common.{Option, is_some, refl, sym, ap, ◌∙◌, append_assoc}
+use Rattle.std.proofs.Common.{Option, is_some, sym, ap, ◌∙◌, append_assoc}
 use Rattle.std.specs.Prelude.{codes}
 use Rattle.fb_schema.specs.declared.kinds.TypeId.{TypeId}
 use Rattle.fb_schema.specs.declared.kinds.Shape.{Shape}
@@ -14,14 +14,8 @@ use Rattle.fb_text.specs.Printed.{part_text}
 use Rattle.fb_text.specs.Nested.{HasStruct, fields_text}
 use Rattle.fb_text.proofs.indents.LevelsAddUp.{inside_deeper}
 use Rattle.fb_text.proofs.values.OneMemberMore.{parts_step}
-
-or_false : (some : Bool) → (some || false) ≡ some
-or_false true = refl
-or_false false = refl
-
-or_true : (some : Bool) → (some || true) ≡ true
-or_true true = refl
-or_true false = refl
+use Rattle.std.proofs.Math.Bool.{or-true}
+use Rattle.std.proofs.Math.Bool.{or-false}
 
 module _ (L : LaidSchema) (defaults : Bool) (indent : Option (List ℕ)) (u : TypeId) (es : Parts) (depth k : ℕ)
     (some : Bool)
@@ -43,7 +37,7 @@ module _ (L : LaidSchema) (defaults : Bool) (indent : Option (List ℕ)) (u : Ty
       → nth_part es k ≡ None
       → fields_text L defaults indent u es depth (suc k) some ++ behind
       ≡ fields_text L defaults indent u es depth k some ++ behind
-  field_missing f there none = rw (none, or_false some) at (fields_next f there)
+  field_missing f there none = rw (none, or-false some) at (fields_next f there)
 
   -- a field's name and value, and the fields behind it
   pub field_first : (f : DeclaredField) → slice_get (parts_in (body_at L.schema u.0)) k ≡ Some f → (d : Datum)
@@ -56,7 +50,7 @@ module _ (L : LaidSchema) (defaults : Bool) (indent : Option (List ℕ)) (u : Ty
       let line = member_line (deeper (suc depth) indent) some f.name [] in
       let value = value_text L defaults (deeper (suc depth) indent) f.shape d in
       let tail = fields_text L defaults indent u es depth (suc k) true in
-      let whole = rw (is, or_true some) at (fields_next f there) in
+      let whole = rw (is, or-true some) at (fields_next f there) in
       sym (append_assoc line value (tail ++ behind)) ∙ whole
 
   -- the struct in a field: the field's name, the struct's fields, and the fields behind it

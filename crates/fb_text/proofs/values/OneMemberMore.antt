@@ -15,10 +15,8 @@ use Rattle.fb_read.specs.Tails.{entries_from, parts_from}
 use Rattle.fb_text.specs.Texts.{inside, closing, value_text, items_text, parts_text, members_text, line, member_line}
 use Rattle.fb_text.specs.Texts.{entry_text}
 use Rattle.fb_text.specs.Printed.{is_entry_printed, slot_text, part_text}
-
-or_false : (some : Bool) → (some || false) ≡ some
-or_false true = refl
-or_false false = refl
+use Rattle.std.proofs.Math.Bool.{or-true}
+use Rattle.std.proofs.Math.Bool.{or-false}
 
 field_there : (fs : List DeclaredField) (k : ℕ) → k < length fs → (f : DeclaredField) × (slice_get fs k ≡ Some f)
 field_there [] k less = absurd (omega (arith, less))
@@ -51,11 +49,11 @@ module _ (L : LaidSchema) (defaults : Bool) (inner indent : Option (List ℕ)) w
       (some || is_entry_printed defaults f (nth_entry es k)) (drop (suc k) fs) (entries_from (suc k) es)
       ≡ members_text L defaults inner indent some (drop k fs) (entries_from k es)
   members_step some [] es k f e = cc
-  members_step some (g ∷ fs) no_entries zero f e = rw (or_false some) (members_none some fs)
-  members_step some (g ∷ fs) (absent_entry es) zero f e = rw (or_false some) refl
+  members_step some (g ∷ fs) no_entries zero f e = rw (or-false some) (members_none some fs)
+  members_step some (g ∷ fs) (absent_entry es) zero f e = rw (or-false some) refl
   members_step some (g ∷ fs) (present_entry d es) zero f e = let is : g ≡ f = cc in rw (← is) refl
   members_step some (g ∷ fs) no_entries (suc k) f e =
-      rw (or_false some) (members_none some (drop (suc k) fs) ∙ sym (members_none some (drop k fs)))
+      rw (or-false some) (members_none some (drop (suc k) fs) ∙ sym (members_none some (drop k fs)))
   members_step some (g ∷ fs) (absent_entry es) (suc k) f e = members_step some fs es k f e
   members_step some (g ∷ fs) (present_entry d es) (suc k) f e = members_step some fs es k f e
 
@@ -74,7 +72,7 @@ module _ (L : LaidSchema) (defaults : Bool) (inner indent : Option (List ℕ)) w
       let rest = members_behind some fs es zero (λ j g past there. none (suc j) g (omega arith) there) in
       subst (λ (p : Bool). closing indent some ++ codes "}" ≡ entry_text L.schema p inner some f.name f.shape d
       (value_text L defaults inner f.shape d) ++ members_text L defaults inner indent (some || p) fs es) (sym plain)
-      (rw (or_false some) rest)
+      (rw (or-false some) rest)
   members_behind some (f ∷ fs) (absent_entry es) (suc k) none =
       members_behind some fs es k (λ j g past there. none (suc j) g (omega (arith, past)) there)
   members_behind some (f ∷ fs) (present_entry d es) (suc k) none =
@@ -84,9 +82,9 @@ module _ (L : LaidSchema) (defaults : Bool) (inner indent : Option (List ℕ)) w
       → is_entry_printed defaults f o ≡ false → members_text L defaults inner indent some fs es
       ≡ slot_text L defaults inner some f o ++ members_text L defaults inner indent
       (some || is_entry_printed defaults f o) fs es
-  unprinted_text some f None fs es plain = rw (or_false some) refl
+  unprinted_text some f None fs es plain = rw (or-false some) refl
   unprinted_text some f (Some d) fs es plain =
-      rw plain (rw (or_false some) refl)
+      rw plain (rw (or-false some) refl)
 
   -- slots that aren't printed, passed by
   pub members_skip : (some : Bool) (fs : List DeclaredField) (es : SlotEntries) (n k j : ℕ) → k + n ≡ j
@@ -114,10 +112,6 @@ module _ (L : LaidSchema) (defaults : Bool) (inner indent : Option (List ℕ)) w
   parts_past some no_parts = refl
   parts_past some (more_parts d ds) = refl
 
-  or_true : (some : Bool) → (some || true) ≡ true
-  or_true true = refl
-  or_true false = refl
-
   -- field k, and those behind it
   pub parts_step : (some : Bool) (fs : List DeclaredField) (ds : Parts) (k : ℕ) (f : DeclaredField)
       → slice_get fs k ≡ Some f
@@ -125,13 +119,13 @@ module _ (L : LaidSchema) (defaults : Bool) (inner indent : Option (List ℕ)) w
       (some || is_some (nth_part ds k)) (drop (suc k) fs) (parts_from (suc k) ds)
       ≡ parts_text L defaults inner indent some (drop k fs) (parts_from k ds)
   parts_step some [] ds k f e = cc
-  parts_step some (g ∷ fs) no_parts zero f e = rw (or_false some) (parts_none some fs)
+  parts_step some (g ∷ fs) no_parts zero f e = rw (or-false some) (parts_none some fs)
   parts_step some (g ∷ fs) (more_parts d ds) zero f e = let is : g ≡ f = cc in
-      rw (← is, or_true some)
+      rw (← is, or-true some)
       (append_assoc (member_line inner some g.name []) (value_text L defaults inner g.shape d)
       (parts_text L defaults inner indent true fs ds))
   parts_step some (g ∷ fs) no_parts (suc k) f e =
-      rw (or_false some) (parts_none some (drop (suc k) fs) ∙ sym (parts_none some (drop k fs)))
+      rw (or-false some) (parts_none some (drop (suc k) fs) ∙ sym (parts_none some (drop k fs)))
   parts_step some (g ∷ fs) (more_parts d ds) (suc k) f e = parts_step some fs ds k f e
 
   pub parts_end : (some : Bool) (fs : List DeclaredField) (ds : Parts) (k : ℕ) → length fs ≤ k

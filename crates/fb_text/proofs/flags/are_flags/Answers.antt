@@ -14,4 +14,4 @@ returns-then-number-gt0 c =
     let above : pos 0 <ℤ number = search rules in
     let bits = rw (to_z-of_z w128 number c.ranges.number) at c.bits_of.ensures in
     rw (some_bits number above)
-    (c.are_named.ensures ∙ (ap (are_named name 64 1) bits ∙ low_named name 64 1 (bits_of number)))
+    (c.have_names.ensures ∙ (ap (are_named name 64 1) bits ∙ low_named name 64 1 (bits_of number)))

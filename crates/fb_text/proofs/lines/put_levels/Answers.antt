@@ -1,6 +1,6 @@
-use Rattle.std.proofs.Common.{◌≡◌, ◌+◌, ◌-◌, ◌≤◌, arith}
+use Rattle.std.proofs.Common.{◌≡◌, ◌+◌, ◌-◌, ◌≤◌, [], arith}
 use Rattle.fb_text.proofs.noted.PiecesAddUp.{then, added_as}
-use Rattle.fb_text.proofs.indents.LevelsAddUp.{levels_joined, blanks_front}
+use Rattle.fb_text.proofs.indents.LevelsAddUp.{levels_joined, levels_front}
 use Rattle.fb_text.proofs.lines.put_levels.Goals as goal
 
 pub loop-left-preserved : goal.loop-left-preserved
@@ -12,4 +12,4 @@ loop-left-preserved g c end rest =
 pub returns : goal.returns
 returns g c =
     let few : c.loop-left.left ≤ 32 = omega (arith, c.loop-left-test.false) in
-    c.loop-left.invariant _ (added_as (blanks_front c.loop-left.left few) c.put-2.ensures)
+    c.loop-left.invariant _ (added_as (levels_front 32 c.loop-left.left [] few) c.put-2.ensures)

@@ -198,6 +198,11 @@ put_found-returns-in-Member g t c d shows found =
     rw same (c.put_value.ensures top.0
     (c.child.ensures.shows L (Some (a_member c.in-Member.field-0 top.0)) (rw same at shows)))
 
+pub put_vector-returns-in-Some : goal.put_vector-returns-in-Some
+put_vector-returns-in-Some g t c ds lies =
+    let are = c.in-Some.ensures c.args.style.layout.now ds lies in
+    then c.put_str.ensures (c.put_numbers.ensures c.args.style.defaults ds are)
+
 pub put_vector-returns-then-failed : goal.put_vector-returns-then-failed
 put_vector-returns-then-failed g t c ds lies =
     let left = added_failed _ _ (sym c.failed.ensures ∙ c.if-failed.true) in

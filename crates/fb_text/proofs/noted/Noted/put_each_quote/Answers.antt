@@ -1,5 +1,0 @@
-use Rattle.fb_text.proofs.noted.PiecesAddUp.{added_then}
-use Rattle.fb_text.proofs.noted.Noted.put_each_quote.Goals as goal
-
-pub returns : goal.returns
-returns g c = added_then _ _ _ _ _ c.put.ensures (added_then _ _ _ _ _ c.put_str.ensures c.put-2.ensures)
