@@ -47,7 +47,7 @@ pub swapped_row : IsMoved (called_by (0x68 ∷ 0x6d ∷ [])) (called_by (0x6d �
 swapped_row =
     record { name = 0x6d ∷ []; type = 0; slot = 0; twins = refl; old = refl; new = refl; moved = λ e. omega (arith, e) }
 
--- h is removed, and s added behind m
+-- h is removed, and s added after m
 pub removed_row : IsMoved (called_by (0x68 ∷ 0x6d ∷ [])) (called_by (0x6d ∷ 0x73 ∷ [])) (moved 0 1)
 removed_row =
     record { name = 0x6d ∷ []; type = 0; slot = 0; twins = refl; old = refl; new = refl; moved = λ e. omega (arith, e) }

@@ -146,7 +146,7 @@ nested fs = of_types 1
     (called 0x41 (table_body fs) ∷ called 0x54
     (table_body (field 0 (One (Table (id 0))) ∷ field 1 (Many (Table (id 0))) ∷ [])) ∷ [])
 
--- the same, A declared behind T
+-- the same, A declared after T
 abbrev pub nested_behind : List DeclaredField → LaidSchema
 nested_behind fs = of_types 0
     (called 0x54 (table_body (field 0 (One (Table (id 1))) ∷ field 1 (Many (Table (id 1))) ∷ [])) ∷ called 0x41

@@ -52,7 +52,8 @@ fn walk_fields<H: Hearer>(
     requires slot { TableSlot old.now.schema new.now.schema at.type_id.0 at.slot
         (Some (field_seen was.now)) (Some (field_seen is.now)) }
     requires before { Lists old.now new.now H.wants (IsOfSlotsBelow at.type_id.0 at.slot) (H.heard hearer.old) }
-    ensures { Walks old.now new.now H.wants H.stops (IsOfSlotsBelow at.type_id.0 (at.slot + 1)) (H.heard hearer.new) result }
+    ensures { Walks old.now new.now H.wants H.stops (IsOfSlotsBelow at.type_id.0 (at.slot + 1))
+        (H.heard hearer.new) result }
 {
     let OldSlot { type_id, slot } = at;
     let shape = same_type(old, new, was, is);
@@ -81,7 +82,8 @@ fn walk_slot<H: Hearer>(
     requires slot { TableSlot old.now.schema new.now.schema at.type_id.0 at.slot
         (option_map field_seen (option_copied was)) (option_map field_seen (option_copied is)) }
     requires before { Lists old.now new.now H.wants (IsOfSlotsBelow at.type_id.0 at.slot) (H.heard hearer.old) }
-    ensures { Walks old.now new.now H.wants H.stops (IsOfSlotsBelow at.type_id.0 (at.slot + 1)) (H.heard hearer.new) result }
+    ensures { Walks old.now new.now H.wants H.stops (IsOfSlotsBelow at.type_id.0 (at.slot + 1))
+        (H.heard hearer.new) result }
 {
     let OldSlot { type_id, slot } = at;
     match (was, is) {

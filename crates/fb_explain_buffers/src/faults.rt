@@ -10,7 +10,7 @@ use fb_explain_schemas::{FileKind, kind_of_file};
 use fb_faults::ToolFault;
 use fb_findings::{Excerpt, Finding, Note, Sources};
 use fb_layout::Layout;
-use fb_read::{Entries, Step, fault_path};
+use fb_read::{Entries, Framing, Step, fault_path};
 use fb_value::{Limits, ReadFault, front_of};
 use std::alloc::{AllocError, Global};
 
@@ -182,13 +182,16 @@ fn steps_to(
     layout: &Layout,
     sources: &Sources<'_>,
 ) -> Result<Option<Vec<Step>>, AllocError> {
+    let framing = Framing {
+        raw: sources.raw_binary,
+        prefixed: sources.size_prefixed,
+    };
     fault_path(
         alloc,
         layout,
         sources.input.bytes,
         sources.limits,
-        sources.raw_binary,
-        sources.size_prefixed,
+        framing,
         &mut Entries::new(),
     )
 }

@@ -1,4 +1,4 @@
-//! The count in front of a buffer: what is wrong with it, and whether there is one.
+//! A buffer's size prefix: what is wrong with it, and whether there is one.
 use fb_findings::{Note, Sources};
 use fb_layout::Layout;
 use fb_read::{Entries, split_prefixed, verify_framed};

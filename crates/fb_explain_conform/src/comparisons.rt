@@ -37,7 +37,8 @@ fn places_in(alloc: Global, text: &[u8], schema: &Schema) -> Result<Places, Allo
 impl<'s> Known<'s> {
     /// What a text declares; nothing where it is refused.
     fn of(alloc: Global, source: Source<'s>) -> Result<Option<Known<'s>>, AllocError>
-        ensures accepted { IfOk result (λ found. IfSome found (λ known. IsAccepted source.entry.bytes.now known.layout)) }
+        ensures accepted { IfOk result (λ found. IfSome found (λ known.
+            IsAccepted source.entry.bytes.now known.layout)) }
         ensures refused { IfOk result (λ found. found ≡ None
             → (L : LaidSchema) → ¬ (IsAccepted source.entry.bytes.now L)) }
     {
@@ -179,8 +180,8 @@ impl<'s> Compared<'s> {
     }
 }
 
-/// Every breach of a new schema with the old one, in the order in which `conform` looks for the first; none where a text
-/// is refused.
+/// Every breach of a new schema with the old one, in the order in which `conform` looks for the first; none where a
+/// text is refused.
 pub fn breach_findings<'s>(
     alloc: Global,
     old: Source<'s>,

@@ -1,9 +1,7 @@
 //! Where a text stops being JSON, and why.
 use crate::tokens::{Flaw, number_end, sentence_of, string_end, word_end};
 use fb_findings::front_len;
-
-// No text is JSON whose brackets are nested deeper.
-const DEEPEST: usize = 127;
+use fb_pieces::MOST_BRACKETS;
 
 /// What may come next in a text.
 #[derive(Clone, Copy)]
@@ -24,7 +22,7 @@ enum Next {
 /// The brackets that are open.
 #[derive(Clone, Copy)]
 struct Brackets {
-    depth: usize,
+    depth: u8,
     /// A bit for each, the lowest for the innermost: 1 of an object.
     objects: u128,
 }
@@ -116,7 +114,7 @@ impl Scan {
     }
 
     fn opened(self, is_object: bool, next: Next) -> Result<Scan, Flaw> {
-        if self.open.depth >= DEEPEST {
+        if self.open.depth >= MOST_BRACKETS {
             return self.refused("objects and arrays are nested deeper than 127");
         }
         Scan {

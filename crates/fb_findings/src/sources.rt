@@ -31,7 +31,7 @@ pub struct Sources<'a> {
     pub unknown_json: bool,
     /// Whether the file identifier check is skipped.
     pub raw_binary: bool,
-    /// Whether the count of the buffer's bytes is in front of it.
+    /// Whether the buffer has a size prefix.
     pub size_prefixed: bool,
     /// The file that can't be read or written, or standard output.
     pub failure: Option<FileFailure<'a>>,

@@ -25,7 +25,7 @@ fn push_gap(pieces: &mut Vec<Piece>, start: u32, end: u32) -> Result<(), AllocEr
     Ok(())
 }
 
-/// Adds a piece behind others that have each byte before it; returns up to where they have each byte then.
+/// Adds a piece after others that have each byte before it; returns up to where they have each byte then.
 fn push_piece(pieces: &mut Vec<Piece>, covered: u32, piece: Piece) -> Result<u32, AllocError>
     requires before { IsListedTo pieces.old.items covered }
     requires begun { BeginBy piece.start pieces.old.items }

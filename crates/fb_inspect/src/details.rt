@@ -123,7 +123,7 @@ fn push_struct(page: &mut Page, scene: Scene<'_>, structure: TypeId, at: usize, 
     }
 }
 
-/// Adds the line of a struct's next field, or opens it where it is a struct. Behind the last one nothing is left open.
+/// Adds the line of a struct's next field, or opens it where it is a struct. After the last one nothing is left open.
 fn push_struct_field(
     page: &mut Page,
     scene: Scene<'_>,

@@ -88,7 +88,7 @@ fn collect<'a>(
         Err(fault) => return (notes, Some(fault)),
     };
     let lister = Lister::new(alloc, buffer, notes);
-    let (lister, visited) = visit_buffer(&buffer, lister, prefixed, &mut Entries::new());
+    let (lister, visited, _whole) = visit_buffer(&buffer, lister, prefixed, &mut Entries::new());
     let mut notes = lister.into_notes();
     notes.is_walked = true;
     match visited {
@@ -150,7 +150,7 @@ impl<'a> Listing<'a> {
 
     /// The listing of a buffer, up to its fault if it has one.
     ///
-    /// `raw` skips the file identifier check, and a `prefixed` buffer has the count of its bytes in front. It
+    /// `raw` skips the file identifier check, and a `prefixed` buffer has a size prefix. It
     /// allocates a list of the parts, each with its fields, and fails where memory runs out.
     pub fn of(
         alloc: Global,

@@ -80,7 +80,7 @@ impl<'a> Notes<'a> {
         }
     }
 
-    /// Notes that the walk comes to a part behind the reference at a position. Returns the number of what is known
+    /// Notes that the walk comes to the part of the reference at a position. Returns the number of what is known
     /// of its visit.
     pub(crate) fn come_to(&mut self, part: Part, reference_at: usize, at: usize) -> Option<usize>
         requires { at < 2 ^ 33 }

@@ -2,7 +2,7 @@
 use crate::pieces::Piece;
 use fb_explain_pages::Page;
 
-// How many bytes of a range are shown, and how many columns each takes with the space behind it.
+// How many bytes of a range are shown, and how many columns each takes with the space after it.
 const SHOWN: usize = 8;
 
 const CELL: usize = 3;

@@ -19,7 +19,7 @@ pub(crate) struct Scene<'s> {
     pub nodes: &'s Nodes,
 }
 
-/// Adds a step: a field's name behind a dot, or a number in brackets.
+/// Adds a step: a field's name after a dot, or a number in brackets.
 fn put_step(path: &mut String, layout: &Layout, step: Step) -> Result<(), AllocError> {
     match step {
         Step::Reference => {}

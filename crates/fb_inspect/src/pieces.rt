@@ -21,7 +21,7 @@ pub(crate) enum What {
     UnknownField(u16),
     /// How many bytes a string has, or how many elements a vector.
     Length,
-    /// A string's bytes with the zero behind them, or a vector's elements.
+    /// A string's bytes with the zero after them, or a vector's elements.
     Content,
     /// Bytes that nothing refers to.
     Gap,

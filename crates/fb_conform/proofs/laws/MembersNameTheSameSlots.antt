@@ -1,22 +1,18 @@
 -- The members of an object, each of which has the name of a field in use of both versions of a type.
 use Rattle.std.proofs.Common.{◌≡◌, ℕ, not, Bool, true, false, Option, None, Some, slice_get, Ordering}
 use Rattle.std.proofs.Common.{Less, Equal, Greater, nat_cmp, refl, sym, ap, ◌∙◌}
-use Rattle.std.specs.Ordering.{match_ordering, is_eq}
+use Rattle.std.specs.Ordering.{match_ordering}
 use Rattle.std.specs.Cmp.Lexicographic.{slice_cmp}
 use Rattle.std.proofs.lemmas.Bool.{and_parts}
-use Rattle.std.proofs.lemmas.Map.Text.{is_eq-slice_cmp}
-use Rattle.std.proofs.lemmas.Slice.Eq.{bytes_eq-Decides}
 use Rattle.serde_json.specs.Data.{Data, Members, no_members, member}
 use Rattle.serde_json.specs.Find.{get_member}
 use Rattle.fb_schema.specs.Schema.{Name, DeclaredField, DeclaredBody, DeclaredSchema}
 use Rattle.fb_schema.specs.Found.{fields_in, field_named}
 use Rattle.fb_schema.specs.WellDeclared.{IsBody}
 use Rattle.fb_json.specs.Meant.{is_used, names_known}
+use Rattle.fb_json.proofs.slots.NamedSlotIsFound.{same_bytes}
 use Rattle.fb_conform.specs.Names.{slot_named}
 use Rattle.fb_conform.proofs.names.NamesHaveOneSlot.{field_slot, slot_of_field, field_at}
-
-same_bytes : (a b : Name) → slice_cmp nat_cmp a b ≡ Equal → a ≡ b
-same_bytes a b e = (bytes_eq-Decides a b).0 (sym (is_eq-slice_cmp a b) ∙ ap is_eq e)
 
 -- a member's name is that of a field in use
 pub known_field : (body : DeclaredBody) (name : Name) (t : Data) (ms : Members) → names_known body ms ≡ true

@@ -15,7 +15,7 @@ use Rattle.fb_schema.specs.Schema.{DeclaredSchema, body_at, values_in}
 use Rattle.fb_schema.specs.Found.{number_named}
 use Rattle.fb_schema.specs.WellDeclared.{IsBody, IsDeclared}
 use Rattle.fb_conform.proofs.laws.EachBodyIsDeclared.{is_body}
-use Rattle.fb_conform.proofs.twins.TypesAreFoundByTheirNames.{test_false}
+use Rattle.std.proofs.lemmas.Bool.{false_from_ne_true}
 
 -- the names differ
 names_differ : (S : DeclaredSchema) (t : ℕ) (body : DeclaredBody) → IsBody S t body
@@ -67,7 +67,7 @@ there_found values pairs n name there =
     let here : bytes_eq name (get_or values k v).0 ≡ true =
     (bytes_eq-Decides name (get_or values k v).0).1 (sym (ap (λ x. x.0) at)) in
     let before : (j : ℕ) → j < k → bytes_eq name (get_or values j v).0 ≡ false =
-    λ j less. test_false (bytes_eq name (get_or values j v).0)
+    λ j less. false_from_ne_true (bytes_eq name (get_or values j v).0)
     (λ e. pairs j k v less there.1 (sym ((bytes_eq-Decides name (get_or values j v).0).0 e)
     ∙ sym (ap (λ x. x.0) at)))
     in

@@ -12,6 +12,7 @@ use Rattle.fb_schema.specs.Schema.{Name, table_body, DeclaredType, DeclaredSchem
 use Rattle.fb_schema.specs.Found.{type_named, name_at}
 use Rattle.fb_schema.specs.WellDeclared.{IsDeclared}
 use Rattle.fb_conform.specs.Twins.{SameName, twin, Twins}
+use Rattle.std.proofs.lemmas.Bool.{false_from_ne_true}
 
 pub blank : DeclaredType
 blank = record { name = []; body = table_body [] }
@@ -19,10 +20,6 @@ blank = record { name = []; body = table_body [] }
 if_some : (c : Bool) (m n : ℕ) → cond c (Some m) None ≡ Some n → (c ≡ true) × (m ≡ n)
 if_some true m n e = (refl, cc)
 if_some false m n e = cc
-
-pub test_false : (b : Bool) → (b ≡ true → ⊥) → b ≡ false
-test_false true never = absurd (never refl)
-test_false false never = refl
 
 -- a type that is there has a name
 name_there : (S : DeclaredSchema) (t : ℕ) → t < length S.types → name_at S t ≡ Some (get_or S.types t blank).name
@@ -59,7 +56,7 @@ name_finds S declared t within =
     let test : DeclaredType → Bool = λ x. bytes_eq name x.name in
     let here : test (get_or S.types t blank) ≡ true = (bytes_eq-Decides name name).1 refl in
     let before : (k : ℕ) → k < t → test (get_or S.types k blank) ≡ false =
-    λ k less. test_false (test (get_or S.types k blank))
+    λ k less. false_from_ne_true (test (get_or S.types k blank))
     (λ e. declared.names k t blank less within (sym ((bytes_eq-Decides name (get_or S.types k blank).name).0 e)))
     in
     let first : position_or_len test S.types ≡ t = position_or_len_is test S.types t blank (omega arith) before

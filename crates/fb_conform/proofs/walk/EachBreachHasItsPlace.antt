@@ -101,7 +101,8 @@ pub of_slot : (P : Breach → Type 0) (t k : ℕ) → OfSlot P t k → (r : Brea
 of_slot P t k all (SlotGone v j) e i = let same : j ≡ k = omega (arith, i) in rw (same_id v t e, same) all.gone
 of_slot P t k all (FieldTypeChanged v j) e i = let same : j ≡ k = omega (arith, i) in rw (same_id v t e, same) all.shape
 of_slot P t k all (DefaultChanged v j) e i = let same : j ≡ k = omega (arith, i) in rw (same_id v t e, same) all.default
-of_slot P t k all (RequiredChanged v j) e i = let same : j ≡ k = omega (arith, i) in rw (same_id v t e, same) all.required
+of_slot P t k all (RequiredChanged v j) e i = let same : j ≡ k = omega (arith, i) in rw (same_id v t e, same)
+    all.required
 of_slot P t k all (DeprecatedTakenBack v j) e i =
     let same : j ≡ k = omega (arith, i) in rw (same_id v t e, same) all.deprecated
 of_slot P t k all (NewRequired v j) e i = let same : j ≡ k = omega (arith, i) in rw (same_id v t e, same) all.new

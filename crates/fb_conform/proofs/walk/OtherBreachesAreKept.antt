@@ -13,6 +13,7 @@ use Rattle.fb_conform.specs.ByName.{SameFields}
 use Rattle.fb_conform.specs.Conforms.{SameKind, SameStruct, KeepsValues, KeepsMembers, is_required, Kept, Stands}
 use Rattle.fb_conform.specs.Order.{type_place, slot_place}
 use Rattle.fb_conform.specs.Twins.{twin, Twins, SlotTwins, TableSlot}
+use Rattle.fb_conform.proofs.laws.BodiesOfOneKindAgree.{has_slot}
 use Rattle.fb_conform.proofs.walk.EachBreachHasItsPlace.{id, OfSlot, of_type, of_slot, in_type}
 use Rattle.fb_conform.proofs.twins.TypesAreFoundByTheirNames.{one_twin}
 
@@ -56,10 +57,6 @@ not_tables _ _ more one two = cc
 pub tables_own : (x y : DeclaredBody) → IsTrue (is_table x) → IsTrue (is_table y) → own_number x y ≡ 0
 tables_own (table_body fs) (table_body gs) one two = refl
 tables_own _ _ one two = cc
-
-has_slot : (x : DeclaredBody) (k : ℕ) (f : DeclaredField) → slice_get (slots_in x) k ≡ Some f → IsTrue (is_table x)
-has_slot (table_body fs) k f at = refl
-has_slot _ k f at = cc
 
 pub enum_decides : (kept : Bool) (x y : DeclaredBody) (b c : Base) (flags marks : Bool)
     (values others : List (Name × ℤ)) → x ≡ enum_body b flags values → y ≡ enum_body c marks others

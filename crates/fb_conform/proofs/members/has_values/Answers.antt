@@ -31,8 +31,8 @@ loop-value-preserved c =
     (slice_get_read xs (length xs) i c.value-item.result refl c.loop-value-test.true c.value-item.is) in
     let told : Contains (values_in (body_at c.args.layout.now.schema c.args.enumeration.0)) (string_bytes x.0, x.1) =
     c.if-not-has_value.ensures.0 refl in
-    there_more (values_in (body_at c.args.layout.now.schema c.args.enumeration.0)) (map (λ v. (string_bytes v.0, v.1)) xs) i
-    (string_bytes x.0, x.1) at told c.loop-value.invariant
+    there_more (values_in (body_at c.args.layout.now.schema c.args.enumeration.0))
+    (map (λ v. (string_bytes v.0, v.1)) xs) i (string_bytes x.0, x.1) at told c.loop-value.invariant
 
 pub returns : goal.returns
 returns c =

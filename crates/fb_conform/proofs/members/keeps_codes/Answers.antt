@@ -16,7 +16,8 @@ returns-then-not-keeps_code c =
     (slice_get_read xs (length xs) c.loop-i.i m refl c.loop-i-test.true c.index-members-i.is) in (
       λ (e : false ≡ true). cc,
       λ kept. c.if-not-keeps_code.ensures.1
-          (kept_each c.args.old.now.schema c.args.new.now.schema _ (body_at c.args.new.now.schema c.args.union.0) c.loop-i.i _ at kept),
+          (kept_each c.args.old.now.schema c.args.new.now.schema _ (body_at c.args.new.now.schema c.args.union.0)
+          c.loop-i.i _ at kept),
     )
 
 pub loop-i-preserved : goal.loop-i-preserved
@@ -28,13 +29,15 @@ loop-i-preserved c =
     ∙ ap (option_map (λ m. (string_bytes m.0, m.1.0)))
     (slice_get_read xs (length xs) c.loop-i.i m refl c.loop-i-test.true c.index-members-i.is) in
     kept_more c.args.old.now.schema c.args.new.now.schema (map (λ m. (string_bytes m.0, m.1.0)) xs)
-    (body_at c.args.new.now.schema c.args.union.0) c.loop-i.i _ at (c.if-not-keeps_code.ensures.0 refl) c.loop-i.invariant
+    (body_at c.args.new.now.schema c.args.union.0) c.loop-i.i _ at (c.if-not-keeps_code.ensures.0 refl)
+    c.loop-i.invariant
 
 pub returns : goal.returns
 returns c =
     let xs = c.args.members.now in
     let long : length {A = Name × ℕ} (map (λ m. (string_bytes m.0, m.1.0)) xs) ≡ length xs = length-map xs _ in (
-      λ (e : true ≡ true). kept_all c.args.old.now.schema c.args.new.now.schema (map (λ m. (string_bytes m.0, m.1.0)) xs)
+      λ (e : true ≡ true). kept_all c.args.old.now.schema c.args.new.now.schema
+          (map (λ m. (string_bytes m.0, m.1.0)) xs)
           (body_at c.args.new.now.schema c.args.union.0) c.loop-i.i (omega (arith, long, c.loop-i-test.false))
           c.loop-i.invariant,
       λ kept. refl,

@@ -4,5 +4,5 @@ use Rattle.fb_conform.proofs.members.OneMemberMore.{CodesKept}
 use Rattle.fb_conform.proofs.members.keeps_codes.Given as goal
 
 abbrev pub invariant-loop-i : goal.invariant-loop-i
-invariant-loop-i l = CodesKept l.old.schema l.new.schema (map (λ m. (string_bytes m.0, m.1.0)) l.members) (body_at l.new.schema l.union.0)
-    l.i
+invariant-loop-i l = CodesKept l.old.schema l.new.schema (map (λ m. (string_bytes m.0, m.1.0)) l.members)
+    (body_at l.new.schema l.union.0) l.i

@@ -24,7 +24,8 @@ pub returns-then-not-same_shape : goal.returns-then-not-same_shape
 returns-then-not-same_shape c =
     let S = c.args.old.now in
     let T = c.args.new.now in
-    let was = slice_get-map field_seen c.args.was.now c.loop-i.i ∙ ap (option_map field_seen) (slice_get_read c.args.was.now
+    let was = slice_get-map field_seen c.args.was.now c.loop-i.i ∙ ap (option_map field_seen)
+    (slice_get_read c.args.was.now
     (length c.args.was.now) c.loop-i.i c.index-was-i.result refl c.loop-i-test.true c.index-was-i.is) in
     let is = at c.args.is.now c.loop-i.i c.index-is-i.result (omega arith) in
     (λ (e : false ≡ true). cc, λ same. c.if-not-same_shape.ensures.1 (same_there S T _ _ c.loop-i.i _ _ was is same))
@@ -33,7 +34,8 @@ pub loop-i-preserved : goal.loop-i-preserved
 loop-i-preserved c =
     let S = c.args.old.now in
     let T = c.args.new.now in
-    let was = slice_get-map field_seen c.args.was.now c.loop-i.i ∙ ap (option_map field_seen) (slice_get_read c.args.was.now
+    let was = slice_get-map field_seen c.args.was.now c.loop-i.i ∙ ap (option_map field_seen)
+    (slice_get_read c.args.was.now
     (length c.args.was.now) c.loop-i.i c.index-was-i.result refl c.loop-i-test.true c.index-was-i.is) in
     let is = at c.args.is.now c.loop-i.i c.index-is-i.result (omega arith) in
     same_more S T (map field_seen c.args.was.now) (map field_seen c.args.is.now) c.loop-i.i _ _ was is

@@ -32,8 +32,8 @@ returns-in-None-Some g c =
     let f = field_seen c.in-None-Some.is'.now in
     let slot : TableSlot A.schema B.schema t k None (Some f) = search rules in
     let plain : IsTrue (not c.is_required-plain.result) ↔ (is_required f ≡ false) = search rules in
-    slot_walked A B wants _ t _ _ c.report_unless.result k None (Some f) slot (NewRequired c.args.at.type_id k) refl refl
-    (λ n other. other) c.requires.before
+    slot_walked A B wants _ t _ _ c.report_unless.result k None (Some f) slot (NewRequired c.args.at.type_id k) refl
+    refl (λ n other. other) c.requires.before
     (c.report_unless.ensures A B (new_decides A B t k (not c.is_required-plain.result) f slot plain))
 
 pub returns-in-None-None : goal.returns-in-None-None

@@ -18,9 +18,10 @@ returns-in_ok-breaches-in-Some c =
     c.in_ok-both.ensures.accepted in
     let listed = c.in_ok-breaches-in-Some.ensures in
     record {
-      all = breaches_listed (λ list. map (λ f. f.fault) list.items) c.breach_findings.result c.text_has_one_layout.ensures old new
-          c.in-Some.both.old.layout c.in-Some.both.new.layout c.in_ok-breaches-in-Some.breaches.items accepted.0 accepted.1
-          listed.all listed.order
+      all = breaches_listed (λ list. map (λ f. f.fault) list.items) c.breach_findings.result
+          c.text_has_one_layout.ensures old new
+          c.in-Some.both.old.layout c.in-Some.both.new.layout c.in_ok-breaches-in-Some.breaches.items accepted.0
+          accepted.1 listed.all listed.order
           (subst
           (λ xs. IfOk c.breach_findings.result (λ list. map (λ f. f.fault) list.items ≡ map the_faults.Breach xs))
           c.as_slice.ensures.value c.breach_findings.ensures);

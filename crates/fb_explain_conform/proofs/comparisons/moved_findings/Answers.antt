@@ -18,7 +18,8 @@ returns-in_ok-names-in-Some c =
     c.in_ok-both.ensures.accepted in
     let listed = c.in_ok-names-in-Some.ensures in
     record {
-      all = moved_listed (λ list. map (λ f. f.fault) list.items) c.moved_findings.result c.text_has_one_layout.ensures old new
+      all = moved_listed (λ list. map (λ f. f.fault) list.items) c.moved_findings.result c.text_has_one_layout.ensures
+          old new
           c.in-Some.both.old.layout c.in-Some.both.new.layout c.in_ok-names-in-Some.names.items accepted.0 accepted.1
           listed.all listed.order
           (subst

@@ -1,0 +1,2 @@
+mod RecordsGoOn
+mod ObjectsEnd

@@ -1,0 +1,4 @@
+pub mod Places
+pub mod Streams
+pub mod Records
+pub mod Objects
