@@ -1,5 +1,5 @@
 //! One schema, many messages: the first line of the input is a schema text, the second its next
-//! version, and each line behind them a JSON text, which becomes a buffer, is verified, read in place,
+//! version, and each line after them a JSON text, which becomes a buffer, is verified, read in place,
 //! and printed as JSON again. Then it is read as a value, which is laid again, and carried to the next
 //! version.
 #![tactic(auto)]

@@ -1,15 +1,15 @@
 //! A task over many files, each for itself, under one schema.
-use crate::explained::explain_refusal;
+use crate::explained::{Refusal, refuse};
 use crate::faults::{Buffer, read_fault, write_fault};
-use crate::flags::Flags;
-use crate::{encoded, layout_of, tell, verified};
+use crate::{layout_of, tell};
 use clap::Error;
 use clap::error::ErrorKind;
-use flatc_cli::usage_error;
+use fb_explain_records::push_escaped;
+use flatc_cli::{ErrorFormat, Task, Verb, usage_error};
 use flatc_files::{
-    Batch, Content, Form, Misuse, Progress, Reasoned, RunStatus, Target, Task, Texts, directory_of,
-    targets_of, write_file,
+    Content, Misuse, Progress, Reasoned, RunStatus, Target, Texts, targets_of, write_file,
 };
+use flatc_jobs::{Flags, encoded, end_of, verified};
 use flatc_tool::{DecodeOptions, Layout, Noted, ToolFault, decode_to};
 use std::alloc::AllocError;
 use std::fs;
@@ -45,24 +45,18 @@ impl Content for Printed<'_> {
     }
 }
 
-/// A batch, and the form of its buffers and JSON texts.
+/// A task, and the files that it is done at.
 #[derive(Clone, Copy)]
-struct FormedBatch<'j> {
-    batch: &'j Batch,
-    form: Form,
+struct Batch<'j> {
+    task: &'j Task,
+    files: &'j [String],
 }
 
-impl FormedBatch<'_> {
-    fn flags(&self) -> Flags {
-        Flags::of_task(&self.batch.task, self.form)
-    }
-}
-
-fn job_name(task: &Task) -> &'static str {
-    match task {
-        Task::Binary { .. } => "binary",
-        Task::Json { .. } => "json",
-        Task::Check { .. } => "check",
+fn job_name(verb: Verb) -> &'static str {
+    match verb {
+        Verb::Binary { .. } => "binary",
+        Verb::Json { .. } => "json",
+        Verb::Check { .. } => "check",
     }
 }
 
@@ -104,7 +98,7 @@ fn write_text<'j>(
 /// Does the task at one file.
 fn do_file<'j>(
     rt: &HostRuntime,
-    formed: FormedBatch<'_>,
+    task: &Task,
     layout: &Layout,
     texts: &mut Texts<'j>,
     file: &'j str,
@@ -112,12 +106,12 @@ fn do_file<'j>(
 ) -> Result<(), ToolFault> {
     texts.forget(rt);
     texts.read_input(rt, file).map_err(read_fault)?;
-    let flags = formed.flags();
-    match (&formed.batch.task, target) {
-        (Task::Check { .. }, _) => verified(layout, texts.input.bytes.as_slice(), flags),
-        (Task::Binary { .. }, Some(target)) => write_buffer(rt, layout, texts, target, flags),
-        (Task::Json { .. }, Some(target)) => write_text(rt, layout, texts, target, flags),
-        // Each file of these tasks has a target.
+    let flags = Flags::of(task.verb, task.form);
+    match (task.verb, target) {
+        (Verb::Check { .. }, _) => verified(layout, texts.input.bytes.as_slice(), flags),
+        (Verb::Binary { .. }, Some(target)) => write_buffer(rt, layout, texts, target, flags),
+        (Verb::Json { .. }, Some(target)) => write_text(rt, layout, texts, target, flags),
+        // Each file of these verbs has a target.
         (_, None) => Err(ToolFault::FileWrite),
     }
 }
@@ -128,7 +122,7 @@ fn check_directory<'j>(
     task: &'j Task,
     texts: &mut Texts<'j>,
 ) -> Result<(), ToolFault> {
-    let Some((dir, _)) = directory_of(task) else {
+    let Some((dir, _)) = task.directory() else {
         return Ok(());
     };
     let error = match fs::metadata(rt, dir) {
@@ -143,102 +137,114 @@ fn check_directory<'j>(
 /// The layout that all files are read under.
 fn batch_layout<'j>(
     rt: &HostRuntime,
-    batch: &'j Batch,
+    task: &'j Task,
     texts: &mut Texts<'j>,
 ) -> Result<Layout, ToolFault> {
-    check_directory(rt, &batch.task, texts)?;
-    let schema = batch.schema.as_str();
-    texts.read_schema(rt, schema).map_err(read_fault)?;
+    check_directory(rt, task, texts)?;
+    texts
+        .read_schema(rt, task.schema.as_str())
+        .map_err(read_fault)?;
     layout_of(rt, texts)
-}
-
-/// Reports a refusal, and explains it if that is asked for.
-fn refuse(
-    rt: &HostRuntime,
-    flags: Flags,
-    texts: &mut Texts<'_>,
-    fault: ToolFault,
-    explained: bool,
-) -> u8 {
-    let status = tell(rt, Err(fault));
-    if explained {
-        explain_refusal(rt, flags, texts, fault);
-    }
-    status
 }
 
 /// Writes the path of a file that is refused, before its line.
 fn tell_path(rt: &HostRuntime, file: &str) {
-    let mut err = rt.stderr();
-    let _path = err.write_all(file.as_bytes());
-    let _colon = err.write_all(b": ");
+    if !file.chars().any(|character| character.is_control()) {
+        let _path = eprint!(rt; "{file}: ");
+        return;
+    }
+    let mut shown = String::new(rt.alloc());
+    if push_escaped(&mut shown, file).is_ok() {
+        let _path = eprint!(rt; "{shown}: ");
+    }
+}
+
+/// Reports why a file of a batch is refused: a line after the file's path, or findings, which have it.
+fn refuse_file(rt: &HostRuntime, format: ErrorFormat, file: &str, refusal: Refusal<'_>) {
+    if matches!(format, ErrorFormat::Line | ErrorFormat::Human) {
+        tell_path(rt, file);
+    }
+    let _status = refuse(rt, format, refusal);
 }
 
 /// Does the task at each file in turn. A refusal is reported after the file's path, and the others
 /// go on. The status is 1 where one was refused.
 fn do_files<'j>(
     rt: &HostRuntime,
-    formed: FormedBatch<'j>,
+    batch: Batch<'j>,
     targets: &'j [Target],
     layout: &Layout,
     texts: &mut Texts<'j>,
-    explained: bool,
+    format: ErrorFormat,
 ) -> u8 {
-    let batch = formed.batch;
+    let task = batch.task;
     let mut status = RunStatus::new();
     let mut progress = Progress::new(rt, batch.files.len());
     for (at, file) in batch.files.iter().enumerate() {
         progress.show(rt, at);
-        let answer = do_file(rt, formed, layout, texts, file.as_str(), targets.get(at));
+        let answer = do_file(rt, task, layout, texts, file.as_str(), targets.get(at));
         status.note(answer.is_ok());
         if let Err(fault) = answer {
             progress.clear(rt);
-            tell_path(rt, file.as_str());
-            let _refused = refuse(rt, formed.flags(), texts, fault, explained);
+            let flags = Flags::of(task.verb, task.form);
+            refuse_file(
+                rt,
+                format,
+                file.as_str(),
+                Refusal::of_files(fault, flags, texts),
+            );
         }
     }
     progress.clear(rt);
-    end_of(rt, &batch.task, status.code())
+    tell_end(rt, task.verb, status)
 }
 
-/// Prints what a batch ends with, and returns the status.
-fn end_of(rt: &HostRuntime, task: &Task, status: u8) -> u8 {
-    match task {
-        Task::Check { .. } if status == 0 => { tell(rt, Ok("ok\n")) }
-        _ => status,
+/// Prints what a run over many inputs ends with, and returns the status.
+pub(crate) fn tell_end(rt: &HostRuntime, verb: Verb, status: RunStatus) -> u8 {
+    match end_of(verb, status) {
+        Ok(text) => tell(rt, Ok(text)),
+        Err(code) => code,
     }
 }
 
 /// Does a batch whose outputs are known, and returns the status.
 fn do_all<'j>(
     rt: &HostRuntime,
-    formed: FormedBatch<'j>,
+    batch: Batch<'j>,
     targets: &'j [Target],
-    explained: bool,
+    format: ErrorFormat,
 ) -> u8 {
     let mut texts = Texts::new(rt);
-    match batch_layout(rt, formed.batch, &mut texts) {
-        Ok(layout) => do_files(rt, formed, targets, &layout, &mut texts, explained),
-        Err(fault) => refuse(rt, formed.flags(), &mut texts, fault, explained),
+    match batch_layout(rt, batch.task, &mut texts) {
+        Ok(layout) => do_files(rt, batch, targets, &layout, &mut texts, format),
+        Err(fault) => {
+            let flags = Flags::of(batch.task.verb, batch.task.form);
+            refuse(rt, format, Refusal::of_files(fault, flags, &texts))
+        }
     }
 }
 
-/// Does a batch, and returns the status; a usage error where its outputs can't be named.
+/// Where each output of a task goes; nothing where no file is written.
+fn targets_in(rt: &HostRuntime, task: &Task, files: &[String]) -> Result<Vec<Target>, Misuse> {
+    match task.directory() {
+        Some((dir, extension)) => targets_of(rt, dir, extension, task.schema.as_str(), files),
+        None => Ok(Vec::new(rt.alloc())),
+    }
+}
+
+/// Does a task at many files, and returns the status; a usage error where its outputs can't be named.
 pub(crate) fn do_batch(
     rt: &HostRuntime,
-    batch: &Batch,
-    form: Form,
-    explained: bool,
+    task: &Task,
+    files: &[String],
+    format: ErrorFormat,
 ) -> Result<u8, Error> {
-    match targets_of(rt, batch) {
-        Ok(targets) => {
-            let formed = FormedBatch { batch, form };
-            Ok(do_all(rt, formed, targets.as_slice(), explained))
-        }
+    match targets_in(rt, task, files) {
+        Ok(targets) => Ok(do_all(rt, Batch { task, files }, targets.as_slice(), format)),
         Err(Misuse::Memory) => Err(Error::from(AllocError)),
         Err(Misuse::Said(said)) => Err(usage_error(
             rt.alloc(),
-            job_name(&batch.task),
+            job_name(task.verb),
             ErrorKind::ArgumentConflict,
             said.as_str(),
         )),

@@ -1,10 +1,11 @@
 //! What is printed of the bytes of a buffer.
-use crate::explained::explain_refusal;
+use crate::explained::{Refusal, refuse};
 use crate::faults::read_fault;
-use crate::flags::Flags;
-use crate::{layout_of, limits, read_both, tell};
+use crate::{layout_of, read_both};
 use fb_inspect::{Listing, header_lines};
-use flatc_files::{Inspection, Reasoned, Texts};
+use flatc_cli::{ErrorFormat, Inspection};
+use flatc_files::{Reasoned, Texts};
+use flatc_jobs::{Flags, limits};
 use flatc_tool::{Layout, ReadFault, ToolFault, WriteFault};
 use std::io::Write;
 
@@ -132,7 +133,7 @@ fn inspect_header<'j>(
 }
 
 /// Shows what the bytes of a buffer are, and returns the status.
-pub(crate) fn inspect(rt: &HostRuntime, inspection: &Inspection, is_explained: bool) -> u8 {
+pub(crate) fn inspect(rt: &HostRuntime, inspection: &Inspection, format: ErrorFormat) -> u8 {
     let flags = Flags::of_inspection(inspection);
     let mut texts = Texts::new(rt);
     let answer = match inspection {
@@ -146,12 +147,6 @@ pub(crate) fn inspect(rt: &HostRuntime, inspection: &Inspection, is_explained: b
     };
     match answer {
         Ok(()) => 0,
-        Err(fault) => {
-            let status = tell(rt, Err(fault));
-            if is_explained {
-                explain_refusal(rt, flags, &texts, fault);
-            }
-            status
-        }
+        Err(fault) => refuse(rt, format, Refusal::of_files(fault, flags, &texts)),
     }
 }

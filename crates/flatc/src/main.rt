@@ -1,13 +1,10 @@
 //! The command `flatc`: files and streams round the calls over bytes.
 #![tactic(auto)]
 
-ghost use Rattle.std.specs.Prelude.{◌≡◌};
-ghost use Rattle.flatc_tool.specs.Options.{usual_limits};
-
 mod batches;
+mod counted;
 mod explained;
 mod faults;
-mod flags;
 mod hints;
 mod inspected;
 mod messages;
@@ -15,23 +12,20 @@ mod program_name;
 mod terminal;
 
 use crate::batches::do_batch;
-use crate::explained::{explain_number, explain_refusal, list_numbers, warn};
+use crate::explained::{Refusal, explain_number, list_numbers, refuse, warn};
 use crate::faults::{Buffer, read_fault, write_fault};
-use crate::flags::{Flags, USUAL};
 use crate::hints::hint_for;
 use crate::inspected::inspect;
 use crate::messages::do_stream;
-use crate::program_name::{eprint_hint, eprint_usage, print_error};
-use crate::terminal::is_explained;
+use crate::program_name::{eprint_bad_argument, eprint_hint, print_error};
+use crate::terminal::error_format;
 use clap::Error;
 use clap::error::ErrorKind;
-use flatc_cli::request_of;
-use flatc_files::{Batch, Form, Job, Reasoned, Request, Texts, write_out};
+use flatc_cli::{Comparison, ErrorFormat, Inputs, Output, Request, Task, Verb, request_of};
+use flatc_files::{Reasoned, Texts, write_out};
+use flatc_jobs::{Flags, compared, encoded, limits, verdict_of, verified};
 use flatc_tool::command::report_noted;
-use flatc_tool::{
-    EncodeOptions, Entries, Layout, Limits, Noted, ToolFault, conform_names, conform_texts,
-    decode_to, encode_plan, schema_of, to_binary, to_json, verify_framed,
-};
+use flatc_tool::{Layout, Noted, ToolFault, decode_to, schema_of, to_binary, to_json};
 use std::alloc::Global;
 use std::process::ExitCode;
 use std::{env, io};
@@ -41,21 +35,6 @@ const SCHEMA: &[u8] = b"table T { a:int; } root_type T;";
 const JSON: &[u8] = b"{\"a\":7}";
 
 const USAGE: u8 = 2;
-
-// What clap says of words that are no UTF-8.
-const NOT_UTF8: &str = "error: invalid UTF-8 was detected in one or more arguments
-
-Usage: flatc <COMMAND>
-
-For more information, try '--help'.
-";
-
-/// How deep tables may be nested and how many cells there may be: the library's own limits.
-pub(crate) fn limits() -> Limits
-    ensures { result ≡ usual_limits }
-{
-    EncodeOptions::new().limits
-}
 
 /// Reports an answer on the program's streams, and returns the status.
 // Each writer has a page in its frame, which no job is to have in its own.
@@ -76,26 +55,6 @@ fn example(alloc: Global) -> Result<String, ToolFault> {
 /// The layout of the schema text that was read.
 pub(crate) fn layout_of(rt: &HostRuntime, texts: &Texts<'_>) -> Result<Layout, ToolFault> {
     schema_of(rt.alloc(), texts.schema.bytes.as_slice()).map_err(ToolFault::Schema)
-}
-
-/// That a buffer holds a value.
-pub(crate) fn verified(layout: &Layout, bytes: &[u8], flags: Flags) -> Result<(), ToolFault> {
-    let raw = flags.raw_binary;
-    let prefixed = flags.form.size_prefixed;
-    let _view = verify_framed(layout, bytes, limits(), raw, prefixed, &mut Entries::new()).map_err(
-        ToolFault::Read,
-    )?;
-    Ok(())
-}
-
-/// The buffer of a JSON text, which is freed once its value is noted, and stays as it is where it is refused.
-pub(crate) fn encoded(
-    alloc: Global,
-    layout: &Layout,
-    json: &mut Vec<u8>,
-    flags: Flags,
-) -> Result<Vec<u8>, ToolFault> {
-    Ok(encode_plan(alloc, layout, json, &flags.encode_options())?.finish())
 }
 
 /// The buffer of the JSON text that was read.
@@ -155,6 +114,7 @@ fn print_buffer<'j>(
     print_bytes(rt, texts, flags)
 }
 
+/// Checks a schema, or a buffer under it.
 fn check_files<'j>(
     rt: &HostRuntime,
     texts: &mut Texts<'j>,
@@ -173,58 +133,76 @@ fn check_files<'j>(
     }
 }
 
-fn conform_files<'j>(
-    rt: &HostRuntime,
-    texts: &mut Texts<'j>,
-    paths: [&'j str; 2],
-    names: bool,
-) -> Result<(), ToolFault> {
-    read_both(rt, texts, paths)?;
-    let old = texts.schema.bytes.as_slice();
-    let new = texts.input.bytes.as_slice();
-    if names {
-        conform_names(rt.alloc(), old, new)
-    } else {
-        conform_texts(rt.alloc(), old, new)
+/// What the old schema is called in refusals.
+fn old_name(comparison: &Comparison) -> &str {
+    match &comparison.old_name {
+        Some(name) => name.as_str(),
+        None if comparison.old.as_str() == "-" => "the old schema",
+        None => comparison.old.as_str(),
     }
 }
 
-/// Does a job, and returns what is printed then.
-fn do_job<'j>(
+/// Gives the old schema the name under which it is reported.
+fn name_schema<'j>(texts: &mut Texts<'j>, name: &'j str) {
+    texts.schema.path = name;
+    if let Some(failure) = &mut texts.failure {
+        failure.path = name;
+    }
+}
+
+fn conform_files<'j>(
     rt: &HostRuntime,
-    job: &'j Job,
-    flags: Flags,
+    comparison: &'j Comparison,
     texts: &mut Texts<'j>,
 ) -> Result<&'static str, ToolFault> {
-    match job {
-        Job::Binary {
-            schema,
-            json,
-            out,
-            ..
-        } => {
-            write_buffer(
-                rt,
-                texts,
-                [schema.as_str(), json.as_str(), out.as_str()],
-                flags,
-            )?;
-            Ok("")
-        }
-        Job::Json { schema, bin, .. } => {
-            print_buffer(rt, texts, [schema.as_str(), bin.as_str()], flags)?;
-            Ok("")
-        }
-        Job::Check { schema, bin, .. } => {
-            let bin = bin.as_ref().map(|bin| bin.as_str());
-            check_files(rt, texts, schema.as_str(), bin, flags)?;
-            Ok("ok\n")
-        }
-        Job::Conform { old, new, names } => {
-            conform_files(rt, texts, [old.as_str(), new.as_str()], *names)?;
-            Ok("conforms\n")
-        }
+    let read = texts.read_schema(rt, comparison.old.as_str());
+    name_schema(texts, old_name(comparison));
+    read.map_err(read_fault)?;
+    texts
+        .read_input(rt, comparison.new.as_str())
+        .map_err(read_fault)?;
+    let old = texts.schema.bytes.as_slice();
+    let new = texts.input.bytes.as_slice();
+    compared(rt.alloc(), old, new, comparison.names)?;
+    Ok("conforms\n")
+}
+
+/// OUT of a line, or the name of standard output.
+pub(crate) fn out_path(output: &Output) -> &str {
+    match output {
+        Output::Standard => "-",
+        Output::File(path) | Output::Directory(path) => path.as_str(),
     }
+}
+
+/// Does a task at one file, and returns what is printed then.
+fn do_one<'j>(
+    rt: &HostRuntime,
+    task: &'j Task,
+    input: &'j str,
+    texts: &mut Texts<'j>,
+) -> Result<&'static str, ToolFault> {
+    let flags = Flags::of(task.verb, task.form);
+    let schema = task.schema.as_str();
+    match task.verb {
+        Verb::Binary { .. } => {
+            write_buffer(rt, texts, [schema, input, out_path(&task.output)], flags)?
+        }
+        Verb::Json { .. } => print_buffer(rt, texts, [schema, input], flags)?,
+        Verb::Check { .. } => check_files(rt, texts, schema, Some(input), flags)?,
+    }
+    Ok(verdict_of(task.verb))
+}
+
+/// Checks a schema alone, and returns what is printed then.
+fn check_schema<'j>(
+    rt: &HostRuntime,
+    task: &'j Task,
+    texts: &mut Texts<'j>,
+) -> Result<&'static str, ToolFault> {
+    let flags = Flags::of(task.verb, task.form);
+    check_files(rt, texts, task.schema.as_str(), None, flags)?;
+    Ok(verdict_of(task.verb))
 }
 
 /// Reports that memory ran out, and returns the status.
@@ -233,7 +211,7 @@ fn tell_memory(rt: &HostRuntime) -> u8 {
 }
 
 /// Prints what clap says of words that ask for no job, and returns the status.
-fn refuse(rt: &HostRuntime, error: &Error, words: &[String]) -> u8 {
+fn refuse_line(rt: &HostRuntime, error: &Error, words: &[String]) -> u8 {
     if error.kind() == ErrorKind::OutOfMemory {
         return tell_memory(rt);
     }
@@ -255,7 +233,7 @@ fn refuse_words(rt: &HostRuntime, error: &io::Error) -> u8 {
     if error.kind() == io::ErrorKind::OutOfMemory {
         return tell_memory(rt);
     }
-    let _printed = eprint_usage(rt, NOT_UTF8);
+    let _printed = eprint_bad_argument(rt);
     USAGE
 }
 
@@ -264,59 +242,60 @@ fn words_of(rt: &HostRuntime) -> io::Result<Vec<String>> {
     Ok(env::args(rt)?.skip(1).collect(rt.alloc())?)
 }
 
-/// Does a job, reports what comes of it, and returns the status.
-///
-/// A refusal is explained if that is asked for, which changes neither the job nor what is reported: what
-/// explaining takes is got only afterwards.
-fn do_and_report(rt: &HostRuntime, job: &Job, form: Form, explained: bool) -> u8 {
-    let flags = Flags::of_job(job, form);
-    let mut texts = Texts::new(rt);
-    let answer = do_job(rt, job, flags, &mut texts);
-    let status = tell(rt, answer);
-    if explained {
-        match answer {
-            Ok(_) => warn(rt, job, &texts),
-            Err(fault) => explain_refusal(rt, flags, &texts, fault),
-        }
+/// Reports what comes of a task or a comparison, and returns the status.
+fn report(
+    rt: &HostRuntime,
+    answer: Result<&str, ToolFault>,
+    flags: Flags,
+    texts: &Texts<'_>,
+    format: ErrorFormat,
+) -> u8 {
+    match answer {
+        Ok(text) => tell(rt, Ok(text)),
+        Err(fault) => refuse(rt, format, Refusal::of_files(fault, flags, texts)),
     }
-    status
 }
 
-/// Does a batch, and returns the status; a usage error where its outputs can't be named.
-fn do_batch_or_refuse(
-    rt: &HostRuntime,
-    batch: &Batch,
-    form: Form,
-    explained: bool,
-    words: &[String],
-) -> u8 {
-    match do_batch(rt, batch, form, explained) {
-        Ok(status) => status,
-        Err(error) => refuse(rt, &error, words),
+/// Does a task, and returns the status.
+fn do_task(rt: &HostRuntime, task: &Task, format: ErrorFormat, words: &[String]) -> u8 {
+    let mut texts = Texts::new(rt);
+    let answer = match &task.inputs {
+        Inputs::Schema => check_schema(rt, task, &mut texts),
+        Inputs::One(input) => do_one(rt, task, input.as_str(), &mut texts),
+        Inputs::Each(files) => {
+            return match do_batch(rt, task, files.as_slice(), format) {
+                Ok(status) => status,
+                Err(error) => refuse_line(rt, &error, words),
+            };
+        }
+        Inputs::Stream { path, keep_going } => {
+            return do_stream(rt, task, path.as_str(), *keep_going, format);
+        }
+    };
+    report(rt, answer, Flags::of(task.verb, task.form), &texts, format)
+}
+
+/// Compares two schemas, and returns the status. Where the new one conforms, each format but the line warns of what may
+/// be meant otherwise.
+fn do_conform(rt: &HostRuntime, comparison: &Comparison, format: ErrorFormat) -> u8 {
+    let mut texts = Texts::new(rt);
+    let answer = conform_files(rt, comparison, &mut texts);
+    let status = report(rt, answer, Flags::none(), &texts, format);
+    if answer.is_ok() {
+        warn(rt, format, &texts);
     }
+    status
 }
 
 /// Does what a line asks for, and returns the status.
 fn do_request(rt: &HostRuntime, request: &Request, words: &[String]) -> u8 {
     match request {
-        Request::Do(job, explaining) => {
-            do_and_report(rt, job, USUAL, is_explained(rt, *explaining))
+        Request::Do(task, format) => do_task(rt, task, error_format(rt, *format), words),
+        Request::Conform(comparison, format) => {
+            do_conform(rt, comparison, error_format(rt, *format))
         }
-        Request::DoFormed(job, form, explaining) => {
-            do_and_report(rt, job, *form, is_explained(rt, *explaining))
-        }
-        Request::DoEach(batch, explaining) => {
-            let explained = is_explained(rt, *explaining);
-            do_batch_or_refuse(rt, batch, USUAL, explained, words)
-        }
-        Request::DoEachFormed(batch, form, explaining) => {
-            do_batch_or_refuse(rt, batch, *form, is_explained(rt, *explaining), words)
-        }
-        Request::DoStream(stream, explaining) => {
-            do_stream(rt, stream, is_explained(rt, *explaining))
-        }
-        Request::Inspect(inspection, explaining) => {
-            inspect(rt, inspection, is_explained(rt, *explaining))
+        Request::Inspect(inspection, format) => {
+            inspect(rt, inspection, error_format(rt, *format))
         }
         Request::Explain(Some(number)) => explain_number(rt, number.as_str()),
         Request::Explain(None) => list_numbers(rt),
@@ -327,7 +306,7 @@ fn do_request(rt: &HostRuntime, request: &Request, words: &[String]) -> u8 {
 fn run(rt: &HostRuntime, words: &[String]) -> u8 {
     match request_of(rt.alloc(), words) {
         Ok(request) => do_request(rt, &request, words),
-        Err(error) => refuse(rt, &error, words),
+        Err(error) => refuse_line(rt, &error, words),
     }
 }
 

@@ -1,84 +1,32 @@
 //! A task over a stream of messages, which are read, done and written one by one.
-use crate::explained::explain_refusal;
+use crate::batches::tell_end;
+use crate::counted::Counted;
+use crate::explained::{Refusal, refuse};
 use crate::faults::{read_fault, write_fault};
-use crate::flags::Flags;
-use crate::{layout_of, tell, verified};
-use flatc_files::{Content, RunStatus, Stream, StreamTask, Texts, Window, write_out};
-use flatc_tool::{Layout, ReadFault, ToolFault, decode, encode, split_prefixed};
-use std::alloc::Global;
+use crate::{layout_of, out_path};
+use fb_explain_records::StreamMessage;
+use flatc_cli::{ErrorFormat, Task, Verb};
+use flatc_files::{Content, RunStatus, Texts, Window, write_out};
+use flatc_jobs::{Flags, Outcome, next_output};
+use flatc_tool::{Layout, ToolFault, WriteFault};
 use std::io::{self, BufWriter, Write};
 
 // As many reads as the longest message may take, each of which gets a byte at least.
 const READS: u32 = u32::MAX;
 
-/// What comes next in a stream.
-#[derive(Drop)]
-enum Next {
-    /// A message of so many bytes, all of which were read.
-    Message(usize),
-    /// More of it is to be read.
-    Unread,
-    /// The stream has ended.
-    End,
-    /// The stream has ended inside a message, or inside its count.
-    Cut(ReadFault),
+/// A task, and the stream that it is done over.
+#[derive(Clone, Copy)]
+struct Stream<'s> {
+    task: &'s Task,
+    /// The path of the stream.
+    input: &'s str,
+    /// Whether messages that are refused are skipped.
+    keep_going: bool,
 }
 
-/// The next JSON text: a line with its line feed, which the last one may lack.
-fn next_line(window: &mut Window) -> Next {
-    match window.line_len() {
-        Some(len) => Next::Message(len),
-        None if !window.is_ended() => Next::Unread,
-        None if window.bytes().is_empty() => Next::End,
-        None => Next::Message(window.bytes().len()),
-    }
-}
-
-/// The next size-prefixed buffer, its count included.
-fn next_buffer(window: &Window) -> Next {
-    match split_prefixed(window.bytes()) {
-        Ok(Some((message, _))) => Next::Message(message.len()),
-        Ok(None) | Err(_) if !window.is_ended() => Next::Unread,
-        Ok(None) => Next::End,
-        Err(fault) => Next::Cut(fault),
-    }
-}
-
-/// Whether a line has nothing but blanks, of which a carriage return is one.
-fn is_blank(line: &[u8]) -> bool {
-    line.iter()
-        .all(|byte| matches!(byte, b' ' | b'\t' | b'\r' | b'\n'))
-}
-
-/// A buffer as a line of JSON.
-fn line_of(
-    alloc: Global,
-    layout: &Layout,
-    message: &[u8],
-    flags: Flags,
-) -> Result<Vec<u8>, ToolFault> {
-    let text = decode(alloc, layout, message, &flags.decode_options())?;
-    let mut line = text.into_bytes();
-    line.push(b'\n').map_err(|_| ToolFault::Memory)?;
-    Ok(line)
-}
-
-/// What is written of a message; nothing where it is checked, or is a blank line.
-fn output_of(
-    alloc: Global,
-    layout: &Layout,
-    task: &StreamTask,
-    message: &[u8],
-) -> Result<Vec<u8>, ToolFault> {
-    let flags = Flags::of_stream(task);
-    match task {
-        StreamTask::Binary { .. } if is_blank(message) => Ok(Vec::new(alloc)),
-        StreamTask::Binary { .. } => encode(alloc, layout, message, &flags.encode_options()),
-        StreamTask::Json { .. } => line_of(alloc, layout, message, flags),
-        StreamTask::Check { .. } => {
-            verified(layout, message, flags)?;
-            Ok(Vec::new(alloc))
-        }
+impl Stream<'_> {
+    fn flags(&self) -> Flags {
+        Flags::of(self.task.verb, self.task.form)
     }
 }
 
@@ -86,43 +34,68 @@ fn output_of(
 #[derive(Drop)]
 struct Run<'s> {
     rt: &'s HostRuntime,
-    stream: &'s Stream,
+    stream: Stream<'s>,
     layout: Layout,
     texts: Texts<'s>,
     window: Window,
-    is_explained: bool,
+    /// How many bytes of the stream its messages took so far.
+    taken: u64,
+    format: ErrorFormat,
     status: RunStatus,
     /// Whether it ended at a message, which is reported already.
     is_stopped: bool,
 }
 
 impl Run<'_> {
-    fn next(&mut self) -> Next {
-        match &self.stream.task {
-            StreamTask::Binary { .. } => next_line(&mut self.window),
-            StreamTask::Json { .. } | StreamTask::Check { .. } => next_buffer(&self.window),
-        }
+    /// Prints the number of a message before the line of its refusal.
+    fn print_number(&self, number: u64) {
+        let noun = match self.stream.task.verb {
+            Verb::Binary { .. } => "line",
+            Verb::Json { .. } | Verb::Check { .. } => "message",
+        };
+        let _number = eprint!(self.rt; "{noun} {number}: ");
     }
 
     /// Reports why a message is refused, after its number.
     fn refuse(&mut self, number: u64, len: usize, fault: ToolFault) {
         self.status.note(false);
-        let noun = match &self.stream.task {
-            StreamTask::Binary { .. } => "line",
-            StreamTask::Json { .. } | StreamTask::Check { .. } => "message",
+        let format = self.format_of_message(len);
+        if matches!(format, ErrorFormat::Line | ErrorFormat::Human) {
+            self.print_number(number);
+        }
+        let flags = self.stream.flags();
+        let message = self.message(number);
+        let refusal = Refusal {
+            fault,
+            flags,
+            texts: &self.texts,
+            message: Some(message),
         };
-        let _number = eprint!(self.rt; "{noun} {number}: ");
-        let _status = tell(self.rt, Err(fault));
-        if self.is_explained {
-            let message = self.window.first(len);
-            if self
-                .texts
-                .quote(self.rt, self.stream.input.as_str(), message)
-                .is_ok()
-            {
-                let flags = Flags::of_stream(&self.stream.task);
-                explain_refusal(self.rt, flags, &self.texts, fault);
-            }
+        let _status = refuse(self.rt, format, refusal);
+    }
+
+    /// Takes a message for the input, which its findings quote. Without memory for that its line is printed alone.
+    fn format_of_message(&mut self, len: usize) -> ErrorFormat {
+        if self.format == ErrorFormat::Line {
+            return ErrorFormat::Line;
+        }
+        let message = self.window.first(len);
+        match self.texts.quote(self.rt, self.stream.input, message) {
+            Ok(()) => self.format,
+            Err(_) => ErrorFormat::Line,
+        }
+    }
+
+    /// The message that comes next, by its number.
+    fn message(&self, number: u64) -> StreamMessage {
+        let lines = match self.stream.task.verb {
+            Verb::Binary { .. } => number.saturating_sub(1) as usize,
+            Verb::Json { .. } | Verb::Check { .. } => 0,
+        };
+        StreamMessage {
+            index: number,
+            lines,
+            offset: self.taken,
         }
     }
 
@@ -137,67 +110,79 @@ impl Run<'_> {
         let read = self.window.read_more();
         self.texts.note(
             self.rt,
-            self.stream.input.as_str(),
+            self.stream.input,
             &read,
             "it has a message longer than 2147483647 bytes",
         );
         read.map_err(read_fault)
     }
 
-    /// The length of the next message, once all of it was read; none at the end of the stream.
+    /// Passes over a message that is refused, or ends the run at it.
+    fn pass_over<W: Write + Drop>(
+        &mut self,
+        number: u64,
+        len: usize,
+        fault: ToolFault,
+        out: &mut BufWriter<W>,
+    ) -> io::Result<()> {
+        out.flush()?;
+        if !self.stream.keep_going {
+            return Err(self.stop(number, len, fault));
+        }
+        self.refuse(number, len, fault);
+        self.window.take(len);
+        self.taken = self.taken.saturating_add(len as u64);
+        Ok(())
+    }
+
+    /// Does the next message, and writes what comes of it; false at the end of the stream.
     ///
     /// What is done is written before a read, which may wait for another program.
-    fn find_message<W: Write + Drop>(
+    fn do_message<W: Write + Drop>(
         &mut self,
         number: u64,
         out: &mut BufWriter<W>,
-    ) -> io::Result<Option<usize>> {
+    ) -> io::Result<bool> {
+        let task = self.stream.task;
         for _ in 0..READS {
-            match self.next() {
-                Next::Message(len) => return Ok(Some(len)),
-                Next::End => return Ok(None),
-                Next::Cut(fault) => {
+            let unread = self.window.bytes().len();
+            match next_output(
+                self.rt.alloc(),
+                &self.layout,
+                task.verb,
+                task.form,
+                &mut self.window,
+            ) {
+                Outcome::Output(output) => {
+                    let len = unread.saturating_sub(self.window.bytes().len());
+                    self.taken = self.taken.saturating_add(len as u64);
+                    out.write_all(output.as_slice())?;
+                    return Ok(true);
+                }
+                Outcome::Refused(len, fault) => {
+                    self.pass_over(number, len, fault, out)?;
+                    return Ok(true);
+                }
+                Outcome::Cut(fault) => {
                     let rest = self.window.bytes().len();
                     return Err(self.stop(number, rest, ToolFault::Read(fault)));
                 }
-                Next::Unread => {}
+                Outcome::End => return Ok(false),
+                Outcome::Unread => {}
             }
             out.flush()?;
             if let Err(fault) = self.read_more() {
                 return Err(self.stop(number, 0, fault));
             }
         }
-        Ok(None)
-    }
-
-    /// Does a message, and writes what comes of it.
-    fn do_message<W: Write + Drop>(
-        &mut self,
-        number: u64,
-        len: usize,
-        out: &mut BufWriter<W>,
-    ) -> io::Result<()> {
-        let message = self.window.first(len);
-        match output_of(self.rt.alloc(), &self.layout, &self.stream.task, message) {
-            Ok(output) => out.write_all(output.as_slice()),
-            Err(fault) => {
-                out.flush()?;
-                if !self.stream.keep_going {
-                    return Err(self.stop(number, len, fault));
-                }
-                self.refuse(number, len, fault);
-                Ok(())
-            }
-        }
+        Ok(false)
     }
 
     fn do_messages<W: Write + Drop>(&mut self, out: &mut BufWriter<W>) -> io::Result<()> {
         for number in 1..=u64::MAX {
-            let Some(len) = self.find_message(number, out)? else {
+            if !self.do_message(number, out)? {
                 return Ok(());
-            };
-            self.do_message(number, len, out)?;
-            self.window.take(len);
+            }
         }
         Ok(())
     }
@@ -218,55 +203,85 @@ impl Content for Run<'_> {
 /// The layout of a stream's messages, and the stream itself, of which nothing is read yet.
 fn open_stream<'s>(
     rt: &HostRuntime,
-    stream: &'s Stream,
+    stream: Stream<'s>,
     texts: &mut Texts<'s>,
 ) -> Result<(Layout, Window), ToolFault> {
     texts
-        .read_schema(rt, stream.schema.as_str())
+        .read_schema(rt, stream.task.schema.as_str())
         .map_err(read_fault)?;
     let layout = layout_of(rt, texts)?;
-    match Window::open(rt, stream.input.as_str()) {
+    match Window::open(rt, stream.input) {
         Ok(window) => Ok((layout, window)),
         Err(error) => {
-            texts.fail(rt, stream.input.as_str(), &error);
+            texts.fail(rt, stream.input, &error);
             Err(ToolFault::FileRead)
         }
     }
 }
 
-/// Reports a refusal that is no message's.
-fn refuse(
-    rt: &HostRuntime,
-    task: &StreamTask,
-    texts: &mut Texts<'_>,
-    fault: ToolFault,
-    is_explained: bool,
-) -> u8 {
-    let status = tell(rt, Err(fault));
-    if is_explained {
-        explain_refusal(rt, Flags::of_stream(task), texts, fault);
-    }
-    status
+/// Why a run couldn't write what comes of its messages.
+#[derive(Drop)]
+enum Unwritten {
+    /// To OUT.
+    File(io::Error),
+    /// To standard output, which took this many bytes of the run.
+    Standard(io::Error, u64),
 }
 
-/// Does all messages of a stream, and returns the path that they are written to.
-fn write_messages<'s>(rt: &HostRuntime, run: &mut Run<'s>) -> (&'s str, io::Result<()>) {
+/// Does all messages of a stream.
+fn write_messages(rt: &HostRuntime, run: &mut Run<'_>) -> Result<(), Unwritten> {
     let stream = run.stream;
-    let inputs = [stream.schema.as_str(), stream.input.as_str()];
-    match &stream.task {
-        StreamTask::Binary { out, .. } => (out.as_str(), write_out(rt, out.as_str(), run, inputs)),
-        StreamTask::Json { .. } | StreamTask::Check { .. } => {
-            ("standard output", run.write_to(&mut rt.stdout()))
+    match stream.task.verb {
+        Verb::Binary { .. } => {
+            let inputs = [stream.task.schema.as_str(), stream.input];
+            write_out(rt, out_path(&stream.task.output), run, inputs).map_err(Unwritten::File)
+        }
+        Verb::Json { .. } | Verb::Check { .. } => {
+            let mut out = Counted::over(rt.stdout());
+            let done = run.write_to(&mut out);
+            done.map_err(|error| Unwritten::Standard(error, out.written()))
+        }
+    }
+}
+
+impl Run<'_> {
+    /// The fault of what couldn't be written.
+    fn unwritten_fault(&mut self, unwritten: &Unwritten) -> ToolFault {
+        match unwritten {
+            Unwritten::File(error) => {
+                let out = out_path(&self.stream.task.output);
+                write_fault(self.rt, &mut self.texts, out, error)
+            }
+            Unwritten::Standard(error, written) => {
+                match write_fault(self.rt, &mut self.texts, "standard output", error) {
+                    ToolFault::FileWrite => ToolFault::Write(WriteFault::WriteFailed(*written)),
+                    fault => fault,
+                }
+            }
         }
     }
 }
 
 /// Does a task over a stream, and returns the status: 1 where a message was refused.
-pub(crate) fn do_stream(rt: &HostRuntime, stream: &Stream, is_explained: bool) -> u8 {
+pub(crate) fn do_stream(
+    rt: &HostRuntime,
+    task: &Task,
+    input: &str,
+    keep_going: bool,
+    format: ErrorFormat,
+) -> u8 {
+    let stream = Stream {
+        task,
+        input,
+        keep_going,
+    };
     let mut texts = Texts::new(rt);
     let (layout, window) = match open_stream(rt, stream, &mut texts) {
         Ok(opened) => opened,
-        Err(fault) => return refuse(rt, &stream.task, &mut texts, fault, is_explained),
+        Err(fault) => {
+            let refusal = Refusal::of_files(fault, stream.flags(), &texts);
+            return refuse(rt, format, refusal);
+        }
     };
     let mut run = Run {
         rt,
@@ -274,24 +289,17 @@ pub(crate) fn do_stream(rt: &HostRuntime, stream: &Stream, is_explained: bool) -
         layout,
         texts,
         window,
-        is_explained,
+        taken: 0,
+        format,
         status: RunStatus::new(),
         is_stopped: false,
     };
-    let (path, done) = write_messages(rt, &mut run);
-    match done {
-        Err(error) if !run.is_stopped => {
-            let fault = write_fault(rt, &mut run.texts, path, &error);
-            refuse(rt, &stream.task, &mut run.texts, fault, is_explained)
+    match write_messages(rt, &mut run) {
+        Err(unwritten) if !run.is_stopped => {
+            let fault = run.unwritten_fault(&unwritten);
+            let refusal = Refusal::of_files(fault, stream.flags(), &run.texts);
+            refuse(rt, format, refusal)
         }
-        _ => end_of(rt, &stream.task, run.status.code()),
-    }
-}
-
-/// Prints what a stream ends with, and returns the status.
-fn end_of(rt: &HostRuntime, task: &StreamTask, status: u8) -> u8 {
-    match task {
-        StreamTask::Check { .. } if status == 0 => { tell(rt, Ok("ok\n")) }
-        _ => status,
+        _ => tell_end(rt, task.verb, run.status),
     }
 }

@@ -1,7 +1,9 @@
 //! The name by which the program was called, in texts that say how it is used.
 use clap::Error;
+use fb_explain_records::push_escaped;
+use fb_findings::Note;
 use std::alloc::AllocError;
-use std::env::Env;
+use std::env::{Env, FillError};
 use std::io;
 
 /// The name that these texts are written with.
@@ -9,6 +11,14 @@ const NAME: &str = "flatc";
 
 // In bytes. A longer path isn't read.
 const LONGEST_PATH: usize = 1024;
+
+// Of an argument that is too long to be shown.
+const NOT_UTF8: &str = "error: invalid UTF-8 was detected in one or more arguments
+
+Usage: flatc <COMMAND>
+
+For more information, try '--help'.
+";
 
 /// What is before the name in a usage, which begins a line and may go on in more lines.
 const IN_USAGE: &[&str] = &["\nUsage: ", "\n       "];
@@ -68,6 +78,35 @@ pub(crate) fn eprint_usage(rt: &HostRuntime, text: &str) -> io::Result<()> {
         Ok(named) => eprint!(rt; "{named}"),
         Err(_) => eprint!(rt; "{text}"),
     }
+}
+
+/// The usage error about bytes that aren't UTF-8, the argument of this number.
+fn bad_argument(rt: &HostRuntime, number: usize, bytes: &[u8]) -> Result<String, AllocError> {
+    let mut note = Note::new(rt.alloc());
+    note.push_shown(bytes);
+    let argument = note.into_text()?;
+    let mut text = format!(in rt.alloc(); "error: argument {number} isn't valid UTF-8: '")?;
+    push_escaped(&mut text, argument.as_str())?;
+    text.push_str("'\n\nUsage: flatc <COMMAND>\n\nFor more information, try '--help'.\n")?;
+    Ok(text)
+}
+
+/// Prints which of the arguments is the first that isn't UTF-8, without the bytes of one that is longer than a path.
+pub(crate) fn eprint_bad_argument(rt: &HostRuntime) -> io::Result<()> {
+    let mut room = [0u8; LONGEST_PATH];
+    for number in 1..usize::MAX {
+        match rt.arg(number, &mut room) {
+            Ok(len) => {
+                let bytes = room.get(..len).unwrap_or(&[]);
+                if str::from_utf8(bytes).is_err() {
+                    return eprint_usage(rt, bad_argument(rt, number, bytes)?.as_str());
+                }
+            }
+            Err(FillError::TooLong) => {}
+            Err(FillError::NotPresent) => break,
+        }
+    }
+    eprint_usage(rt, NOT_UTF8)
 }
 
 /// Prints a hint on standard error, under the program's name.

@@ -1,15 +1,65 @@
 //! What the terminal and the environment say of explanations.
 use fb_explain::COLUMNS;
-use flatc_files::Explaining;
-use std::env;
+use fb_explain_records::push_escaped;
+use flatc_cli::ErrorFormat;
+use std::alloc::AllocError;
+use std::env::{self, Env, FillError};
 use std::io::IsTerminal;
 
-/// Whether refusals are explained.
-pub(crate) fn is_explained(rt: &HostRuntime, explaining: Explaining) -> bool {
-    match explaining {
-        Explaining::AtTerminal => rt.stderr().is_terminal(),
-        Explaining::Always => true,
-        Explaining::Never => false,
+/// The variable with the error format of lines that have none.
+const FORMAT: &str = "FLATC_ERROR_FORMAT";
+
+// In bytes. A longer value names no format, and isn't shown.
+const LONGEST_VALUE: usize = 64;
+
+/// The line about a value that names no format.
+fn unknown_format(rt: &HostRuntime, value: &str) -> Result<String, AllocError> {
+    let mut line = format!(in rt.alloc(); "warning: {FORMAT} is '")?;
+    push_escaped(&mut line, value)?;
+    line.push_str("', not line, human, short or json; it is ignored")?;
+    Ok(line)
+}
+
+/// The format that a value names; none, and a line about it, where it names none.
+fn format_in(rt: &HostRuntime, value: &str) -> Option<ErrorFormat> {
+    let format = ErrorFormat::named(value);
+    if format.is_none()
+        && let Ok(line) = unknown_format(rt, value)
+    {
+        let _printed = eprintln!(rt; "{line}");
+    }
+    format
+}
+
+/// The format that is exported; an empty value is none. It is read without memory, which no run is to need for it.
+fn exported_format(rt: &HostRuntime) -> Option<ErrorFormat> {
+    let mut room = [0u8; LONGEST_VALUE];
+    let value = match rt.var(FORMAT, &mut room) {
+        Ok(len) => str::from_utf8(room.get(..len).unwrap_or(&[])).ok(),
+        Err(FillError::TooLong) => None,
+        Err(FillError::NotPresent) => return None,
+    };
+    match value {
+        Some("") => None,
+        Some(value) => format_in(rt, value),
+        None => {
+            let _printed = eprintln!(rt;
+                "warning: {FORMAT} isn't line, human, short or json; it is ignored"
+            );
+            None
+        }
+    }
+}
+
+/// How refusals are shown: as the line asks, else as is exported, else explained at a terminal.
+pub(crate) fn error_format(rt: &HostRuntime, asked: Option<ErrorFormat>) -> ErrorFormat {
+    if let Some(format) = asked {
+        return format;
+    }
+    match exported_format(rt) {
+        Some(format) => format,
+        None if rt.stderr().is_terminal() => ErrorFormat::Human,
+        None => ErrorFormat::Line,
     }
 }
 

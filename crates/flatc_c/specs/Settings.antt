@@ -1,13 +1,13 @@
 -- What C asks for. Where its struct ends before a field does, the field has its default.
 use Rattle.std.specs.Prelude.{◌≡◌, ◌≤◌, ℕ, Bool, false, if◌then◌else◌, nat_lt}
-use Rattle.fb_value.specs.Bounds.{Bounds}
+use Rattle.fb_value.specs.Bounds.{Bounds, usual_limits}
 use Rattle.flatc_c.specs.declared.options.Options.{Options}
 
 abbrev pub cells_of : Options → ℕ
-cells_of o = if nat_lt o.size 8 then 100000000 else o.max_cells
+cells_of o = if nat_lt o.size 8 then usual_limits.cells else o.max_cells
 
 abbrev pub depth_of : Options → ℕ
-depth_of o = if nat_lt o.size 9 then 64 else o.max_depth
+depth_of o = if nat_lt o.size 9 then usual_limits.depth else o.max_depth
 
 abbrev pub unknown_of : Options → Bool
 unknown_of o = if nat_lt o.size 10 then false else o.unknown_json

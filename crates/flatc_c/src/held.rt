@@ -1,5 +1,5 @@
 //! The pointer that C keeps in a handle.
-// It has no type parameter and names no type behind the pointer, or it could not be passed to C.
+// It has no type parameter and names no type for what the pointer leads to, or it could not be passed to C.
 ghost use Rattle.std.specs.Prelude.{◌≡◌, Option, Some, None, IsSome};
 ghost use Rattle.flatc_c.specs.declared.kept.Kept.{Kept};
 ghost use Rattle.flatc_c.specs.contracts.kept.Kept.{the_row};

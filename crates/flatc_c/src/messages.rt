@@ -3,8 +3,8 @@ ghost use Rattle.std.specs.Prelude.{◌≡◌, ◌≢◌, ◌≤◌, ◌⊎◌, 
 ghost use Rattle.std_alloc.specs.Arc.{arc_value};
 ghost use Rattle.fb_value.specs.Datum.{Datum};
 ghost use Rattle.fb_value.specs.Holds.{HoldsFramed, RefusesFramed};
-ghost use Rattle.flatc_tool.specs.Jobs.{IsBinaryFramed, MayBeBinaryFramed, BinaryRefusedFramed};
-ghost use Rattle.flatc_tool.specs.Jobs.{IsTextFramed, MayBeTextFramed, TextRefusedFramed};
+ghost use Rattle.flatc_tool.specs.Jobs.{IsBinary, MayBeBinary, BinaryRefused};
+ghost use Rattle.flatc_tool.specs.Jobs.{IsText, MayBeText, TextRefused};
 ghost use Rattle.flatc_c.specs.Handles.{HasLayout, HasBytes, layout_of};
 ghost use Rattle.flatc_c.specs.Faults.{Told, OnReadFault};
 ghost use Rattle.flatc_c.specs.Settings.{limits_of, unknown_of, raw_of, defaults_of, prefixed_of, compact_of, AreSet};
@@ -28,11 +28,11 @@ pub extern "C" fn flatc_encode(
     fault: &mut Fault,
 ) -> u32
     ensures binary { (result ≡ 0) → HasLayout schema.old.held.value (λ L. HasBytes out.new
-        (IsBinaryFramed (prefixed_of options.now) L json.now (limits_of options.now) (unknown_of options.now))) }
+        (IsBinary (prefixed_of options.now) L json.now (limits_of options.now) (unknown_of options.now))) }
     ensures refused { (result ≡ 1) → HasLayout schema.old.held.value (λ L. Told fault.new
-        (BinaryRefusedFramed (prefixed_of options.now) L json.now (limits_of options.now) (unknown_of options.now))) }
+        (BinaryRefused (prefixed_of options.now) L json.now (limits_of options.now) (unknown_of options.now))) }
     ensures exact { (result ≡ 1) → HasLayout schema.old.held.value (λ L.
-        ¬ MayBeBinaryFramed (prefixed_of options.now) L json.now (limits_of options.now) (unknown_of options.now)) }
+        ¬ MayBeBinary (prefixed_of options.now) L json.now (limits_of options.now) (unknown_of options.now)) }
     ensures no_schema { (result ≡ 3) → layout_of schema.old.held.value ≡ None }
     ensures bad_options { (result ≡ 4) → ¬ AreSet options.now }
     ensures status { result ≤ 4 }
@@ -82,12 +82,12 @@ pub extern "C" fn flatc_decode(
     fault: &mut Fault,
 ) -> u32
     ensures text { (result ≡ 0) → HasLayout schema.old.held.value (λ L. HasBytes out.new
-        (IsTextFramed (compact_of options.now) (prefixed_of options.now) L buffer.now
+        (IsText (compact_of options.now) (prefixed_of options.now) L buffer.now
         (limits_of options.now) (raw_of options.now) (defaults_of options.now))) }
     ensures refused { (result ≡ 1) → HasLayout schema.old.held.value (λ L. Told fault.new
-        (TextRefusedFramed (prefixed_of options.now) L buffer.now (limits_of options.now) (raw_of options.now))) }
+        (TextRefused (prefixed_of options.now) L buffer.now (limits_of options.now) (raw_of options.now))) }
     ensures exact { (result ≡ 1) → HasLayout schema.old.held.value (λ L.
-        ¬ MayBeTextFramed (prefixed_of options.now) L buffer.now (limits_of options.now) (raw_of options.now)) }
+        ¬ MayBeText (prefixed_of options.now) L buffer.now (limits_of options.now) (raw_of options.now)) }
     ensures no_schema { (result ≡ 3) → layout_of schema.old.held.value ≡ None }
     ensures bad_options { (result ≡ 4) → ¬ AreSet options.now }
     ensures status { result ≤ 4 }

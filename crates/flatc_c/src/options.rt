@@ -3,6 +3,7 @@ ghost use Rattle.std.specs.Prelude.{◌≡◌, SomeIff};
 ghost use Rattle.flatc_c.specs.Settings.{cells_of, depth_of, unknown_of, raw_of, defaults_of, prefixed_of, compact_of};
 ghost use Rattle.flatc_c.specs.Settings.{limits_of, AreSet};
 
+use fb_value::{USUAL_CELLS, USUAL_DEPTH};
 use flatc_tool::Limits;
 
 /// The limits, and what is ignored.
@@ -28,7 +29,7 @@ impl Options {
         ensures { result ≡ cells_of self.now }
     {
         if self.size < 8 {
-            100_000_000
+            USUAL_CELLS
         } else {
             self.max_cells
         }
@@ -37,7 +38,11 @@ impl Options {
     fn depth(&self) -> u8
         ensures { result ≡ depth_of self.now }
     {
-        if self.size < 9 { 64 } else { self.max_depth }
+        if self.size < 9 {
+            USUAL_DEPTH
+        } else {
+            self.max_depth
+        }
     }
 
     /// Whether unknown JSON fields are ignored.
@@ -73,7 +78,7 @@ impl Options {
         }
     }
 
-    /// Whether the count of a buffer's bytes is in front of it.
+    /// Whether a buffer has a size prefix.
     pub(crate) fn has_prefix(&self) -> bool
         ensures { result ≡ prefixed_of self.now }
     {

@@ -1,3 +1,5 @@
 pub mod Arguments
 pub mod Refusals
 pub mod LineInputs
+pub mod JobLines
+pub mod TaskFiles

@@ -3,13 +3,14 @@ use Rattle.std.specs.Prelude.{List, [], ◌∷◌, ◌++◌, map}
 use Rattle.std.specs.Borrow.{Bor}
 use Rattle.clap.specs.Words.{App, Rule, new_app, with_subcommand}
 use Rattle.flatc_cli.specs.declared.commands.Argument.{Argument}
-use Rattle.flatc_cli.specs.declared.commands.Argument.TheVariants.{Flag, Directory, Path, Paths}
+use Rattle.flatc_cli.specs.declared.commands.Argument.TheVariants.{Flag, Directory, Value, Path, Paths}
 use Rattle.flatc_cli.specs.declared.commands.JobWords.{JobWords}
-use Rattle.flatc_cli.specs.Commands.{flag_rule, dir_rule, path_rule, paths_rule}
+use Rattle.flatc_cli.specs.Commands.{flag_rule, dir_rule, value_rule, path_rule, paths_rule}
 
 abbrev pub rule_in : Argument → Rule
 rule_in (Flag name help) = flag_rule name.now
 rule_in (Directory help) = dir_rule
+rule_in (Value id long help) = value_rule id.now long.now
 rule_in (Path id required help) = path_rule id.now required
 rule_in (Paths id required help) = paths_rule id.now required
 

@@ -29,9 +29,14 @@ with_paths a id = with_rule a (paths_rule id true)
 abbrev pub with_flag : App → Text → App
 with_flag a name = with_rule a (flag_rule name)
 
--- `--explain` and `--terse`, which all jobs have
-abbrev pub with_explaining : App → App
-with_explaining a = with_flag (with_flag a (codes "explain")) (codes "terse")
+-- `--LONG ID`
+abbrev pub value_rule : Text → Text → Rule
+value_rule id long = record (new_rule id) { long = Some long }
+
+-- `--explain`, `--terse` and `--error-format FORMAT`, which all jobs have
+abbrev pub with_formats : App → App
+with_formats a = with_rule (with_flag (with_flag a (codes "explain")) (codes "terse"))
+    (value_rule (codes "FORMAT") (codes "error-format"))
 
 -- `--lines` and `--keep-going`, which jobs over a stream of messages have
 abbrev pub with_streaming : App → App
@@ -42,14 +47,14 @@ abbrev pub with_files : App → Rule → App
 with_files a files = with_rule (with_path (with_rule a dir_rule) (codes "SCHEMA")) files
 
 abbrev pub binary_flags : App
-binary_flags = with_explaining (with_streaming (with_flag (with_flag (new_app (codes "binary")) (codes "unknown-json"))
+binary_flags = with_formats (with_streaming (with_flag (with_flag (new_app (codes "binary")) (codes "unknown-json"))
     (codes "size-prefixed")))
 
 abbrev pub binary_app : App
 binary_app = with_files binary_flags (paths_rule (codes "JSON") true)
 
 abbrev pub json_flags : App
-json_flags = with_explaining (with_streaming (with_flag (with_flag (with_flag
+json_flags = with_formats (with_streaming (with_flag (with_flag (with_flag
     (with_flag (new_app (codes "json")) (codes "raw-binary")) (codes "defaults-json")) (codes "size-prefixed"))
     (codes "compact")))
 
@@ -57,17 +62,17 @@ abbrev pub json_app : App
 json_app = with_files json_flags (paths_rule (codes "BIN") true)
 
 abbrev pub check_app : App
-check_app = with_rule (with_path (with_explaining (with_streaming (with_flag
+check_app = with_rule (with_path (with_formats (with_streaming (with_flag
     (with_flag (new_app (codes "check")) (codes "raw-binary")) (codes "size-prefixed")))) (codes "SCHEMA"))
     (paths_rule (codes "BIN") false)
 
 abbrev pub conform_app : App
-conform_app = with_path (with_path (with_explaining (with_flag (new_app (codes "conform")) (codes "names")))
-    (codes "OLD")) (codes "NEW")
+conform_app = with_path (with_path (with_formats (with_rule (with_flag (new_app (codes "conform")) (codes "names"))
+    (value_rule (codes "NAME") (codes "old-name")))) (codes "OLD")) (codes "NEW")
 
 -- the schema's path and the buffer's, or with `--header` the buffer's alone
 abbrev pub inspect_app : App
-inspect_app = with_paths (with_explaining (with_flag (with_flag
+inspect_app = with_paths (with_formats (with_flag (with_flag
     (with_flag (new_app (codes "inspect")) (codes "raw-binary")) (codes "size-prefixed")) (codes "header")))
     (codes "FILE")
 

@@ -6,10 +6,15 @@ use Rattle.clap.specs.Walk.{walked}
 use Rattle.clap.specs.Takes.{walk_passes}
 use Rattle.flatc_cli.specs.Commands.{flatc_app}
 use Rattle.flatc_cli.specs.Lines.{IsRequestOf, is_line}
-use Rattle.flatc_files.specs.declared.request.Job.TheVariants.{Binary, Check, Conform}
-use Rattle.flatc_files.specs.declared.request.Explaining.TheVariants.{AtTerminal, Always, Never}
-use Rattle.flatc_files.specs.declared.request.Inspection.TheVariants.{Header}
-use Rattle.flatc_files.specs.declared.request.Request.TheVariants.{Do, Inspect, Explain}
+use Rattle.flatc_cli.specs.Jobs.{is_job_line, request_of_job}
+use Rattle.flatc_cli.specs.Requests.{usual_form, format_named}
+use Rattle.flatc_cli.specs.declared.job.Job.TheVariants.{Check}
+use Rattle.flatc_cli.specs.declared.request.Verb.TheVariants.{Binary}
+use Rattle.flatc_cli.specs.declared.request.Inputs.TheVariants.{One}
+use Rattle.flatc_cli.specs.declared.request.Output.TheVariants.{File}
+use Rattle.flatc_cli.specs.declared.request.ErrorFormat.TheVariants.{Line, Human, Short}
+use Rattle.flatc_cli.specs.declared.request.Inspection.TheVariants.{Header}
+use Rattle.flatc_cli.specs.declared.request.Request.TheVariants.{Do, Conform, Inspect, Explain}
 
 -- flatc check s
 abbrev pub check_line : List Text
@@ -20,9 +25,10 @@ unfolding walked walk_passes
 check_is_taken = refl
 
 pub check_is_a_job : (s : String Global) → string_bytes s ≡ codes "s"
-    → IsRequestOf (subcommand_of flatc_app check_line) (Do (Check s None false) AtTerminal)
+    → IsRequestOf (subcommand_of flatc_app check_line) (request_of_job (Check s None false))
 unfolding walked
-check_is_a_job s same = ((refl, cc, refl, refl), refl, refl, refl)
+check_is_a_job s same =
+    (((refl, refl), cc, record { fit = tt; paths = refl; directory = tt; streamed = refl }, refl), refl)
 
 -- flatc binary --unknown-json --explain s j o
 abbrev pub binary_line : List Text
@@ -34,18 +40,30 @@ binary_is_taken = refl
 
 pub binary_is_a_job : (s j o : String Global) → string_bytes s ≡ codes "s" → string_bytes j ≡ codes "j"
     → string_bytes o ≡ codes "o"
-    → IsRequestOf (subcommand_of flatc_app binary_line) (Do (Binary s j o true) Always)
+    → IsRequestOf (subcommand_of flatc_app binary_line) (Do (record {
+      verb = Binary true;
+      schema = s;
+      inputs = One j;
+      output = File o;
+      form = usual_form;
+    }) (Some Human))
 unfolding walked
-binary_is_a_job s j o schema json out = ((refl, cc, cc, refl, refl), refl, refl, refl)
+binary_is_a_job s j o schema json out =
+    (((refl, refl), cc, record { fit = tt; paths = cc; directory = refl; streamed = refl }, refl), refl)
 
 -- flatc conform --names --explain --terse a b
 abbrev pub names_line : List Text
 names_line = codes "conform" ∷ codes "--names" ∷ codes "--explain" ∷ codes "--terse" ∷ codes "a" ∷ codes "b" ∷ []
 
 pub names_are_asked_for : (a b : String Global) → string_bytes a ≡ codes "a" → string_bytes b ≡ codes "b"
-    → IsRequestOf (subcommand_of flatc_app names_line) (Do (Conform a b true) Never)
+    → IsRequestOf (subcommand_of flatc_app names_line) (Conform (record {
+      old = a;
+      new = b;
+      names = true;
+      old_name = None;
+    }) (Some Line))
 unfolding walked
-names_are_asked_for a b old new = ((refl, cc, cc, refl), refl, refl, refl)
+names_are_asked_for a b old new = ((refl, cc, cc, refl, refl), refl)
 
 -- flatc explain
 abbrev pub list_line : List Text
@@ -113,7 +131,7 @@ abbrev pub header_line : List Text
 header_line = codes "inspect" ∷ codes "--header" ∷ codes "b" ∷ []
 
 pub header_is_asked_for : (b : String Global) → string_bytes b ≡ codes "b"
-    → IsRequestOf (subcommand_of flatc_app header_line) (Inspect (Header b) AtTerminal)
+    → IsRequestOf (subcommand_of flatc_app header_line) (Inspect (Header b) None)
 unfolding walked
 header_is_asked_for b bin = ((refl, refl, cc), refl)
 
@@ -124,3 +142,52 @@ going_line = codes "check" ∷ codes "--keep-going" ∷ codes "s" ∷ codes "b" 
 pub going_is_no_line : is_line (subcommand_of flatc_app going_line) ≡ false
 unfolding walked
 going_is_no_line = refl
+
+-- lines that are none of the four over one file each
+pub batch_is_no_job : is_job_line (subcommand_of flatc_app batch_line) ≡ false
+unfolding walked
+batch_is_no_job = refl
+
+pub stream_is_no_job : is_job_line (subcommand_of flatc_app stream_line) ≡ false
+unfolding walked
+stream_is_no_job = refl
+
+pub form_is_no_job : is_job_line (subcommand_of flatc_app form_line) ≡ false
+unfolding walked
+form_is_no_job = refl
+
+-- flatc conform --error-format short --old-name n - b
+abbrev pub format_line : List Text
+format_line = codes "conform" ∷ codes "--error-format" ∷ codes "short" ∷ codes "--old-name" ∷ codes "n" ∷ codes "-"
+    ∷ codes "b" ∷ []
+
+pub format_is_asked_for : (a b n : String Global) → string_bytes a ≡ codes "-" → string_bytes b ≡ codes "b"
+    → string_bytes n ≡ codes "n"
+    → IsRequestOf (subcommand_of flatc_app format_line) (Conform (record {
+      old = a;
+      new = b;
+      names = false;
+      old_name = Some n;
+    }) (Some Short))
+unfolding walked format_named
+format_is_asked_for a b n old new name = ((refl, cc, cc, refl, cc), refl)
+
+pub format_is_no_job : is_job_line (subcommand_of flatc_app format_line) ≡ false
+unfolding walked format_named
+format_is_no_job = refl
+
+-- flatc check --error-format gcc s, which clap takes
+abbrev pub unknown_format_line : List Text
+unknown_format_line = codes "check" ∷ codes "--error-format" ∷ codes "gcc" ∷ codes "s" ∷ []
+
+pub unknown_format_is_no_line : is_line (subcommand_of flatc_app unknown_format_line) ≡ false
+unfolding walked format_named
+unknown_format_is_no_line = refl
+
+-- flatc check --error-format=line --terse s, which clap takes
+abbrev pub two_formats_line : List Text
+two_formats_line = codes "check" ∷ codes "--error-format=line" ∷ codes "--terse" ∷ codes "s" ∷ []
+
+pub two_formats_are_no_line : is_line (subcommand_of flatc_app two_formats_line) ≡ false
+unfolding walked format_named
+two_formats_are_no_line = refl

@@ -1,31 +1,29 @@
 -- What the matches of a command line ask for.
-use Rattle.std.specs.Prelude.{◌≡◌, ◌≢◌, ◌==◌, ◌&&◌, ◌||◌, ◌≤◌, Bool, true, false, not, List, [], ◌∷◌, Option}
+use Rattle.std.specs.Prelude.{◌≡◌, ◌==◌, ◌&&◌, ◌||◌, ◌≤◌, ◌++◌, ⊤, Bool, true, false, not, List, [], ◌∷◌, Option}
 use Rattle.std.specs.Prelude.{Some, None}
-use Rattle.std.specs.Prelude.{codes, String, string_bytes, length, map, option_map, take, unwrap_or, is_some}
+use Rattle.std.specs.Prelude.{codes, String, string_bytes, length, option_map, take, unwrap_or, is_some}
 use Rattle.std.specs.Prelude.{if◌then◌else◌}
-use Rattle.std.specs.Borrow.{Bor}
 use Rattle.std.specs.Option.{option_map_or}
 use Rattle.std.specs.Str.{bytes_eq}
 use Rattle.std.specs.declared.alloc.Global.{Global}
 use Rattle.clap.specs.Words.{Row, Text, all_of, first_of}
-use Rattle.flatc_files.specs.Forms.{usual_form}
 use Rattle.flatc_files.specs.StandardPaths.{is_read_once}
-use Rattle.flatc_files.specs.declared.request.Job.{Job}
-use Rattle.flatc_files.specs.declared.request.Job.TheVariants.{Binary, Json, Check, Conform}
-use Rattle.flatc_files.specs.declared.request.Batch.{Batch}
-use Rattle.flatc_files.specs.declared.request.Task.{Task}
-use Rattle.flatc_files.specs.declared.request.Task.TheVariants as task
-use Rattle.flatc_files.specs.declared.request.Explaining.{Explaining}
-use Rattle.flatc_files.specs.declared.request.Explaining.TheVariants.{AtTerminal, Always, Never}
-use Rattle.flatc_files.specs.declared.request.Request.{Request}
-use Rattle.flatc_files.specs.declared.request.Form.{Form}
-use Rattle.flatc_files.specs.declared.request.Stream.{Stream}
-use Rattle.flatc_files.specs.declared.request.StreamTask.{StreamTask}
-use Rattle.flatc_files.specs.declared.request.StreamTask.TheVariants as streamed
-use Rattle.flatc_files.specs.declared.request.Inspection.{Inspection}
-use Rattle.flatc_files.specs.declared.request.Inspection.TheVariants.{Bytes, Header}
-use Rattle.flatc_files.specs.declared.request.Request.TheVariants.{Do, DoEach, DoFormed, DoEachFormed, DoStream}
-use Rattle.flatc_files.specs.declared.request.Request.TheVariants.{Inspect, Explain}
+use Rattle.flatc_cli.specs.Requests.{input_paths, output_paths, format_named}
+use Rattle.flatc_cli.specs.declared.request.Verb.{Verb}
+use Rattle.flatc_cli.specs.declared.request.Verb.TheVariants.{Binary, Json, Check}
+use Rattle.flatc_cli.specs.declared.request.Inputs.{Inputs}
+use Rattle.flatc_cli.specs.declared.request.Inputs.TheVariants.{One, Each, Stream}
+use Rattle.flatc_cli.specs.declared.request.Output.{Output}
+use Rattle.flatc_cli.specs.declared.request.Output.TheVariants.{Standard, File, Directory}
+use Rattle.flatc_cli.specs.declared.request.Form.{Form}
+use Rattle.flatc_cli.specs.declared.request.Task.{Task}
+use Rattle.flatc_cli.specs.declared.request.Comparison.{Comparison}
+use Rattle.flatc_cli.specs.declared.request.Inspection.{Inspection}
+use Rattle.flatc_cli.specs.declared.request.Inspection.TheVariants.{Bytes, Header}
+use Rattle.flatc_cli.specs.declared.request.ErrorFormat.{ErrorFormat}
+use Rattle.flatc_cli.specs.declared.request.ErrorFormat.TheVariants.{Line, Human}
+use Rattle.flatc_cli.specs.declared.request.Request.{Request}
+use Rattle.flatc_cli.specs.declared.request.Request.TheVariants.{Do, Conform, Inspect, Explain}
 
 -- ---- what the rows have
 
@@ -41,60 +39,73 @@ paths_in id rows = unwrap_or (all_of id rows) []
 abbrev pub IsPath : Text → List Row → String Global → Type 0
 IsPath id rows path = first_of id rows ≡ Some (string_bytes path)
 
+abbrev pub is_streamed : List Row → Bool
+is_streamed rows = is_set (codes "lines") rows
+
 -- ---- what they ask for
 
-abbrev pub listed : Option (Bor Text) → List Text
-listed None = []
-listed (Some path) = path.now ∷ []
-
-abbrev pub bytes_of : Option (String Global) → List Text
-bytes_of None = []
-bytes_of (Some path) = string_bytes path ∷ []
-
-abbrev pub IsJob : Text → List Row → Job → Type 0
-IsJob name rows (Binary schema json out unknown) = (name ≡ codes "binary")
-    × IsPath (codes "SCHEMA") rows schema × (paths_in (codes "JSON") rows ≡ string_bytes json ∷ string_bytes out ∷ [])
-    × (first_of (codes "DIR") rows ≡ None) × (unknown ≡ is_set (codes "unknown-json") rows)
-IsJob name rows (Json schema bin raw defaults) = (name ≡ codes "json")
-    × IsPath (codes "SCHEMA") rows schema × (paths_in (codes "BIN") rows ≡ string_bytes bin ∷ [])
-    × (first_of (codes "DIR") rows ≡ None)
+abbrev pub IsVerb : Text → List Row → Verb → Type 0
+IsVerb name rows (Binary unknown) = (name ≡ codes "binary") × (unknown ≡ is_set (codes "unknown-json") rows)
+IsVerb name rows (Json raw defaults) = (name ≡ codes "json")
     × (raw ≡ is_set (codes "raw-binary") rows) × (defaults ≡ is_set (codes "defaults-json") rows)
-IsJob name rows (Check schema bin raw) = (name ≡ codes "check")
-    × IsPath (codes "SCHEMA") rows schema × (paths_in (codes "BIN") rows ≡ bytes_of bin)
-    × (raw ≡ is_set (codes "raw-binary") rows)
-IsJob name rows (Conform old new names) = (name ≡ codes "conform")
-    × IsPath (codes "OLD") rows old × IsPath (codes "NEW") rows new × (names ≡ is_set (codes "names") rows)
+IsVerb name rows (Check raw) = (name ≡ codes "check") × (raw ≡ is_set (codes "raw-binary") rows)
 
--- the files are all paths behind the schema's, in their order
-abbrev pub IsTask : Text → List Row → List Text → Task → Type 0
-IsTask name rows files (task.Binary dir unknown) = (name ≡ codes "binary")
-    × (files ≡ paths_in (codes "JSON") rows) × IsPath (codes "DIR") rows dir
-    × (unknown ≡ is_set (codes "unknown-json") rows)
-IsTask name rows files (task.Json dir raw defaults) = (name ≡ codes "json")
-    × (files ≡ paths_in (codes "BIN") rows) × IsPath (codes "DIR") rows dir
-    × (raw ≡ is_set (codes "raw-binary") rows) × (defaults ≡ is_set (codes "defaults-json") rows)
-IsTask name rows files (task.Check raw) = (name ≡ codes "check")
-    × (files ≡ paths_in (codes "BIN") rows) × (2 ≤ length files)
-    × (raw ≡ is_set (codes "raw-binary") rows)
+-- the id of the paths after the schema's
+abbrev pub files_id : Verb → Text
+files_id (Binary unknown) = codes "JSON"
+files_id (Json raw defaults) = codes "BIN"
+files_id (Check raw) = codes "BIN"
 
-abbrev pub IsBatch : Text → List Row → Batch → Type 0
-IsBatch name rows batch = IsPath (codes "SCHEMA") rows batch.schema
-    × IsTask name rows (map string_bytes batch.files.items) batch.task
+-- one file, read as a whole or as a stream
+abbrev pub IsOneFile : Inputs → Type 0
+IsOneFile (One path) = ⊤
+IsOneFile (Stream path keep_going) = ⊤
+IsOneFile _ = ⊥
 
--- the task is for each message of the first path behind the schema's; JSON texts have OUT behind it
-abbrev pub IsStreamTask : Text → List Row → Text → StreamTask → Type 0
-IsStreamTask name rows input (streamed.Binary out unknown) = (name ≡ codes "binary")
-    × (paths_in (codes "JSON") rows ≡ input ∷ string_bytes out ∷ []) × (unknown ≡ is_set (codes "unknown-json") rows)
-IsStreamTask name rows input (streamed.Json raw defaults) = (name ≡ codes "json")
-    × (paths_in (codes "BIN") rows ≡ input ∷ [])
-    × (raw ≡ is_set (codes "raw-binary") rows) × (defaults ≡ is_set (codes "defaults-json") rows)
-IsStreamTask name rows input (streamed.Check raw) = (name ≡ codes "check")
-    × (paths_in (codes "BIN") rows ≡ input ∷ []) × (raw ≡ is_set (codes "raw-binary") rows)
+-- the inputs that a verb may have with an output, as its usage says
+abbrev pub Fit : Verb → Inputs → Output → Type 0
+Fit (Binary unknown) inputs (File out) = IsOneFile inputs
+Fit (Binary unknown) (Each jsons) (Directory dir) = ⊤
+Fit (Json raw defaults) inputs Standard = IsOneFile inputs
+Fit (Json raw defaults) (Each bins) (Directory dir) = ⊤
+Fit (Check raw) (Each bins) Standard = 2 ≤ length bins.items
+Fit (Check raw) inputs Standard = ⊤
+Fit _ _ _ = ⊥
 
-abbrev pub IsStream : Text → List Row → Stream → Type 0
-IsStream name rows stream = IsPath (codes "SCHEMA") rows stream.schema
-    × IsStreamTask name rows (string_bytes stream.input) stream.task
-    × (stream.keep_going ≡ is_set (codes "keep-going") rows)
+-- a directory is asked for exactly where the line has one, which no line `check` has
+abbrev pub IsDirectory : List Row → Verb → Output → Type 0
+IsDirectory rows (Check raw) output = ⊤
+IsDirectory rows verb (Directory dir) = IsPath (codes "DIR") rows dir
+IsDirectory rows verb output = first_of (codes "DIR") rows ≡ None
+
+-- `--lines` asks for a stream
+abbrev pub IsStreamed : List Row → Inputs → Type 0
+IsStreamed rows (Stream path keep_going) = (is_streamed rows ≡ true) × (keep_going ≡ is_set (codes "keep-going") rows)
+IsStreamed rows inputs = is_streamed rows ≡ false
+
+-- the paths after the schema's are the inputs in their order, and then OUT
+pub record AreFiles (rows : List Row) (verb : Verb) (inputs : Inputs) (output : Output) : Type 0 where
+  pub fit : Fit verb inputs output
+  pub paths : paths_in (files_id verb) rows ≡ input_paths inputs ++ output_paths output
+  pub directory : IsDirectory rows verb output
+  pub streamed : IsStreamed rows inputs
+
+-- a stream's buffers have size prefixes, and its JSON texts are lines
+abbrev pub form_in : List Row → Form
+form_in rows = record {
+  size_prefixed = is_streamed rows || is_set (codes "size-prefixed") rows;
+  compact = is_streamed rows || is_set (codes "compact") rows;
+}
+
+abbrev pub IsTask : Text → List Row → Task → Type 0
+IsTask name rows task = IsVerb name rows task.verb × IsPath (codes "SCHEMA") rows task.schema
+    × AreFiles rows task.verb task.inputs task.output × (task.form ≡ form_in rows)
+
+abbrev pub IsComparison : Text → List Row → Comparison → Type 0
+IsComparison name rows comparison = (name ≡ codes "conform")
+    × IsPath (codes "OLD") rows comparison.old × IsPath (codes "NEW") rows comparison.new
+    × (comparison.names ≡ is_set (codes "names") rows)
+    × (first_of (codes "NAME") rows ≡ option_map string_bytes comparison.old_name)
 
 abbrev pub IsInspection : Text → List Row → Inspection → Type 0
 IsInspection name rows (Bytes schema bin raw size_prefixed) = (name ≡ codes "inspect")
@@ -104,35 +115,19 @@ IsInspection name rows (Bytes schema bin raw size_prefixed) = (name ≡ codes "i
 IsInspection name rows (Header bin) = (name ≡ codes "inspect") × (is_set (codes "header") rows ≡ true)
     × (paths_in (codes "FILE") rows ≡ string_bytes bin ∷ [])
 
--- buffers have a count in front, JSON texts have no blanks
-abbrev pub form_in : List Row → Form
-form_in rows = record { size_prefixed = is_set (codes "size-prefixed") rows; compact = is_set (codes "compact") rows }
+-- `--terse` is the format `line`, and wins over `--explain`, which is `human`
+abbrev pub format_in : List Row → Option ErrorFormat
+format_in rows =
+    if is_set (codes "terse") rows then Some Line
+    else if is_set (codes "explain") rows then Some Human
+    else option_map_or format_named (first_of (codes "FORMAT") rows) None
 
-abbrev pub is_streamed : List Row → Bool
-is_streamed rows = is_set (codes "lines") rows
-
--- `--terse` wins over `--explain`; without both it depends on where standard error goes
-abbrev pub explaining_in : List Row → Explaining
-explaining_in rows =
-    if is_set (codes "terse") rows then Never
-    else if is_set (codes "explain") rows then Always
-    else AtTerminal
-
--- a job, a batch, a stream or an inspection, and when its refusals are explained, or the number of a refusal if the
--- line has one
+-- a task, a comparison or an inspection, and the format of its refusals if the line has one, or the number of a refusal
+-- if the line has one
 abbrev pub IsRequest : Text → List Row → Request → Type 0
-IsRequest name rows (Do job explaining) = IsJob name rows job × (explaining ≡ explaining_in rows)
-    × (is_streamed rows ≡ false) × (form_in rows ≡ usual_form)
-IsRequest name rows (DoEach batch explaining) = IsBatch name rows batch × (explaining ≡ explaining_in rows)
-    × (is_streamed rows ≡ false) × (form_in rows ≡ usual_form)
-IsRequest name rows (DoFormed job form explaining) = IsJob name rows job × (explaining ≡ explaining_in rows)
-    × (is_streamed rows ≡ false) × (form_in rows ≡ form) × (form ≢ usual_form)
-IsRequest name rows (DoEachFormed batch form explaining) = IsBatch name rows batch × (explaining ≡ explaining_in rows)
-    × (is_streamed rows ≡ false) × (form_in rows ≡ form) × (form ≢ usual_form)
-IsRequest name rows (DoStream stream explaining) = IsStream name rows stream × (explaining ≡ explaining_in rows)
-    × (is_streamed rows ≡ true)
-IsRequest name rows (Inspect inspection explaining) = IsInspection name rows inspection
-    × (explaining ≡ explaining_in rows)
+IsRequest name rows (Do task format) = IsTask name rows task × (format ≡ format_in rows)
+IsRequest name rows (Conform comparison format) = IsComparison name rows comparison × (format ≡ format_in rows)
+IsRequest name rows (Inspect inspection format) = IsInspection name rows inspection × (format ≡ format_in rows)
 IsRequest name rows (Explain number) = (name ≡ codes "explain")
     × (first_of (codes "NUMBER") rows ≡ option_map string_bytes number)
 
@@ -146,20 +141,25 @@ IsRequestOf (Some p) request = IsRequest p.0 p.1 request
 abbrev pub has_dir : List Row → Bool
 has_dir rows = is_some (first_of (codes "DIR") rows)
 
--- a stream has one input, counts in front of its buffers, and a text a line; it alone can go on
+-- a stream has one input, buffers with a size prefix, and a text a line; it alone can go on
 abbrev pub is_stream_allowed : List Row → Bool
 is_stream_allowed rows = if is_streamed rows then not (has_dir rows) && (not (is_set (codes "size-prefixed") rows)
     && not (is_set (codes "compact") rows))
     else not (is_set (codes "keep-going") rows)
 
--- without a schema no identifier is known, and whether a count is in front is what is shown
+-- without a schema no identifier is known, and whether there is a size prefix is what is shown
 abbrev pub is_header_allowed : List Row → Bool
 is_header_allowed rows = not (is_set (codes "header") rows) || (not (is_set (codes "raw-binary") rows)
     && not (is_set (codes "size-prefixed") rows))
 
--- no flag rules out another, or lacks another
+-- `--error-format` has one of the four names, and neither `--explain` nor `--terse` is written
+abbrev pub is_format_allowed : List Row → Bool
+is_format_allowed rows = option_map_or (λ name. is_some (format_named name) && (not (is_set (codes "explain") rows)
+    && not (is_set (codes "terse") rows))) (first_of (codes "FORMAT") rows) true
+
+-- no flag rules out another, or lacks another, and each value is one of those that its flag takes
 abbrev pub are_allowed : List Row → Bool
-are_allowed rows = is_stream_allowed rows && is_header_allowed rows
+are_allowed rows = is_stream_allowed rows && (is_header_allowed rows && is_format_allowed rows)
 
 -- as many paths as the line takes: without a directory JSON and OUT, or one BIN; of a stream one BIN; with `--header`
 -- one, else two

@@ -35,6 +35,8 @@ enum Argument {
     Flag(&'static str, &'static str),
     /// `-o DIR`, `--out-dir DIR`.
     Directory(&'static str),
+    /// A value that comes after a flag: its name, the flag, and what help says of it.
+    Value(&'static str, &'static str, &'static str),
     /// A path, and whether a line without it is refused.
     Path(&'static str, bool, &'static str),
     /// All paths that are left, and whether a line without one is refused.
@@ -82,6 +84,12 @@ const EXPLAIN: Argument = Argument::Flag(
 
 const TERSE: Argument = Argument::Flag("terse", "Never explain a refusal, at a terminal either");
 
+const FORMAT: Argument = Argument::Value(
+    "FORMAT",
+    "error-format",
+    "How refusals are shown: line, human, short or json",
+);
+
 const NAMES: Argument = Argument::Flag(
     "names",
     "Also refuse a name that now belongs to another field or member",
@@ -102,6 +110,7 @@ pub(crate) const BINARY: &JobWords = &JobWords {
         GOING,
         EXPLAIN,
         TERSE,
+        FORMAT,
         Argument::Directory("Convert each JSON to NAME.bin in this directory"),
         SCHEMA,
         Argument::Paths(
@@ -129,6 +138,7 @@ pub(crate) const JSON: &JobWords = &JobWords {
         GOING,
         EXPLAIN,
         TERSE,
+        FORMAT,
         Argument::Directory("Convert each BIN to NAME.json in this directory"),
         SCHEMA,
         Argument::Paths("BIN", true, "The buffer; with -o all buffers"),
@@ -147,6 +157,7 @@ pub(crate) const CHECK: &JobWords = &JobWords {
         GOING,
         EXPLAIN,
         TERSE,
+        FORMAT,
         SCHEMA,
         Argument::Paths("BIN", false, "The buffer, or several"),
     ],
@@ -159,8 +170,14 @@ pub(crate) const CONFORM: &JobWords = &JobWords {
     notes: Some(DASH),
     arguments: &[
         NAMES,
+        Argument::Value(
+            "NAME",
+            "old-name",
+            "What the old schema is called in refusals",
+        ),
         EXPLAIN,
         TERSE,
+        FORMAT,
         Argument::Path("OLD", true, "The old schema text"),
         Argument::Path("NEW", true, "The new schema text"),
     ],
@@ -177,6 +194,7 @@ pub(crate) const INSPECT: &JobWords = &JobWords {
         HEADER,
         EXPLAIN,
         TERSE,
+        FORMAT,
         Argument::Paths(
             "FILE",
             true,
@@ -215,6 +233,7 @@ fn arg_of<'a>(alloc: Global, argument: &Argument) -> Arg<'a>
     match *argument {
         Argument::Flag(name, help) => flag(alloc, name, help),
         Argument::Directory(help) => Arg::new(alloc, "DIR").long("out-dir").short('o').help(help),
+        Argument::Value(id, long, help) => Arg::new(alloc, id).long(long).help(help),
         Argument::Path(id, required, help) => Arg::new(alloc, id).required(required).help(help),
         Argument::Paths(id, required, help) => Arg::new(alloc, id)
             .required(required)

@@ -1,34 +1,24 @@
 //! What the flags of a line say, and which of them go together.
 ghost use Rattle.std.specs.Prelude.{◌≡◌, OnOk, OnErr, true, false};
 ghost use Rattle.clap.specs.Words.{found_of, rows_of};
-ghost use Rattle.flatc_cli.specs.Lines.{is_streamed, explaining_in, form_in};
-ghost use Rattle.flatc_cli.specs.Lines.{is_stream_allowed, is_header_allowed, are_allowed};
+ghost use Rattle.flatc_cli.specs.Lines.{is_streamed, format_in, form_in};
+ghost use Rattle.flatc_cli.specs.Lines.{is_stream_allowed, is_header_allowed, is_format_allowed, are_allowed};
 
-use crate::matched::{flag_of, text_of};
+use crate::matches::{flag_of, text_of};
 use crate::misuse::Misuse;
+use crate::request::{ErrorFormat, Form};
 use clap::ArgMatches;
-use flatc_files::{Explaining, Form};
 
-/// When a refusal is explained.
-pub(crate) fn explaining_of(found: &ArgMatches<'_>) -> Explaining
-    ensures { result ≡ explaining_in (rows_of (found_of found.now)) }
+/// How refusals are shown, where the line says it.
+pub(crate) fn format_of(found: &ArgMatches<'_>) -> Option<ErrorFormat>
+    ensures { result ≡ format_in (rows_of (found_of found.now)) }
 {
     if flag_of(found, "terse") {
-        Explaining::Never
+        Some(ErrorFormat::Line)
     } else if flag_of(found, "explain") {
-        Explaining::Always
+        Some(ErrorFormat::Human)
     } else {
-        Explaining::AtTerminal
-    }
-}
-
-/// What of buffers and JSON texts is other than usual.
-pub(crate) fn form_of(found: &ArgMatches<'_>) -> Form
-    ensures { result ≡ form_in (rows_of (found_of found.now)) }
-{
-    Form {
-        size_prefixed: flag_of(found, "size-prefixed"),
-        compact: flag_of(found, "compact"),
+        text_of(found, "FORMAT").and_then(ErrorFormat::named)
     }
 }
 
@@ -37,6 +27,17 @@ pub(crate) fn is_streamed(found: &ArgMatches<'_>) -> bool
     ensures { result ≡ is_streamed (rows_of (found_of found.now)) }
 {
     flag_of(found, "lines")
+}
+
+/// How buffers and JSON texts are framed.
+pub(crate) fn form_of(found: &ArgMatches<'_>) -> Form
+    ensures { result ≡ form_in (rows_of (found_of found.now)) }
+{
+    let is_streamed = is_streamed(found);
+    Form {
+        size_prefixed: is_streamed || flag_of(found, "size-prefixed"),
+        compact: is_streamed || flag_of(found, "compact"),
+    }
 }
 
 fn check_stream_flags(found: &ArgMatches<'_>) -> Result<(), Misuse<'static>>
@@ -77,11 +78,31 @@ fn check_header_flags(found: &ArgMatches<'_>) -> Result<(), Misuse<'static>>
     Ok(())
 }
 
-/// That no flag rules out another, and that each has the one that it needs.
-pub(crate) fn check_flags(found: &ArgMatches<'_>) -> Result<(), Misuse<'static>>
+fn check_format_flags<'a>(found: &ArgMatches<'a>) -> Result<(), Misuse<'a>>
+    ensures ok { OnOk result (is_format_allowed (rows_of (found_of found.now)) ≡ true) }
+    ensures refusal { OnErr result (is_format_allowed (rows_of (found_of found.now)) ≡ false) }
+{
+    let Some(name) = text_of(found, "FORMAT") else {
+        return Ok(());
+    };
+    if ErrorFormat::named(name).is_none() {
+        return Err(Misuse::UnknownFormat(name));
+    }
+    if flag_of(found, "explain") {
+        return Err(Misuse::Conflict("--error-format <FORMAT>", "--explain"));
+    }
+    if flag_of(found, "terse") {
+        return Err(Misuse::Conflict("--error-format <FORMAT>", "--terse"));
+    }
+    Ok(())
+}
+
+/// That no flag rules out another, that each has the one that it needs, and that each value is one that its flag takes.
+pub(crate) fn check_flags<'a>(found: &ArgMatches<'a>) -> Result<(), Misuse<'a>>
     ensures ok { OnOk result (are_allowed (rows_of (found_of found.now)) ≡ true) }
     ensures refusal { OnErr result (are_allowed (rows_of (found_of found.now)) ≡ false) }
 {
     check_stream_flags(found)?;
-    check_header_flags(found)
+    check_header_flags(found)?;
+    check_format_flags(found)
 }

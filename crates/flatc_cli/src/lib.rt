@@ -4,11 +4,16 @@
 mod commands;
 mod flags;
 mod inspections;
+mod job;
 mod line;
-mod matched;
+mod matches;
 mod misuse;
-mod streams;
+mod request;
+mod requests;
+mod tasks;
 
 pub use commands::VERSION;
+pub use job::{Job, job_of};
 pub use line::request_of;
-pub use misuse::{other_line, usage_error};
+pub use misuse::usage_error;
+pub use request::{Comparison, ErrorFormat, Form, Inputs, Inspection, Output, Request, Task, Verb};

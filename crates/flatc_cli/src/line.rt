@@ -7,11 +7,11 @@ ghost use Rattle.flatc_cli.specs.Lines.{IsRequestOf, is_line};
 ghost use Rattle.flatc_cli.specs.Misuses.{IsRefusal};
 
 use crate::commands::flatc_command;
-use crate::matched::request_at;
 use crate::misuse::{Misuse, misuse_error};
+use crate::request::Request;
+use crate::requests::request_at;
 use clap::error::ErrorKind;
 use clap::{ArgMatches, Error};
-use flatc_files::Request;
 use std::alloc::Global;
 
 /// What the matches of a command line ask for.

@@ -21,6 +21,8 @@ pub(crate) enum Misuse<'f> {
     Extra(&'f str),
     /// Two flags of which each rules out the other.
     Conflict(&'static str, &'static str),
+    /// A value of `--error-format` that names no format.
+    UnknownFormat(&'f str),
     /// Two paths are standard input.
     ReadTwice,
 }
@@ -103,6 +105,15 @@ fn conflict(alloc: Global, job: &str, flag: &str, other: &str) -> Result<Error, 
     try_usage_error(alloc, job, ErrorKind::ArgumentConflict, message.as_str())
 }
 
+fn unknown_format(alloc: Global, job: &str, name: &str) -> Result<Error, AllocError>
+    ensures { IfOk result (λ e. kind_of e ≡ ErrorKind.InvalidValue) }
+{
+    let message = format!(in alloc;
+        "invalid value '{name}' for '--error-format <FORMAT>'\n  [possible values: line, human, short, json]"
+    )?;
+    try_usage_error(alloc, job, ErrorKind::InvalidValue, message.as_str())
+}
+
 fn try_misuse_error(alloc: Global, job: &str, misuse: Misuse<'_>) -> Result<Error, AllocError>
     ensures memory { misuse.entry ≡ Misuse.Memory → IfOk result (λ e. kind_of e ≡ ErrorKind.OutOfMemory) }
     ensures refusal { IfOk result (λ e. IsRefusal (kind_of e)) }
@@ -112,6 +123,7 @@ fn try_misuse_error(alloc: Global, job: &str, misuse: Misuse<'_>) -> Result<Erro
         Misuse::Missing(word) => missing_word(alloc, job, word),
         Misuse::Extra(path) => extra_path(alloc, job, path),
         Misuse::Conflict(flag, other) => conflict(alloc, job, flag, other),
+        Misuse::UnknownFormat(name) => unknown_format(alloc, job, name),
         Misuse::ReadTwice => try_usage_error(
             alloc,
             job,
@@ -133,7 +145,7 @@ pub(crate) fn misuse_error(alloc: Global, job: &str, misuse: Misuse<'_>) -> Erro
 }
 
 /// The error about a line that is none of the four over one file each.
-pub fn other_line(alloc: Global) -> Error
+pub(crate) fn other_line(alloc: Global) -> Error
     ensures { IsRefusal (kind_of result) }
 {
     let error = match flatc_command(alloc) {

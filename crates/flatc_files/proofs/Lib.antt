@@ -1,1 +1,3 @@
+pub mod LineFeeds
 pub mod Paths
+pub mod Pending

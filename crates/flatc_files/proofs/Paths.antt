@@ -1,15 +1,13 @@
 -- Lists of paths, and sets of them.
 use Rattle.std.proofs.Common.{◌≡◌, ◌≢◌, ◌∙◌, ◌+◌, ◌<◌, ℕ, Bool, true, false, List, [], ◌∷◌, ◌++◌, All, AllPairs, Bor}
-use Rattle.std.proofs.Common.{Some, string_bytes, map, take, get_or, length, nat_cmp, cond, not, refl, sym}
+use Rattle.std.proofs.Common.{map, take, get_or, length, nat_cmp, cond, not, refl, sym}
 use Rattle.std.proofs.lemmas.List.{take_more, map-append}
 use Rattle.std.proofs.lemmas.List.Elements.{All-append, All-cons, All-nil}
 use Rattle.std.proofs.lemmas.List.Quantifiers.{all_pairs_push}
-use Rattle.std.proofs.lemmas.Simd.{map-map}
 use Rattle.std.specs.BTreeSet.{BTreeSet, Updates, contains}
 use Rattle.std.specs.Cmp.Lexicographic.{slice_cmp}
 use Rattle.flatc_files.specs.StandardPaths.{Text}
-use Rattle.flatc_files.specs.Targets.{AreApart, directory_of, has_path, outputs_of, target_in}
-use Rattle.flatc_files.specs.declared.request.Batch.{Batch}
+use Rattle.flatc_files.specs.Targets.{AreApart, has_path}
 
 -- the first elements of a list and one more, seen by f
 more : {X : Type 0} (f : X → Text) (xs : List X) (i : ℕ) (d : X) → i < length xs
@@ -70,11 +68,3 @@ pub apart : (s : BTreeSet (Bor Text)) (inputs outputs : List Text)
     → All (λ input. has_path s input ≡ false) inputs → All (λ output. has_path s output ≡ true) outputs
     → AreApart inputs outputs
 apart s inputs outputs new known j d within = differ_all s _ (new j d within) outputs known
-
--- the paths that `targets_in` gives are the outputs of the batch
-pub outputs_are : (batch : Batch) (dir extension : Text) (paths : List Text)
-    → Some (dir, extension) ≡ directory_of batch.task
-    → paths ≡ map (λ file. target_in dir extension (string_bytes file)) batch.files.items
-    → paths ≡ outputs_of batch
-outputs_are batch dir extension paths place are =
-    are ∙ rw (← place) (sym (map-map (target_in dir extension) string_bytes batch.files.items))

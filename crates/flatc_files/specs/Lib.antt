@@ -1,4 +1,5 @@
-pub mod Forms
+pub mod Lines
 pub mod Runs
 pub mod StandardPaths
 pub mod Targets
+pub mod Windows

@@ -1,15 +1,12 @@
--- Where the files of a batch go.
-use Rattle.std.specs.Prelude.{◌≢◌, ◌++◌, ◌∷◌, [], Option, None, Some, List, Bool, All, AllPairs, unwrap_or, map}
-use Rattle.std.specs.Prelude.{codes, string_bytes}
+-- Where the outputs of several files go.
+use Rattle.std.specs.Prelude.{◌≢◌, ◌++◌, ◌∷◌, List, Bool, All, AllPairs, String, unwrap_or, map, string_bytes}
 use Rattle.std.specs.BTreeSet.{BTreeSet, contains_by}
 use Rattle.std.specs.Cmp.Lexicographic.{slice_cmp}
 use Rattle.std.specs.Ordering.{nat_cmp}
 use Rattle.std.specs.Path.{path_file_stem, path_join}
 use denote.Ref.{Bor}
+use Rattle.std.specs.declared.alloc.Global.{Global}
 use Rattle.flatc_files.specs.StandardPaths.{Text}
-use Rattle.flatc_files.specs.declared.request.Batch.{Batch}
-use Rattle.flatc_files.specs.declared.request.Task.{Task}
-use Rattle.flatc_files.specs.declared.request.Task.TheVariants.{Binary, Json, Check}
 
 -- an input's name with another extension (46 is the dot)
 abbrev pub target_name : Text → Text → Text
@@ -19,23 +16,13 @@ target_name extension file = unwrap_or (path_file_stem file) file ++ 46 ∷ exte
 abbrev pub target_in : Text → Text → Text → Text
 target_in dir extension file = path_join dir (target_name extension file)
 
--- the directory and the extension of a task's outputs; none where it writes no files
-abbrev pub directory_of : Task → Option (Text × Text)
-directory_of (Binary dir unknown) = Some (string_bytes dir, codes "bin")
-directory_of (Json dir raw defaults) = Some (string_bytes dir, codes "json")
-directory_of (Check raw) = None
+-- the paths of the outputs: one for each file, in their order
+abbrev pub outputs_of : Text → Text → List (String Global) → List Text
+outputs_of dir extension files = map (λ file. target_in dir extension (string_bytes file)) files
 
-abbrev targets_in : Option (Text × Text) → List Text → List Text
-targets_in (Some place) files = map (target_in place.0 place.1) files
-targets_in None files = []
-
--- the paths of a batch's outputs: one for each of its files, in their order
-abbrev pub outputs_of : Batch → List Text
-outputs_of batch = targets_in (directory_of batch.task) (map string_bytes batch.files.items)
-
--- the paths that a batch reads, as the line has them
-abbrev pub inputs_of : Batch → List Text
-inputs_of batch = string_bytes batch.schema ∷ map string_bytes batch.files.items
+-- the paths that are read, as the line has them
+abbrev pub inputs_of : Text → List (String Global) → List Text
+inputs_of schema files = schema ∷ map string_bytes files
 
 -- no two outputs have the same path
 abbrev pub AreDistinct : List Text → Type 0

@@ -5,8 +5,8 @@ use crate::opened::Opened;
 use fb_heard::{Heard, TakeFault, take_all};
 use std::alloc::AllocError;
 
-/// The longest file that is read, in bytes.
-const LONGEST: u32 = 2_147_483_647;
+/// The maximum length of a file or message that is read, in bytes.
+pub(crate) const LONGEST: u32 = 2_147_483_647;
 
 /// An input, with what was read from it.
 #[derive(Drop)]

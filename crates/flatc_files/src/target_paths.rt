@@ -1,7 +1,7 @@
-//! Where the files of a batch go.
-ghost use Rattle.std.specs.Prelude.{◌≡◌, IfOk, map, string_bytes};
+//! Where the outputs of several files go.
+ghost use Rattle.std.specs.Prelude.{◌≡◌, IfOk, map};
 ghost use Rattle.std.specs.Path.{path_buf_bytes};
-ghost use Rattle.flatc_files.specs.Targets.{target_in};
+ghost use Rattle.flatc_files.specs.Targets.{outputs_of, target_in};
 
 use std::alloc::{AllocError, Global};
 use std::path::{Path, PathBuf};
@@ -28,7 +28,7 @@ pub fn targets_in(
     files: &[String],
 ) -> Result<Vec<PathBuf>, AllocError>
     ensures { IfOk result (λ targets. map path_buf_bytes targets.items
-        ≡ map (λ file. target_in dir.now extension.now (string_bytes file)) files.now) }
+        ≡ outputs_of dir.now extension.now files.now) }
 {
     let mut targets = Vec::with_capacity(alloc, files.len())?;
     for file in files {

@@ -1,10 +1,9 @@
-//! The files of a directory that a batch is written to.
-ghost use Rattle.std.specs.Prelude.{◌≡◌, ◌≢◌, All, Err, IfOk, OnOk, Ok, false, map, option_map, string_bytes};
+//! The files of a directory that outputs are written to.
+ghost use Rattle.std.specs.Prelude.{◌≡◌, All, IfOk, OnOk, false, map};
 ghost use Rattle.std.specs.Path.{path_buf_bytes};
-ghost use Rattle.flatc_files.specs.Targets.{AreApart, AreDistinct, directory_of, has_path, inputs_of, outputs_of};
+ghost use Rattle.flatc_files.specs.Targets.{AreApart, AreDistinct, has_path, inputs_of, outputs_of};
 
 use crate::opened::metadata_of;
-use crate::request::{Batch, Task};
 use crate::standard_paths::is_standard_input;
 use crate::target_paths::targets_in;
 use std::alloc::{AllocError, AllocFailed, Global};
@@ -38,7 +37,7 @@ impl<T: Drop> From<AllocFailed<T>> for Misuse {
 /// A file by its device and number.
 type Identity = (u64, u64);
 
-/// Where a file of a batch is written to, and what was there before.
+/// Where an output is written to, and what was there before.
 #[derive(Drop)]
 pub struct Target {
     /// The path of the output.
@@ -72,17 +71,6 @@ fn identity_at(rt: &HostRuntime, path: &str) -> Option<Identity> {
     metadata_of(rt, path).ok().map(|found| identity_of(&found))
 }
 
-/// The directory and the extension of a task's outputs; none where it writes no files.
-pub fn directory_of(task: &Task) -> Option<(&str, &'static str)>
-    ensures { option_map (λ place. (place.0.now, place.1.now)) result ≡ directory_of task.now }
-{
-    match task {
-        Task::Binary { dir, .. } => Some((dir.as_str(), "bin")),
-        Task::Json { dir, .. } => Some((dir.as_str(), "json")),
-        Task::Check { .. } => None,
-    }
-}
-
 fn check_named(alloc: Global, files: &[String]) -> Result<(), Misuse> {
     if files.iter().any(|file| is_standard_input(file.as_str())) {
         let said = "standard input has no name for a file in DIR";
@@ -110,24 +98,34 @@ fn check_input(alloc: Global, outputs: &BTreeSet<&str>, input: &str) -> Result<(
     Ok(())
 }
 
-/// That no path that a batch reads is one of its outputs.
-fn check_inputs(alloc: Global, outputs: &BTreeSet<&str>, batch: &Batch) -> Result<(), Misuse>
-    ensures { OnOk result (All (λ input. has_path outputs.now input ≡ false) (inputs_of batch.now)) }
+/// That no path that is read is one of the outputs.
+fn check_inputs(
+    alloc: Global,
+    outputs: &BTreeSet<&str>,
+    schema: &str,
+    files: &[String],
+) -> Result<(), Misuse>
+    ensures { OnOk result (All (λ input. has_path outputs.now input ≡ false) (inputs_of schema.now files.now)) }
 {
-    check_input(alloc, outputs, batch.schema.as_str())?;
-    for file in &batch.files {
+    check_input(alloc, outputs, schema)?;
+    for file in files {
         check_input(alloc, outputs, file.as_str())?;
     }
     Ok(())
 }
 
-/// That the outputs have different paths, and none the path of a file that the batch reads.
+/// That the outputs have different paths, and none the path of a file that is read.
 ///
 /// Paths are compared byte by byte, as the line has them. `check_apart` finds an existing output
 /// that is an input by another path, as `./a` is `a`, or by a link.
-fn check_distinct(alloc: Global, batch: &Batch, paths: &[PathBuf]) -> Result<(), Misuse>
+fn check_distinct(
+    alloc: Global,
+    schema: &str,
+    files: &[String],
+    paths: &[PathBuf],
+) -> Result<(), Misuse>
     ensures distinct { OnOk result (AreDistinct (map path_buf_bytes paths.now)) }
-    ensures apart { OnOk result (AreApart (inputs_of batch.now) (map path_buf_bytes paths.now)) }
+    ensures apart { OnOk result (AreApart (inputs_of schema.now files.now) (map path_buf_bytes paths.now)) }
 {
     let mut met = BTreeSet::new(alloc);
     for path in paths {
@@ -136,16 +134,20 @@ fn check_distinct(alloc: Global, batch: &Batch, paths: &[PathBuf]) -> Result<(),
             return Err(Misuse::Said(said));
         }
     }
-    check_inputs(alloc, &met, batch)
+    check_inputs(alloc, &met, schema, files)
 }
 
-/// The files that a batch reads.
-fn inputs_of(rt: &HostRuntime, batch: &Batch) -> Result<BTreeSet<Identity>, AllocError> {
+/// The files that are read.
+fn inputs_of(
+    rt: &HostRuntime,
+    schema: &str,
+    files: &[String],
+) -> Result<BTreeSet<Identity>, AllocError> {
     let mut inputs = BTreeSet::new(rt.alloc());
-    if let Some(schema) = identity_at(rt, batch.schema.as_str()) {
+    if let Some(schema) = identity_at(rt, schema) {
         let _is_new = inputs.insert(schema)?;
     }
-    for path in &batch.files {
+    for path in files {
         if let Some(file) = identity_at(rt, path.as_str()) {
             let _is_new = inputs.insert(file)?;
         }
@@ -154,11 +156,16 @@ fn inputs_of(rt: &HostRuntime, batch: &Batch) -> Result<BTreeSet<Identity>, Allo
 }
 
 /// That no target that is there is one of the inputs.
-fn check_apart(rt: &HostRuntime, batch: &Batch, targets: &[Target]) -> Result<(), Misuse> {
+fn check_apart(
+    rt: &HostRuntime,
+    schema: &str,
+    files: &[String],
+    targets: &[Target],
+) -> Result<(), Misuse> {
     if targets.iter().all(|target| target.file.is_none()) {
         return Ok(());
     }
-    let inputs = inputs_of(rt, batch)?;
+    let inputs = inputs_of(rt, schema, files)?;
     for target in targets {
         if target.file.is_some_and(|file| inputs.contains(&file)) {
             return Err(input_misuse(rt.alloc(), target.path.as_str()));
@@ -179,27 +186,30 @@ fn targets_at(rt: &HostRuntime, paths: Vec<PathBuf>) -> Result<Vec<Target>, Allo
     Ok(targets)
 }
 
-/// Where each file of a batch goes, in the order of the files; nothing where none is written.
+/// Where the output of each file goes: into a directory, in the order of the files.
 ///
 /// It is a misuse where an input has no name, where two would get one name, and where an output is
 /// one of the inputs. `distinct` and `apart` compare paths byte by byte, as the line has them, and
 /// the schema is an input too. An output that exists is also compared with the inputs by device and
 /// inode, which finds links and other paths of one file; no clause says that.
-pub fn targets_of(rt: &HostRuntime, batch: &Batch) -> Result<Vec<Target>, Misuse>
+pub fn targets_of(
+    rt: &HostRuntime,
+    dir: &str,
+    extension: &str,
+    schema: &str,
+    files: &[String],
+) -> Result<Vec<Target>, Misuse>
     ensures outputs { IfOk result (λ targets. map (λ target. path_buf_bytes target.path) targets.items
-        ≡ outputs_of batch.now) }
-    ensures distinct { OnOk result (AreDistinct (outputs_of batch.now)) }
-    ensures apart { OnOk result (AreApart (inputs_of batch.now) (outputs_of batch.now)) }
+        ≡ outputs_of dir.now extension.now files.now) }
+    ensures distinct { OnOk result (AreDistinct (outputs_of dir.now extension.now files.now)) }
+    ensures apart { OnOk result (AreApart (inputs_of schema.now files.now)
+        (outputs_of dir.now extension.now files.now)) }
 {
     let alloc = rt.alloc();
-    let Some((dir, extension)) = directory_of(&batch.task) else {
-        return Ok(Vec::new(alloc));
-    };
-    let files = batch.files.as_slice();
     check_named(alloc, files)?;
     let paths = targets_in(alloc, dir, extension, files)?;
-    check_distinct(alloc, batch, paths.as_slice())?;
+    check_distinct(alloc, schema, files, paths.as_slice())?;
     let targets = targets_at(rt, paths)?;
-    check_apart(rt, batch, targets.as_slice())?;
+    check_apart(rt, schema, files, targets.as_slice())?;
     Ok(targets)
 }

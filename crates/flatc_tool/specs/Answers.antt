@@ -1,5 +1,5 @@
 -- What the calls may return for one buffer under a schema text, as their contracts have it: `decode`, `check`,
--- `verify_framed` and `read_framed`. `prefixed` says that the count of the buffer's bytes is in front.
+-- `verify_framed` and `read_framed`. `prefixed` says that the buffer has a size prefix.
 use Rattle.std.specs.Prelude.{ℕ, ◌≡◌, ◌≢◌, List, Bool, Option, Result, Ok, Err}
 use Rattle.fb_layout.specs.Laid.{LaidSchema}
 use Rattle.fb_value.specs.declared.faults.ReadFault.{ReadFault}
@@ -10,7 +10,7 @@ use Rattle.fb_value.specs.Num.{Bytes}
 use Rattle.fb_value.specs.Holds.{HoldsFramed, RefusesFramed}
 use Rattle.fb_read.specs.declared.view.View.{View}
 use Rattle.fb_read.specs.Shows.{Shows}
-use Rattle.flatc_tool.specs.Checks.{IsSoundFramed, CheckRefusedFramed}
+use Rattle.flatc_tool.specs.Checks.{IsSound, CheckRefused}
 use Rattle.flatc_tool.specs.Jobs.{IsTextUnder, MayBeTextUnder, TextRefusedUnder, IsNotMemory}
 use Rattle.fb_faults.specs.declared.faults.ToolFault.{ToolFault}
 
@@ -25,9 +25,9 @@ TextAnswer compact prefixed schema b most raw defaults (Err f) = TextRefusedUnde
 -- The clauses `sound`, `refused` and `exact` of `check`, which takes buffers alone. Of prefixed ones they are what
 -- `schema_of` and `verify_framed` say.
 abbrev pub CheckAnswer : Bool → List ℕ → Option Bytes → Bounds → Bool → Result (Unit {0}) ToolFault → Type 0
-CheckAnswer prefixed schema bytes most raw (Ok x) = IsSoundFramed prefixed schema bytes most raw
-CheckAnswer prefixed schema bytes most raw (Err f) = CheckRefusedFramed prefixed schema bytes most raw f
-    × (IsNotMemory f → ¬ IsSoundFramed prefixed schema bytes most raw)
+CheckAnswer prefixed schema bytes most raw (Ok x) = IsSound prefixed schema bytes most raw
+CheckAnswer prefixed schema bytes most raw (Err f) = CheckRefused prefixed schema bytes most raw f
+    × (IsNotMemory f → ¬ IsSound prefixed schema bytes most raw)
 
 -- the clauses `stands` and `fault` of `verify_framed`
 abbrev pub ViewAnswer : Bool → LaidSchema → Bytes → Bounds → Bool → Result View ReadFault → Type 0

@@ -21,7 +21,7 @@ use Rattle.fb_declare.specs.SchemaTexts.{IsAccepted}
 use Rattle.flatc_tool.specs.JsonText.{IsTree}
 use Rattle.flatc_tool.specs.Jobs.{JsonMeans, IsBinaryUnder, BinaryRefusedUnder, IsTextUnder, TextRefusedUnder}
 use Rattle.flatc_tool.specs.Jobs.{IsNotMemory, spacing_of}
-use Rattle.flatc_tool.specs.Checks.{IsSoundFramed, CheckRefusedFramed}
+use Rattle.flatc_tool.specs.Checks.{IsSound, CheckRefused}
 use Rattle.flatc_tool.specs.Prints.{IsSentUnder, PrintRefusedUnder}
 use Rattle.flatc_tool.specs.Evolution.{TextsConform}
 use Rattle.flatc_tool.specs.Answers.{TextAnswer, CheckAnswer, ViewAnswer, ValueAnswer, IsTextOrMemory, IsOkOrMemory}
@@ -94,8 +94,8 @@ pub record NoneLies (prefixed : Bool) (schema : List ℕ) (b : Bytes) (most : Bo
       → ¬ IsTextUnder compact prefixed schema b most raw defaults text
   pub answered : (f : ToolFault) → TextRefusedUnder prefixed schema b most raw f → IsNotMemory f → f ≡ Read fault
   -- `check`
-  pub unsound : ¬ IsSoundFramed prefixed schema (Some b) most raw
-  pub checked : (f : ToolFault) → CheckRefusedFramed prefixed schema (Some b) most raw f → IsNotMemory f
+  pub unsound : ¬ IsSound prefixed schema (Some b) most raw
+  pub checked : (f : ToolFault) → CheckRefused prefixed schema (Some b) most raw f → IsNotMemory f
       → f ≡ Read fault
   -- `print_to` and `decode_to`
   pub unsent : (compact defaults : Bool) (start known : Option (List ℕ))

@@ -3,7 +3,7 @@
 use Rattle.std.specs.Prelude.{ℕ, ◌≡◌, ◌<◌, ◌≤◌, List, length, Bool, true, false}
 use Rattle.serde_json.specs.Data.{Data}
 use Rattle.fb_layout.specs.Laid.{LaidSchema}
-use Rattle.fb_value.specs.Bounds.{Bounds}
+use Rattle.fb_value.specs.Bounds.{Bounds, most_bytes}
 use Rattle.fb_value.specs.Counts.{is_whole}
 use Rattle.fb_value.specs.Datum.{Datum}
 use Rattle.fb_value.specs.Fits.{FitsRoot}
@@ -39,19 +39,15 @@ RefusedUnder schema R f = OfLayout schema (λ L. R L f)
 abbrev pub JsonMeans : LaidSchema → Bounds → Bool → List ℕ → Datum → Type 0
 JsonMeans L most unknown json v = (t : Data) × IsTree json t × Means L most unknown t v
 
--- the greatest room of a value that is built
-abbrev pub most_room : ℕ
-most_room = 2147483647
-
 -- The bytes of a JSON text under a layout: exactly the value that it means lies in them, only slots in use have
 -- something, each byte belongs to the value or is one of few zeros, and they are no longer than its room. Where they
--- are prefixed, the count of the others is in front.
-pub record IsBinaryFramed (prefixed : Bool) (L : LaidSchema) (json : List ℕ) (most : Bounds) (unknown : Bool)
+-- have a size prefix, it counts the others.
+pub record IsBinary (prefixed : Bool) (L : LaidSchema) (json : List ℕ) (most : Bounds) (unknown : Bool)
     (b : Bytes) : Type 0 where
   pub value : Datum
   pub means : JsonMeans L most unknown json value
   pub fits : FitsRoot L value
-  pub small : framed_room prefixed L value ≤ most_room
+  pub small : framed_room prefixed L value ≤ most_bytes
   pub holds : (raw : Bool) → HoldsFramed prefixed L most raw b value
   pub only : (raw : Bool) (v : Datum) → HoldsFramed prefixed L most raw b v → v ≡ value
   pub old_slots : OnlyOldBehind (front_of prefixed) L b
@@ -61,43 +57,36 @@ pub record IsBinaryFramed (prefixed : Bool) (L : LaidSchema) (json : List ℕ) (
 
 -- the bytes of a JSON text under a schema text
 abbrev pub IsBinaryUnder : Bool → List ℕ → List ℕ → Bounds → Bool → Bytes → Type 0
-IsBinaryUnder prefixed schema json most unknown b = OfLayout schema (λ L. IsBinaryFramed prefixed L json most unknown b)
-
--- a buffer alone
-abbrev pub IsBinary : List ℕ → List ℕ → Bounds → Bool → Bytes → Type 0
-IsBinary schema json most unknown b = IsBinaryUnder false schema json most unknown b
+IsBinaryUnder prefixed schema json most unknown b = OfLayout schema (λ L. IsBinary prefixed L json most unknown b)
 
 -- the JSON means a value that isn't too big
-pub record MayBeBinaryFramed (prefixed : Bool) (L : LaidSchema) (json : List ℕ) (most : Bounds) (unknown : Bool)
+pub record MayBeBinary (prefixed : Bool) (L : LaidSchema) (json : List ℕ) (most : Bounds) (unknown : Bool)
     : Type 0 where
   pub value : Datum
   pub means : JsonMeans L most unknown json value
-  pub small : framed_room prefixed L value ≤ most_room
+  pub small : framed_room prefixed L value ≤ most_bytes
 
 -- an accepted schema under which it does
-abbrev pub MayBeBinary : List ℕ → List ℕ → Bounds → Bool → Type 0
-MayBeBinary schema json most unknown = OfLayout schema (λ L. MayBeBinaryFramed false L json most unknown)
+abbrev pub MayBeBinaryUnder : Bool → List ℕ → List ℕ → Bounds → Bool → Type 0
+MayBeBinaryUnder prefixed schema json most unknown = OfLayout schema (λ L. MayBeBinary prefixed L json most unknown)
 
 -- The refusal of the first layer that refuses, in the order JSON text, value, size; of a tree that breaks rules its
 -- first fault. Where a layer runs out of memory, the layers before it have passed; `Memory` alone is of the reading of
 -- the JSON text.
-abbrev pub BinaryRefusedFramed : Bool → LaidSchema → List ℕ → Bounds → Bool → ToolFault → Type 0
-BinaryRefusedFramed prefixed L json most unknown BadJson = (t : Data) → ¬ IsTree json t
-BinaryRefusedFramed prefixed L json most unknown (Json f) =
+abbrev pub BinaryRefused : Bool → LaidSchema → List ℕ → Bounds → Bool → ToolFault → Type 0
+BinaryRefused prefixed L json most unknown BadJson = (t : Data) → ¬ IsTree json t
+BinaryRefused prefixed L json most unknown (Json f) =
     (t : Data) × IsTree json t × TreeRefused L most unknown t f
-BinaryRefusedFramed prefixed L json most unknown (Build the_build.TooBig) =
-    (v : Datum) × JsonMeans L most unknown json v × (most_room < framed_room prefixed L v)
-BinaryRefusedFramed prefixed L json most unknown (Build the_build.Memory) =
-    MayBeBinaryFramed prefixed L json most unknown
-BinaryRefusedFramed prefixed L json most unknown Memory = Unit {0}
-BinaryRefusedFramed prefixed L json most unknown _ = ⊥
+BinaryRefused prefixed L json most unknown (Build the_build.TooBig) =
+    (v : Datum) × JsonMeans L most unknown json v × (most_bytes < framed_room prefixed L v)
+BinaryRefused prefixed L json most unknown (Build the_build.Memory) =
+    MayBeBinary prefixed L json most unknown
+BinaryRefused prefixed L json most unknown Memory = Unit {0}
+BinaryRefused prefixed L json most unknown _ = ⊥
 
 abbrev pub BinaryRefusedUnder : Bool → List ℕ → List ℕ → Bounds → Bool → ToolFault → Type 0
 BinaryRefusedUnder prefixed schema json most unknown f =
-    RefusedUnder schema (λ L. BinaryRefusedFramed prefixed L json most unknown) f
-
-abbrev pub BinaryRefused : List ℕ → List ℕ → Bounds → Bool → ToolFault → Type 0
-BinaryRefused schema json most unknown f = BinaryRefusedUnder false schema json most unknown f
+    RefusedUnder schema (λ L. BinaryRefused prefixed L json most unknown) f
 
 -- ---- a buffer to JSON
 
@@ -107,7 +96,7 @@ spacing_of false = Indented
 spacing_of true = Compact
 
 -- The text of the value that the bytes hold under a layout. It has no code that the schema doesn't know.
-pub record IsTextFramed (compact prefixed : Bool) (L : LaidSchema) (b : Bytes) (most : Bounds) (raw defaults : Bool)
+pub record IsText (compact prefixed : Bool) (L : LaidSchema) (b : Bytes) (most : Bounds) (raw defaults : Bool)
     (text : List ℕ) : Type 0 where
   pub value : Datum
   pub holds : HoldsFramed prefixed L most raw b value
@@ -117,38 +106,28 @@ pub record IsTextFramed (compact prefixed : Bool) (L : LaidSchema) (b : Bytes) (
 -- the text of the value that the bytes hold under a schema text
 abbrev pub IsTextUnder : Bool → Bool → List ℕ → Bytes → Bounds → Bool → Bool → List ℕ → Type 0
 IsTextUnder compact prefixed schema b most raw defaults text =
-    OfLayout schema (λ L. IsTextFramed compact prefixed L b most raw defaults text)
-
--- the indented text of a buffer alone
-abbrev pub IsText : List ℕ → Bytes → Bounds → Bool → Bool → List ℕ → Type 0
-IsText schema b most raw defaults text = IsTextUnder false false schema b most raw defaults text
+    OfLayout schema (λ L. IsText compact prefixed L b most raw defaults text)
 
 -- the bytes hold a value whose codes the schema knows
-pub record MayBeTextFramed (prefixed : Bool) (L : LaidSchema) (b : Bytes) (most : Bounds) (raw : Bool) : Type 0 where
+pub record MayBeText (prefixed : Bool) (L : LaidSchema) (b : Bytes) (most : Bounds) (raw : Bool) : Type 0 where
   pub value : Datum
   pub holds : HoldsFramed prefixed L most raw b value
   pub whole : is_whole value ≡ true
 
 -- an accepted schema under which they do
 abbrev pub MayBeTextUnder : Bool → List ℕ → Bytes → Bounds → Bool → Type 0
-MayBeTextUnder prefixed schema b most raw = OfLayout schema (λ L. MayBeTextFramed prefixed L b most raw)
-
-abbrev pub MayBeText : List ℕ → Bytes → Bounds → Bool → Type 0
-MayBeText schema b most raw = MayBeTextUnder false schema b most raw
+MayBeTextUnder prefixed schema b most raw = OfLayout schema (λ L. MayBeText prefixed L b most raw)
 
 -- The least fault of the bytes, or the first code in the value that has no name.
 -- Memory is asked for only for the text of a whole value.
-abbrev pub TextRefusedFramed : Bool → LaidSchema → Bytes → Bounds → Bool → ToolFault → Type 0
-TextRefusedFramed prefixed L b most raw (Read f) = RefusesFramed prefixed L most raw b f
-TextRefusedFramed prefixed L b most raw (Text f) =
+abbrev pub TextRefused : Bool → LaidSchema → Bytes → Bounds → Bool → ToolFault → Type 0
+TextRefused prefixed L b most raw (Read f) = RefusesFramed prefixed L most raw b f
+TextRefused prefixed L b most raw (Text f) =
     (v : Datum) × HoldsFramed prefixed L most raw b v × IsUnnamed (type_place L.schema.root) v f
-TextRefusedFramed prefixed L b most raw _ = ⊥
+TextRefused prefixed L b most raw _ = ⊥
 
 abbrev pub TextRefusedUnder : Bool → List ℕ → Bytes → Bounds → Bool → ToolFault → Type 0
-TextRefusedUnder prefixed schema b most raw f = RefusedUnder schema (λ L. TextRefusedFramed prefixed L b most raw) f
-
-abbrev pub TextRefused : List ℕ → Bytes → Bounds → Bool → ToolFault → Type 0
-TextRefused schema b most raw f = TextRefusedUnder false schema b most raw f
+TextRefusedUnder prefixed schema b most raw f = RefusedUnder schema (λ L. TextRefused prefixed L b most raw) f
 
 -- ---- memory
 

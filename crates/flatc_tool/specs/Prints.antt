@@ -13,47 +13,39 @@ use Rattle.fb_text.specs.Unnamed.{IsRefused as IsUnnamed}
 use Rattle.fb_text.specs.Writes.{counted}
 use Rattle.fb_text.specs.declared.faults.WriteFault.TheVariants.{NoMemberName, WriteFailed}
 use Rattle.fb_declare.specs.SchemaTexts.{OfLayout}
-use Rattle.flatc_tool.specs.Jobs.{IsTextFramed, IsNotMemory, RefusedUnder}
+use Rattle.flatc_tool.specs.Jobs.{IsText, IsNotMemory, RefusedUnder}
 use Rattle.fb_faults.specs.declared.faults.ToolFault.{ToolFault}
 use Rattle.fb_faults.specs.declared.faults.ToolFault.TheVariants.{Read, Text, Write}
 
--- All of the text of the bytes under a layout, which is UTF-8, was written behind the bytes of the start.
-abbrev pub IsSentFramed : Bool → Bool → LaidSchema → Bytes → Bounds → Bool → Bool → Option (List ℕ) → Option (List ℕ)
+-- All of the text of the bytes under a layout, which is UTF-8, was written after the bytes of the start.
+abbrev pub IsSent : Bool → Bool → LaidSchema → Bytes → Bounds → Bool → Bool → Option (List ℕ) → Option (List ℕ)
     → Type 0
-IsSentFramed compact prefixed L b most raw defaults start known =
-    (text : List ℕ) × IsTextFramed compact prefixed L b most raw defaults text × IsUtf8 text × Appends start known text
+IsSent compact prefixed L b most raw defaults start known =
+    (text : List ℕ) × IsText compact prefixed L b most raw defaults text × IsUtf8 text × Appends start known text
 
 -- the same under a schema text
 abbrev pub IsSentUnder : Bool → Bool → List ℕ → Bytes → Bounds → Bool → Bool → Option (List ℕ) → Option (List ℕ)
     → Type 0
 IsSentUnder compact prefixed schema b most raw defaults start known =
-    OfLayout schema (λ L. IsSentFramed compact prefixed L b most raw defaults start known)
+    OfLayout schema (λ L. IsSent compact prefixed L b most raw defaults start known)
 
--- the indented text of a buffer alone
-abbrev pub IsSent : List ℕ → Bytes → Bounds → Bool → Bool → Option (List ℕ) → Option (List ℕ) → Type 0
-IsSent schema b most raw defaults start known = IsSentUnder false false schema b most raw defaults start known
-
--- The least fault of the bytes, or the first union's code without a name; else a write failed behind the first bytes
+-- The least fault of the bytes, or the first union's code without a name; else a write failed after the first bytes
 -- of the text, as many as it counts.
-abbrev pub PrintRefusedFramed : Bool → Bool → LaidSchema → Bytes → Bounds → Bool → Bool → Option (List ℕ)
+abbrev pub PrintRefused : Bool → Bool → LaidSchema → Bytes → Bounds → Bool → Bool → Option (List ℕ)
     → Option (List ℕ) → ToolFault → Type 0
-PrintRefusedFramed compact prefixed L b most raw defaults start known (Read f) = RefusesFramed prefixed L most raw b f
-PrintRefusedFramed compact prefixed L b most raw defaults start known (Write (NoMemberName at)) =
+PrintRefused compact prefixed L b most raw defaults start known (Read f) = RefusesFramed prefixed L most raw b f
+PrintRefused compact prefixed L b most raw defaults start known (Write (NoMemberName at)) =
     (v : Datum) × HoldsFramed prefixed L most raw b v
     × IsUnnamed (type_place L.schema.root) v (the_text.NoMemberName at)
-PrintRefusedFramed compact prefixed L b most raw defaults start known (Write (WriteFailed n)) =
-    (text : List ℕ) × IsTextFramed compact prefixed L b most raw defaults text × (m : ℕ) × (m < length text)
+PrintRefused compact prefixed L b most raw defaults start known (Write (WriteFailed n)) =
+    (text : List ℕ) × IsText compact prefixed L b most raw defaults text × (m : ℕ) × (m < length text)
     × Appends start known (take m text) × (n ≡ counted m)
-PrintRefusedFramed compact prefixed L b most raw defaults start known _ = ⊥
+PrintRefused compact prefixed L b most raw defaults start known _ = ⊥
 
 abbrev pub PrintRefusedUnder : Bool → Bool → List ℕ → Bytes → Bounds → Bool → Bool → Option (List ℕ) → Option (List ℕ)
     → ToolFault → Type 0
 PrintRefusedUnder compact prefixed schema b most raw defaults start known f =
-    RefusedUnder schema (λ L. PrintRefusedFramed compact prefixed L b most raw defaults start known) f
-
-abbrev pub PrintRefused : List ℕ → Bytes → Bounds → Bool → Bool → Option (List ℕ) → Option (List ℕ) → ToolFault → Type 0
-PrintRefused schema b most raw defaults start known f =
-    PrintRefusedUnder false false schema b most raw defaults start known f
+    RefusedUnder schema (λ L. PrintRefused compact prefixed L b most raw defaults start known) f
 
 -- a failed write is told exactly where the last write failed
 abbrev pub TellsFailure : {A : Type 0} → Bool → Result A ToolFault → Type 0

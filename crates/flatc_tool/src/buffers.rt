@@ -3,7 +3,7 @@ ghost use Rattle.std.specs.Prelude.{◌≡◌, IfOk, IfErr};
 ghost use Rattle.fb_value.specs.Num.{Bytes};
 ghost use Rattle.fb_build.specs.Planned.{IsLaidBy};
 ghost use Rattle.flatc_tool.specs.Encodes.{IsOfJson, encode_fault};
-ghost use Rattle.flatc_tool.specs.Jobs.{IsBinaryFramed, MayBeBinaryFramed, BinaryRefusedFramed, IsNotMemory};
+ghost use Rattle.flatc_tool.specs.Jobs.{IsBinary, MayBeBinary, BinaryRefused, IsNotMemory};
 
 use crate::laws::layer_laws;
 use crate::options::EncodeOptions;
@@ -29,8 +29,8 @@ fn refused(fault: TextFault) -> ToolFault
 /// The buffer of a JSON text under a layout, which may be kept for any number of texts.
 ///
 /// The JSON text is checked first, then the value that it means, then that value's size; the error
-/// is that of the first of these that refuses. With `size_prefixed` the count of the buffer's bytes is
-/// in front of it. A long text is read in pieces, so that its tree is never whole in memory.
+/// is that of the first of these that refuses. With `size_prefixed` the buffer has a
+/// size prefix. A long text is read in pieces, so that its tree is never whole in memory.
 pub fn encode(
     alloc: Global,
     layout: &Layout,
@@ -38,13 +38,13 @@ pub fn encode(
     options: &EncodeOptions,
 ) -> Result<Vec<u8>, ToolFault>
     ensures binary { IfOk result
-        (λ b. IsBinaryFramed options.now.size_prefixed layout.now json.now options.now.limits
+        (λ b. IsBinary options.now.size_prefixed layout.now json.now options.now.limits
         options.now.unknown_json b.items) }
     ensures refused { IfErr result
-        (BinaryRefusedFramed options.now.size_prefixed layout.now json.now options.now.limits
+        (BinaryRefused options.now.size_prefixed layout.now json.now options.now.limits
         options.now.unknown_json) }
     ensures exact { IfErr result (λ f. IsNotMemory f
-        → ¬ MayBeBinaryFramed options.now.size_prefixed layout.now json.now options.now.limits
+        → ¬ MayBeBinary options.now.size_prefixed layout.now json.now options.now.limits
         options.now.unknown_json) }
 {
     layer_laws();
@@ -71,13 +71,13 @@ pub fn encode_plan<'l>(
     options: &EncodeOptions,
 ) -> Result<TapePlan<'l>, ToolFault>
     ensures binary { IfOk result (λ plan. (b : Bytes) → IsLaidBy plan b
-        → IsBinaryFramed options.now.size_prefixed layout.now json.old.items options.now.limits
+        → IsBinary options.now.size_prefixed layout.now json.old.items options.now.limits
         options.now.unknown_json b) }
     ensures refused { IfErr result
-        (BinaryRefusedFramed options.now.size_prefixed layout.now json.old.items options.now.limits
+        (BinaryRefused options.now.size_prefixed layout.now json.old.items options.now.limits
         options.now.unknown_json) }
     ensures exact { IfErr result (λ f. IsNotMemory f
-        → ¬ MayBeBinaryFramed options.now.size_prefixed layout.now json.old.items options.now.limits
+        → ¬ MayBeBinary options.now.size_prefixed layout.now json.old.items options.now.limits
         options.now.unknown_json) }
     ensures kept { IfErr result (λ f. IsOfJson f → json.new.items ≡ json.old.items) }
 {

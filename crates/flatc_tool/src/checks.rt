@@ -1,5 +1,5 @@
 //! The check of schema texts and buffers.
-ghost use Rattle.std.specs.Prelude.{OnOk, IfErr, option_map};
+ghost use Rattle.std.specs.Prelude.{OnOk, IfErr, option_map, false};
 ghost use Rattle.flatc_tool.specs.Checks.{IsSound, CheckRefused};
 ghost use Rattle.flatc_tool.specs.Jobs.{IsNotMemory};
 
@@ -22,11 +22,11 @@ pub fn check(
     raw: bool,
 ) -> Result<(), ToolFault>
     ensures sound { OnOk result
-        (IsSound schema.now (option_map (λ b. b.now) bytes.entry) limits raw) }
+        (IsSound false schema.now (option_map (λ b. b.now) bytes.entry) limits raw) }
     ensures refused { IfErr result
-        (CheckRefused schema.now (option_map (λ b. b.now) bytes.entry) limits raw) }
+        (CheckRefused false schema.now (option_map (λ b. b.now) bytes.entry) limits raw) }
     ensures exact { IfErr result (λ f. IsNotMemory f
-        → ¬ IsSound schema.now (option_map (λ b. b.now) bytes.entry) limits raw) }
+        → ¬ IsSound false schema.now (option_map (λ b. b.now) bytes.entry) limits raw) }
 {
     layer_laws();
     let layout = match schema_of(alloc, schema) {

@@ -71,7 +71,7 @@ pub fn old_texts_are_carried()
     layer_laws();
 }
 
-/// Size-prefixed buffers that `encode` returns, written one behind the other, are split by
+/// Size-prefixed buffers that `encode` returns, written one after the other, are split by
 /// `split_prefixed` into exactly these. Of each the laws above hold, where `prefixed` is true.
 pub fn streams_are_split()
     ensures { StreamsAreSplit }

@@ -1,6 +1,6 @@
 //! JSON texts made buffers under a schema text.
-ghost use Rattle.std.specs.Prelude.{IfOk, IfErr};
-ghost use Rattle.flatc_tool.specs.Jobs.{IsBinary, MayBeBinary, BinaryRefused, IsNotMemory};
+ghost use Rattle.std.specs.Prelude.{IfOk, IfErr, false};
+ghost use Rattle.flatc_tool.specs.Jobs.{IsBinaryUnder, MayBeBinaryUnder, BinaryRefusedUnder, IsNotMemory};
 
 use crate::buffers::encode;
 use crate::laws::layer_laws;
@@ -22,10 +22,10 @@ pub fn to_binary(
     limits: Limits,
     unknown: bool,
 ) -> Result<Vec<u8>, ToolFault>
-    ensures binary { IfOk result (λ b. IsBinary schema.now json.now limits unknown b.items) }
-    ensures refused { IfErr result (BinaryRefused schema.now json.now limits unknown) }
+    ensures binary { IfOk result (λ b. IsBinaryUnder false schema.now json.now limits unknown b.items) }
+    ensures refused { IfErr result (BinaryRefusedUnder false schema.now json.now limits unknown) }
     ensures exact { IfErr result
-        (λ f. IsNotMemory f → ¬ MayBeBinary schema.now json.now limits unknown) }
+        (λ f. IsNotMemory f → ¬ MayBeBinaryUnder false schema.now json.now limits unknown) }
 {
     layer_laws();
     let layout = match schema_of(alloc, schema) {

@@ -1,8 +1,8 @@
 //! Buffers printed as JSON texts under a layout.
 ghost use Rattle.std.specs.Prelude.{◌≡◌, IfOk, IfErr, OnOk, false, string_bytes};
 ghost use Rattle.fb_text.specs.Noted.{write_failed, writer_of};
-ghost use Rattle.flatc_tool.specs.Jobs.{IsTextFramed, MayBeTextFramed, TextRefusedFramed, IsNotMemory, spacing_of};
-ghost use Rattle.flatc_tool.specs.Prints.{IsSentFramed, PrintRefusedFramed, TellsFailure};
+ghost use Rattle.flatc_tool.specs.Jobs.{IsText, MayBeText, TextRefused, IsNotMemory, spacing_of};
+ghost use Rattle.flatc_tool.specs.Prints.{IsSent, PrintRefused, TellsFailure};
 ghost use Rattle.flatc_tool.specs.Prints.{IfUnwritten, IsOfInput, text_fault};
 
 use crate::laws::layer_laws;
@@ -39,16 +39,16 @@ pub fn decode_to<W: Write>(
     out: &mut Noted<W>,
 ) -> Result<(), ToolFault>
     requires fresh { write_failed out.old ≡ false }
-    ensures printed { OnOk result (IsSentFramed options.now.compact options.now.size_prefixed layout.now bytes.now
+    ensures printed { OnOk result (IsSent options.now.compact options.now.size_prefixed layout.now bytes.now
         options.now.limits options.now.raw_binary options.now.defaults_json (W.contents (writer_of out.old))
         (W.contents (writer_of out.new))) }
-    ensures refused { IfErr result (PrintRefusedFramed options.now.compact options.now.size_prefixed layout.now
+    ensures refused { IfErr result (PrintRefused options.now.compact options.now.size_prefixed layout.now
         bytes.now options.now.limits options.now.raw_binary options.now.defaults_json
         (W.contents (writer_of out.old)) (W.contents (writer_of out.new))) }
     ensures failed { TellsFailure (write_failed out.new) result }
     ensures untouched { IfUnwritten result (out.new ≡ out.old) }
     ensures exact { IfErr result (λ f. IsOfInput f
-        → ¬ MayBeTextFramed options.now.size_prefixed layout.now bytes.now options.now.limits options.now.raw_binary) }
+        → ¬ MayBeText options.now.size_prefixed layout.now bytes.now options.now.limits options.now.raw_binary) }
 {
     layer_laws();
     spaced_texts_are_utf8(layout);
@@ -99,12 +99,12 @@ pub fn decode(
     bytes: &[u8],
     options: &DecodeOptions,
 ) -> Result<String, ToolFault>
-    ensures text { IfOk result (λ s. IsTextFramed options.now.compact options.now.size_prefixed layout.now
+    ensures text { IfOk result (λ s. IsText options.now.compact options.now.size_prefixed layout.now
         bytes.now options.now.limits options.now.raw_binary options.now.defaults_json (string_bytes s)) }
     ensures refused { IfErr result
-        (TextRefusedFramed options.now.size_prefixed layout.now bytes.now options.now.limits options.now.raw_binary) }
+        (TextRefused options.now.size_prefixed layout.now bytes.now options.now.limits options.now.raw_binary) }
     ensures exact { IfErr result (λ f. IsNotMemory f
-        → ¬ MayBeTextFramed options.now.size_prefixed layout.now bytes.now options.now.limits options.now.raw_binary) }
+        → ¬ MayBeText options.now.size_prefixed layout.now bytes.now options.now.limits options.now.raw_binary) }
 {
     let mut out = Noted::over(Vec::new(alloc));
     if let Err(fault) = decode_to(layout, bytes, options, &mut out) {

@@ -2,32 +2,32 @@
 ghost use Rattle.std.specs.Prelude.{◌≡◌, false};
 ghost use Rattle.flatc_tool.specs.Options.{usual_limits};
 
-use fb_value::Limits;
+use fb_value::{Limits, USUAL_CELLS, USUAL_DEPTH};
 
 /// At most 64 tables within each other, and 100,000,000 cells.
 fn usual_limits() -> Limits
     ensures { result ≡ usual_limits }
 {
-    let Some(limits) = Limits::new(64, 100_000_000) else {
+    let Some(limits) = Limits::new(USUAL_DEPTH, USUAL_CELLS) else {
         unreachable!()
     };
     limits
 }
 
 /// How a JSON text is made a buffer. By default: within the usual limits, an unknown JSON field is
-/// refused, and the buffer's length isn't put in front of it.
+/// refused, and the buffer has no size prefix.
 #[derive(Clone, Copy, Debug, PartialEq, Eq)]
 pub struct EncodeOptions {
     /// How deep tables may be nested, and how many cells there may be.
     pub limits: Limits,
     /// Ignores unknown JSON fields, as `--unknown-json` does.
     pub unknown_json: bool,
-    /// Puts the count of the buffer's bytes in front, as `--size-prefixed` does.
+    /// Writes a size prefix, as `--size-prefixed` does.
     pub size_prefixed: bool,
 }
 
 impl EncodeOptions {
-    /// The usual limits, unknown JSON fields are refused, and a buffer has no count in front.
+    /// The usual limits, unknown JSON fields are refused, and a buffer has no size prefix.
     pub fn new() -> EncodeOptions
         ensures limits { result.limits ≡ usual_limits }
         ensures unknown { result.unknown_json ≡ false }
@@ -62,7 +62,7 @@ pub struct DecodeOptions {
     pub raw_binary: bool,
     /// Includes scalars with their default values, as `--defaults-json` does.
     pub defaults_json: bool,
-    /// Takes the count of the buffer's bytes in front, as `--size-prefixed` does.
+    /// Reads a size prefix, as `--size-prefixed` does.
     pub size_prefixed: bool,
     /// Leaves out blanks and line feeds outside strings, as `--compact` does.
     pub compact: bool,
@@ -70,7 +70,7 @@ pub struct DecodeOptions {
 
 impl DecodeOptions {
     /// The usual limits, the file identifier is checked, default values are left out, a buffer has no
-    /// count in front, and a text is indented.
+    /// size prefix, and a text is indented.
     pub fn new() -> DecodeOptions
         ensures limits { result.limits ≡ usual_limits }
         ensures raw { result.raw_binary ≡ false }

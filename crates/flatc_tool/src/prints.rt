@@ -1,8 +1,8 @@
 //! Buffers printed as JSON texts under a schema text.
 ghost use Rattle.std.specs.Prelude.{◌≡◌, IfOk, IfErr, OnOk, false, string_bytes};
 ghost use Rattle.fb_text.specs.Noted.{write_failed, writer_of};
-ghost use Rattle.flatc_tool.specs.Jobs.{IsText, MayBeText, TextRefused, IsNotMemory};
-ghost use Rattle.flatc_tool.specs.Prints.{IsSent, PrintRefused, TellsFailure, IfUnwritten, IsOfInput};
+ghost use Rattle.flatc_tool.specs.Jobs.{IsTextUnder, MayBeTextUnder, TextRefusedUnder, IsNotMemory};
+ghost use Rattle.flatc_tool.specs.Prints.{IsSentUnder, PrintRefusedUnder, TellsFailure, IfUnwritten, IsOfInput};
 
 use crate::json_texts::{decode, decode_to};
 use crate::laws::layer_laws;
@@ -30,13 +30,13 @@ pub fn print_to<W: Write>(
     out: &mut Noted<W>,
 ) -> Result<(), ToolFault>
     requires fresh { write_failed out.old ≡ false }
-    ensures printed { OnOk result (IsSent schema.now bytes.now limits raw defaults
+    ensures printed { OnOk result (IsSentUnder false false schema.now bytes.now limits raw defaults
         (W.contents (writer_of out.old)) (W.contents (writer_of out.new))) }
-    ensures refused { IfErr result (PrintRefused schema.now bytes.now limits raw defaults
+    ensures refused { IfErr result (PrintRefusedUnder false false schema.now bytes.now limits raw defaults
         (W.contents (writer_of out.old)) (W.contents (writer_of out.new))) }
     ensures failed { TellsFailure (write_failed out.new) result }
     ensures untouched { IfUnwritten result (out.new ≡ out.old) }
-    ensures exact { IfErr result (λ f. IsOfInput f → ¬ MayBeText schema.now bytes.now limits raw) }
+    ensures exact { IfErr result (λ f. IsOfInput f → ¬ MayBeTextUnder false schema.now bytes.now limits raw) }
 {
     layer_laws();
     let layout = match schema_of(alloc, schema) {
@@ -67,10 +67,10 @@ pub fn to_json(
     defaults: bool,
 ) -> Result<String, ToolFault>
     ensures text { IfOk result
-        (λ s. IsText schema.now bytes.now limits raw defaults (string_bytes s)) }
-    ensures refused { IfErr result (TextRefused schema.now bytes.now limits raw) }
+        (λ s. IsTextUnder false false schema.now bytes.now limits raw defaults (string_bytes s)) }
+    ensures refused { IfErr result (TextRefusedUnder false schema.now bytes.now limits raw) }
     ensures exact { IfErr result
-        (λ f. IsNotMemory f → ¬ MayBeText schema.now bytes.now limits raw) }
+        (λ f. IsNotMemory f → ¬ MayBeTextUnder false schema.now bytes.now limits raw) }
 {
     layer_laws();
     let layout = match schema_of(alloc, schema) {

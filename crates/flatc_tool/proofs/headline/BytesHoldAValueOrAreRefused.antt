@@ -17,9 +17,9 @@ use Rattle.fb_conform.specs.Conforms.{Conforms}
 use Rattle.fb_conform.specs.Carry.{carry}
 use Rattle.flatc_tool.specs.LayerLaws.{LayerLaws}
 use Rattle.fb_declare.specs.SchemaTexts.{IsAccepted}
-use Rattle.flatc_tool.specs.Jobs.{JsonMeans, IsBinaryFramed, IsBinaryUnder, IsTextUnder, TextRefusedUnder}
+use Rattle.flatc_tool.specs.Jobs.{JsonMeans, IsBinary, IsBinaryUnder, IsTextUnder, TextRefusedUnder}
 use Rattle.flatc_tool.specs.Jobs.{IsNotMemory, spacing_of}
-use Rattle.flatc_tool.specs.Checks.{CheckRefusedFramed}
+use Rattle.flatc_tool.specs.Checks.{CheckRefused}
 use Rattle.flatc_tool.specs.Prints.{PrintRefusedUnder}
 use Rattle.flatc_tool.specs.Evolution.{TextsConform}
 use Rattle.flatc_tool.specs.Answers.{TextAnswer, CheckAnswer, ViewAnswer, ValueAnswer, IsTextOrMemory, IsOkOrMemory}
@@ -77,7 +77,7 @@ module _ (laws : LayerLaws) (prefixed : Bool) (schema : List ℕ) (b : Bytes) (m
 module _ (laws : LayerLaws) (prefixed : Bool) (schema json : List ℕ) (most : Bounds) (unknown : Bool) (b : Bytes)
     (made : IsBinaryUnder prefixed schema json most unknown b) (L : LaidSchema) (accepted : IsAccepted schema L)
     (v : Datum) (means : JsonMeans L most unknown json v) where
-  here : IsBinaryFramed prefixed L json most unknown b
+  here : IsBinary prefixed L json most unknown b
   here = rw (← (laws.one_layout schema made.layout L made.accepted accepted)) made.has
 
   value : here.value ≡ v
@@ -158,7 +158,7 @@ module _ (laws : LayerLaws) (prefixed : Bool) (schema : List ℕ) (b : Bytes) (m
     answered BadJson refused rule = absurd refused.has
     answered Memory refused rule = absurd refused.has
 
-    checked : (f : ToolFault) → CheckRefusedFramed prefixed schema (Some b) most raw f → IsNotMemory f
+    checked : (f : ToolFault) → CheckRefused prefixed schema (Some b) most raw f → IsNotMemory f
         → f ≡ Read fault
     checked (Schema f) refused rule = absurd (laws.no_layout schema f refused rule L accepted)
     checked (Read f) refused rule = same_fault f refused.0 refused.1 refused.2

@@ -16,8 +16,8 @@ use Rattle.fb_text.specs.declared.faults.WriteFault.{WriteFault}
 use Rattle.fb_text.specs.declared.faults.WriteFault.TheVariants.{NoMemberName, WriteFailed}
 use Rattle.fb_text.specs.Printed.{IsPrinted}
 use Rattle.flatc_tool.specs.LayerLaws.{LayerLaws}
-use Rattle.flatc_tool.specs.Jobs.{IsTextFramed, MayBeTextFramed, TextRefusedFramed, spacing_of}
-use Rattle.flatc_tool.specs.Prints.{IsSentFramed, PrintRefusedFramed, IsOfInput, text_fault}
+use Rattle.flatc_tool.specs.Jobs.{IsText, MayBeText, TextRefused, spacing_of}
+use Rattle.flatc_tool.specs.Prints.{IsSent, PrintRefused, IsOfInput, text_fault}
 use Rattle.fb_faults.specs.declared.faults.ToolFault.{ToolFault}
 use Rattle.fb_faults.specs.declared.faults.ToolFault.TheVariants.{Schema, Json, Build, Read, Text, Write, Breach}
 use Rattle.fb_faults.specs.declared.faults.ToolFault.TheVariants.{NameMoved}
@@ -36,13 +36,13 @@ at_layout spacing L K table defaults v start known r layout root printed =
 
 module _ (laws : LayerLaws) (compact prefixed : Bool) (b : Bytes) (most : Bounds) (raw defaults : Bool) (L : LaidSchema)
     (v : Datum) (holds : HoldsFramed prefixed L most raw b v) (start known : Option (List ℕ)) where
-  text_is : is_whole v ≡ true → IsTextFramed compact prefixed L b most raw defaults (spaced_text (spacing_of compact) L
+  text_is : is_whole v ≡ true → IsText compact prefixed L b most raw defaults (spaced_text (spacing_of compact) L
       defaults v)
   text_is whole = record { value = v; holds = holds; whole = whole; spelled = refl }
 
   pub sent : (x : Unit {0}) → IsWellMade L → SpacedTextsAreUtf8 L → All (λ x. x < 256) b
       → IsPrinted (type_place L.schema.root) v (spaced_text (spacing_of compact) L defaults v) start known (Ok x)
-      → IsSentFramed compact prefixed L b most raw defaults start known
+      → IsSent compact prefixed L b most raw defaults start known
   sent x made utf8 small printed =
       let fits = laws.fits_where_held _ _ L most b v made small holds in (
         spaced_text (spacing_of compact) L defaults v,
@@ -54,7 +54,7 @@ module _ (laws : LayerLaws) (compact prefixed : Bool) (b : Bytes) (most : Bounds
   pub unsent : (f : WriteFault)
       → IsPrinted {A = Unit {0}} (type_place L.schema.root) v (spaced_text (spacing_of compact) L defaults v) start
       known (Err f)
-      → PrintRefusedFramed compact prefixed L b most raw defaults start known (Write f)
+      → PrintRefused compact prefixed L b most raw defaults start known (Write f)
   unsent (NoMemberName at) printed = (v, holds, printed)
   unsent (WriteFailed n) printed =
       (spaced_text (spacing_of compact) L defaults v, text_is printed.0, printed.1, printed.2, printed.3, printed.4)
@@ -62,7 +62,7 @@ module _ (laws : LayerLaws) (compact prefixed : Bool) (b : Bytes) (most : Bounds
   pub unsent_excludes : (f : WriteFault)
       → IsPrinted {A = Unit {0}} (type_place L.schema.root) v (spaced_text (spacing_of compact) L defaults v) start
       known (Err f)
-      → IsOfInput (Write f) → MayBeTextFramed prefixed L b most raw → ⊥
+      → IsOfInput (Write f) → MayBeText prefixed L b most raw → ⊥
   unsent_excludes (WriteFailed n) printed rule may = rule
   unsent_excludes (NoMemberName at) printed rule may =
       let same = laws.one_value _ _ L most b may.value v may.holds holds in
@@ -75,8 +75,8 @@ module _ (laws : LayerLaws) (compact prefixed : Bool) (b : Bytes) (most : Bounds
 
 module _ (compact prefixed : Bool) (L : LaidSchema) (b : Bytes) (most : Bounds) (raw defaults : Bool) (start known :
     Option (List ℕ)) where
-  pub text_refused : (f : ToolFault) → PrintRefusedFramed compact prefixed L b most raw defaults start known f
-      → TextRefusedFramed prefixed L b most raw (text_fault f)
+  pub text_refused : (f : ToolFault) → PrintRefused compact prefixed L b most raw defaults start known f
+      → TextRefused prefixed L b most raw (text_fault f)
   text_refused (Read f) refused = refused
   text_refused (Write (NoMemberName at)) refused = refused
   text_refused (Write (WriteFailed n)) refused =
@@ -99,5 +99,5 @@ module _ (compact prefixed : Bool) (L : LaidSchema) (b : Bytes) (most : Bounds) 
 -- bytes with a fault hold no value, so that they have no text
 pub bytes_exclude : (prefixed : Bool) (L : LaidSchema) (b : Bytes) (most : Bounds) (raw : Bool) (f : ReadFault)
     → RefusesFramed prefixed L most raw b f
-    → MayBeTextFramed prefixed L b most raw → ⊥
+    → MayBeText prefixed L b most raw → ⊥
 bytes_exclude prefixed L b most raw f refuses may = refuses.1 may.value may.holds

@@ -39,4 +39,4 @@ pub returns-clause-apart : goal.returns-clause-apart
 returns-clause-apart c =
     let end = take_all c.loop-path.path-index c.args.paths.now c.loop-path-test.false in
     let all = rw end at c.loop-path.invariant.met in
-    if_ok _ (λ checked. apart c.loop-path.met (inputs_of c.args.batch.now) _ checked all) c.check_inputs.ensures
+    if_ok _ (λ checked. apart c.loop-path.met (inputs_of c.args.schema.now c.args.files.now) _ checked all) c.check_inputs.ensures

@@ -4,4 +4,4 @@ use Rattle.flatc_files.proofs.targets.check_inputs.Given as goal
 
 abbrev pub invariant-loop-file : goal.invariant-loop-file
 invariant-loop-file l = All (λ input. has_path l.outputs input ≡ false)
-    (map string_bytes (take l.file-index l.batch.files.items))
+    (map string_bytes (take l.file-index l.files))

@@ -1,8 +1,8 @@
 use Rattle.std.proofs.Common.{false}
 use Rattle.std.proofs.lemmas.Result.{IfErr-weaker, on_ok_weaker}
 use Rattle.fb_text.specs.Noted.{writer_of}
-use Rattle.flatc_tool.specs.Jobs.{MayBeText, MayBeTextFramed}
-use Rattle.flatc_tool.specs.Prints.{IsOfInput, PrintRefused, PrintRefusedFramed}
+use Rattle.flatc_tool.specs.Jobs.{MayBeTextUnder, MayBeText}
+use Rattle.flatc_tool.specs.Prints.{IsOfInput, PrintRefusedUnder, PrintRefused}
 use Rattle.flatc_tool.proofs.jobs.RefusedUnderTheSchema.{none_of_layout, refused_under}
 use Rattle.flatc_tool.proofs.prints.print_to.Goals as goal
 
@@ -12,9 +12,9 @@ returns-in-Err-clause-exact g c rule other = c.in-Err.ensures.exact rule other.l
 pub returns-clause-exact : goal.returns-clause-exact
 returns-clause-exact g c =
     IfErr-weaker c.decode_to.result _
-    (λ f. IsOfInput f → ¬ (MayBeText c.args.schema.now c.args.bytes.now c.args.limits c.args.raw))
+    (λ f. IsOfInput f → ¬ (MayBeTextUnder false c.args.schema.now c.args.bytes.now c.args.limits c.args.raw))
     (λ f exact rule. none_of_layout c.layer_laws.ensures.laws.one_layout c.args.schema.now c.in-Ok.layout
-    (λ L. MayBeTextFramed false L c.args.bytes.now c.args.limits c.args.raw) c.in-Ok.ensures.accepted (exact rule))
+    (λ L. MayBeText false L c.args.bytes.now c.args.limits c.args.raw) c.in-Ok.ensures.accepted (exact rule))
     c.decode_to.ensures.exact
 
 pub returns-in-Err-clause-refused : goal.returns-in-Err-clause-refused
@@ -34,8 +34,8 @@ returns-clause-refused g c =
     let start = g.W.Write.contents (writer_of c.args.out.now) in
     let known = g.W.Write.contents (writer_of c.decode_to.new.out) in
     IfErr-weaker c.decode_to.result _
-    (PrintRefused c.args.schema.now c.args.bytes.now c.args.limits c.args.raw c.args.defaults start known)
-    (refused_under c.args.schema.now (λ L. PrintRefusedFramed false false L c.args.bytes.now c.args.limits c.args.raw
+    (PrintRefusedUnder false false c.args.schema.now c.args.bytes.now c.args.limits c.args.raw c.args.defaults start known)
+    (refused_under c.args.schema.now (λ L. PrintRefused false false L c.args.bytes.now c.args.limits c.args.raw
     c.args.defaults start known) c.in-Ok.layout c.in-Ok.ensures.accepted (λ f none. none))
     c.decode_to.ensures.refused
 

@@ -1,0 +1,25 @@
+use Rattle.std.proofs.Common.{◌∙◌, append-nil, codes, map, refl, string_bytes, sym}
+use Rattle.clap.specs.Words.{found_of, rows_of}
+use Rattle.flatc_cli.proofs.TaskFiles.{one_json, alone, dir_not_streamed}
+use Rattle.flatc_cli.proofs.tasks.json_task.Goals as goal
+
+pub returns-in-Some-clause-task : goal.returns-in-Some-clause-task
+returns-in-Some-clause-task c =
+    let rows = rows_of (found_of c.args.found.now) in
+    let paths = c.in_ok-strings_of.ensures ∙ c.in_ok-files.ensures.ok in
+    c.in_ok-task_with.ensures (codes "json") (refl, c.flag_of.ensures, c.flag_of-2.ensures) (record {
+      fit = tt;
+      paths = sym paths ∙ sym (append-nil (map string_bytes c.in_ok-strings_of.field-0.items));
+      directory = rw c.in_ok-from_str.ensures.ok (sym c.in-Some.ensures);
+      streamed = dir_not_streamed rows c.in-Some.dir.now c.requires c.in-Some.ensures;
+    })
+
+pub returns-clause-task : goal.returns-clause-task
+returns-clause-task c =
+    let rows = rows_of (found_of c.args.found.now) in
+    c.in_ok-task_with-2.ensures (codes "json") (refl, c.flag_of.ensures, c.flag_of-2.ensures) (record {
+      fit = one_json c.flag_of.result c.flag_of-2.result c.in_ok-inputs.inputs c.in_ok-inputs.ensures.one;
+      paths = alone rows _ c.in_ok-inputs.inputs c.in_ok-bin.ensures.ok c.in_ok-inputs.ensures.path;
+      directory = sym c.in_default.ensures;
+      streamed = c.in_ok-inputs.ensures.streamed;
+    })

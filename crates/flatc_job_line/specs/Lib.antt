@@ -1,2 +1,0 @@
-pub mod JobLines
-pub mod ExampleLines
