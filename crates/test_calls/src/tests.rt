@@ -3,6 +3,7 @@ use flatc_tool::{EncodeOptions, Limits};
 use std::alloc::AllocError;
 
 mod check;
+mod examples;
 mod faults;
 mod integers;
 mod job_of;

@@ -2,8 +2,7 @@
 use crate::arming::{Matching, Outcome, arm, disarm, of_bytes};
 use crate::examples::Example;
 use clap::error::ErrorKind;
-use flatc_cli::request_of;
-use flatc_files::{Explaining, Job, Request};
+use flatc_cli::{Inputs, Request, Task, Verb, request_of};
 use flatc_tool::command::{Heard, fault_line, report, report_noted, take_all};
 use flatc_tool::{JsonFault, Noted, Place, ToolFault, TypeId};
 use std::alloc::{AllocError, Global};
@@ -41,18 +40,16 @@ fn words(alloc: Global) -> Result<Vec<String>, AllocError> {
 
 fn is_asked(request: &Request) -> bool {
     match request {
-        Request::Do(job, Explaining::AtTerminal) => is_check(job),
+        Request::Do(task, None) => is_check(task),
         _ => false,
     }
 }
 
-fn is_check(job: &Job) -> bool {
-    match job {
-        Job::Check {
-            schema,
-            bin: Some(bin),
-            raw: true,
-        } => schema.as_str() == "s" && bin.as_str() == "b",
+fn is_check(task: &Task) -> bool {
+    match (task.verb, &task.inputs) {
+        (Verb::Check { raw: true }, Inputs::One(bin)) => {
+            task.schema.as_str() == "s" && bin.as_str() == "b"
+        }
         _ => false,
     }
 }

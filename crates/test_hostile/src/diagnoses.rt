@@ -7,7 +7,7 @@ use fb_encode::text_fault_path;
 use fb_explain::{COLUMNS, Source, Sources, explain};
 use fb_json::{Source as JsonSource, fault_path as json_fault_path};
 use fb_layout::Layout;
-use fb_read::{Entries, fault_path};
+use fb_read::{Entries, Framing, fault_path};
 use flatc_tool::{ToolFault, check, conform_texts, schema_of, to_binary};
 use serde_json::Value as Json;
 use std::alloc::{AllocError, Global};
@@ -43,7 +43,11 @@ fn of_count(known: Result<usize, AllocError>, answer: Result<usize, AllocError>)
 /// How many steps lead to the least fault of bytes; 0 where there is none.
 fn steps_in_bytes(alloc: Global, layout: &Layout, bytes: &[u8]) -> Result<usize, AllocError> {
     let mut entries = Entries::new();
-    match fault_path(alloc, layout, bytes, limits(), false, false, &mut entries)? {
+    let framing = Framing {
+        raw: false,
+        prefixed: false,
+    };
+    match fault_path(alloc, layout, bytes, limits(), framing, &mut entries)? {
         Some(steps) => Ok(steps.len()),
         None => Ok(0),
     }

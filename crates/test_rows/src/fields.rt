@@ -1,12 +1,15 @@
 //! The fields of a row.
 use crate::faults::RowFault;
+use crate::repeats::{Repeat, expand, repeats_of};
 use json::{Scratch, Value};
 use std::alloc::Global;
 
-/// The fields of a row that nothing has taken yet.
+/// The fields of a row that nothing has taken yet, and what its texts repeat.
 #[derive(Drop)]
 pub(crate) struct Fields<'a> {
+    alloc: Global,
     left: Vec<(&'a str, Value<'a>)>,
+    repeats: Vec<Repeat<'a>>,
 }
 
 impl<'a> Fields<'a> {
@@ -17,10 +20,28 @@ impl<'a> Fields<'a> {
         scratch: &'a mut Scratch,
     ) -> Result<Fields<'a>, RowFault> {
         match Value::parse_strict(alloc, line, scratch) {
-            Ok(Value::Object(left)) => Ok(Fields { left }),
+            Ok(Value::Object(left)) => Fields::of(alloc, left),
             Ok(_) => Err(RowFault::NotAnObject),
             Err(error) => Err(RowFault::NotJson(error)),
         }
+    }
+
+    /// These fields, where `repeats` names what the others repeat.
+    fn of(alloc: Global, left: Vec<(&'a str, Value<'a>)>) -> Result<Fields<'a>, RowFault> {
+        let mut fields = Fields {
+            alloc,
+            left,
+            repeats: Vec::new(alloc),
+        };
+        if let Some(value) = fields.value("repeats") {
+            fields.repeats = repeats_of(alloc, value)?;
+        }
+        Ok(fields)
+    }
+
+    /// Whether the texts are written out.
+    pub(crate) fn is_written_out(&self) -> bool {
+        self.repeats.is_empty()
     }
 
     /// Whether every field was taken.
@@ -36,19 +57,18 @@ impl<'a> Fields<'a> {
     }
 
     /// Takes a text, if it is there.
-    pub(crate) fn optional_text(
-        &mut self,
-        name: &'static str,
-    ) -> Result<Option<&'a str>, RowFault> {
+    pub(crate) fn optional_text(&mut self, name: &'static str) -> Result<Option<String>, RowFault> {
         match self.value(name) {
             None => Ok(None),
-            Some(Value::String(text)) => Ok(Some(text)),
+            Some(Value::String(text)) => {
+                Ok(Some(expand(self.alloc, text, self.repeats.as_slice())?))
+            }
             Some(_) => Err(RowFault::Invalid(name)),
         }
     }
 
     /// Takes a text.
-    pub(crate) fn text(&mut self, name: &'static str) -> Result<&'a str, RowFault> {
+    pub(crate) fn text(&mut self, name: &'static str) -> Result<String, RowFault> {
         match self.optional_text(name)? {
             Some(text) => Ok(text),
             None => Err(RowFault::Missing(name)),

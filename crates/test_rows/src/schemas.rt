@@ -2,7 +2,6 @@
 mod asked;
 mod laid;
 mod shown;
-mod texts;
 
 use crate::cuts::are_cuts_settled;
 use crate::faults::RowFault;
@@ -10,32 +9,20 @@ use crate::fields::Fields;
 use crate::schemas::asked::write_asked;
 use crate::schemas::laid::write_laid;
 use crate::schemas::shown::write_schema;
-use crate::schemas::texts::{with_pieces, with_tables};
 use flatc_tool::{Layout, SchemaTextFault, schema_of};
 use std::alloc::{AllocError, Global};
 
 /// A row of a schema text, and what it has to give.
 ///
-/// `tables` is a number of tables that stand before the text, and `pieces` a number of pieces like
-/// `piece` in it, as `texts` makes them. Where `ask` is there the schema is asked for it, where
-/// `laid` is its layout, and else the schema is shown as a whole. A text that is refused gives its
-/// fault. Each cut of a text that is written out gives a schema or a fault too.
+/// Where `ask` is there the schema is asked for it, where `laid` is its layout, and else the whole schema is shown.
+/// A text that is refused gives its fault. Each cut of a text that is written out gives a schema or a fault too.
 pub(crate) fn try_schema_row(
     alloc: Global,
     text: &str,
     row: &mut Fields<'_>,
     line: &mut String,
 ) -> Result<&'static str, RowFault> {
-    if let Some(tables) = row.number("tables")? {
-        let text = with_tables(alloc, tables, text)?;
-        return try_text(alloc, text.as_str(), row, line);
-    }
-    if let Some(pieces) = row.number("pieces")? {
-        let piece = row.text("piece")?;
-        let text = with_pieces(alloc, pieces, piece, text)?;
-        return try_text(alloc, text.as_str(), row, line);
-    }
-    if !are_cuts_settled(alloc, text) {
+    if row.is_written_out() && !are_cuts_settled(alloc, text) {
         line.push_str("a cut of the text runs out of memory; ")?;
     }
     try_text(alloc, text, row, line)
@@ -60,11 +47,11 @@ fn try_layout(
     line: &mut String,
 ) -> Result<&'static str, RowFault> {
     if let Some(ask) = row.optional_text("ask")? {
-        write_asked(layout.schema(), ask, line)?;
+        write_asked(layout.schema(), ask.as_str(), line)?;
         return Ok("asked");
     }
     if let Some(ask) = row.optional_text("laid")? {
-        write_laid(layout, ask, line)?;
+        write_laid(layout, ask.as_str(), line)?;
         return Ok("asked");
     }
     write_schema(layout.schema(), line)?;

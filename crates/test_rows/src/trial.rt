@@ -6,7 +6,8 @@ use crate::tally::Tally;
 use crate::values::try_value_row;
 use json::Scratch;
 use std::alloc::{AllocError, Global};
-use std::io::{self, Read, Write};
+use std::fs;
+use std::io::{self, Write};
 use std::process::ExitCode;
 
 /// The kinds of rows, in the order in which they are counted.
@@ -39,7 +40,7 @@ fn compare(
 /// Writes what comes of a row as a line, and returns the row's kind. Each field that tells of it is taken.
 fn run(alloc: Global, row: &mut Fields<'_>, line: &mut String) -> Result<&'static str, RowFault> {
     match row.optional_text("text")? {
-        Some(text) => try_schema_row(alloc, text, row, line),
+        Some(text) => try_schema_row(alloc, text.as_str(), row, line),
         None => try_value_row(alloc, row, line),
     }
 }
@@ -53,7 +54,7 @@ fn try_row(alloc: Global, row: &mut Fields<'_>) -> Result<Verdict, RowFault> {
     if !row.is_empty() {
         return Err(RowFault::Unused);
     }
-    compare(alloc, kind, name, want, line.as_str())
+    compare(alloc, kind, name.as_str(), want.as_str(), line.as_str())
 }
 
 /// The verdict on a line, or why it is no row.
@@ -87,16 +88,14 @@ fn try_lines<W: Write>(
     Ok(())
 }
 
-/// Tries each line of the input as a row, and writes a line for each that is wrong, and the counts.
+/// Tries each line of some files as a row, and writes a line for each that is wrong, and the counts.
 /// The status is a failure where a row is wrong.
-pub(crate) fn try_rows<R: Read + Drop, W: Write>(
-    alloc: Global,
-    input: R,
-    out: &mut W,
-) -> io::Result<ExitCode> {
-    let text = io::read_to_string(alloc, input)?;
-    let mut tally = Tally::new(alloc, KINDS)?;
-    try_lines(alloc, text.as_str(), &mut tally, out)?;
-    tally.write_to(out)?;
+pub(crate) fn try_files(rt: &HostRuntime, paths: &[String]) -> io::Result<ExitCode> {
+    let mut tally = Tally::new(rt.alloc(), KINDS)?;
+    for path in paths {
+        let text = fs::read_to_string(rt, path.as_str())?;
+        try_lines(rt.alloc(), text.as_str(), &mut tally, &mut rt.stdout())?;
+    }
+    tally.write_to(&mut rt.stdout())?;
     Ok(tally.status())
 }

@@ -21,8 +21,8 @@ use fb_value::Limits;
 use flatc_tool::schema_of;
 use std::alloc::Global;
 
-/// What a row is tried under: the layout of its schema text, limits, whether the count of its buffers' bytes is in
-/// front of them, and whether texts are printed without blanks and line feeds.
+/// What a row is tried under: the layout of its schema text, limits, whether its buffers have a size prefix, and
+/// whether texts are printed without blanks and line feeds.
 #[derive(Clone, Copy)]
 pub(crate) struct Case<'l> {
     pub(crate) alloc: Global,
@@ -53,7 +53,7 @@ pub(crate) fn try_value_row(
     let prefixed = row.flag("prefixed")?;
     let compact = row.flag("compact")?;
     let text = row.text("schema")?;
-    if !are_cuts_settled(alloc, text) {
+    if !are_cuts_settled(alloc, text.as_str()) {
         line.push_str("a cut of the schema runs out of memory; ")?;
     }
     let Some(limits) = limits_of(depth, cells) else {
@@ -72,7 +72,7 @@ pub(crate) fn try_value_row(
     try_case(&case, row, line)
 }
 
-/// Limits of so many levels and cells, or the usual ones.
+/// Limits of these levels and cells, or the usual ones.
 fn limits_of(depth: Option<u64>, cells: Option<u64>) -> Option<Limits> {
     let depth = u8::try_from(depth.unwrap_or(64)).ok()?;
     let cells = u32::try_from(cells.unwrap_or(100_000_000)).ok()?;
@@ -87,11 +87,11 @@ fn try_case(
     let json = row.optional_text("json")?;
     match row.optional_text("bytes")? {
         Some(hex) => match json {
-            Some(json) => try_built(case, row, json, hex, line),
-            None => try_hex(case, row, hex, line),
+            Some(json) => try_built(case, row, json.as_str(), hex.as_str(), line),
+            None => try_hex(case, row, hex.as_str(), line),
         },
         None => match json {
-            Some(json) => try_json(case, row, json, line),
+            Some(json) => try_json(case, row, json.as_str(), line),
             None => try_names(case, row, line),
         },
     }

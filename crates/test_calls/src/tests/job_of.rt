@@ -1,6 +1,5 @@
 //! Lines of words that ask for one job over one file, and others.
-use flatc_files::Job;
-use flatc_job_line::job_of;
+use flatc_cli::{Job, job_of};
 use std::alloc::{AllocError, Global};
 use std::test::Fail;
 

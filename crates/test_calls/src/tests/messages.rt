@@ -1,7 +1,7 @@
 //! Streams of size-prefixed buffers, split by their counts.
 use flatc_tool::split_prefixed;
 
-/// Messages of 3 and 0 bytes behind their counts, and a byte.
+/// Messages of 3 and 0 bytes after their counts, and a byte.
 const STREAM: &[u8] = &[3, 0, 0, 0, 7, 8, 9, 0, 0, 0, 0, 5];
 
 /// Parts of the stream, and how many bytes the first message has with its count, or the fault's number and offset.
@@ -14,7 +14,7 @@ const PARTS: &[(usize, usize, Result<usize, (u8, u64)>)] = &[
 ];
 
 /// How many bytes the first message of a stream has, 0 where there is none, or the fault's number and offset. The rest
-/// has to be behind it.
+/// has to be after it.
 fn first_of(stream: &[u8]) -> Result<usize, (u8, u64)> {
     match split_prefixed(stream) {
         Ok(None) => Ok(0),

@@ -4,7 +4,7 @@ use std::alloc::{AllocError, Global};
 use std::test::Fail;
 
 /// What is shown of a text that is cut: the runs of an array, the members of an object, or how many elements the runs
-/// seem to have, a byte each. `|` is behind each piece but the last, `.` behind the last, and `?` is where a text isn't
+/// seem to have, a byte each. `|` is after each piece but the last, `.` after the last, and `?` is where a text isn't
 /// cut.
 #[derive(Clone, Copy)]
 enum Shown {
@@ -13,7 +13,7 @@ enum Shown {
     Counts,
 }
 
-// Arrays, cut behind each element.
+// Arrays, cut after each element.
 const ELEMENTS: &[(&str, &[u8])] = &[
     ("[1]", b"1."),
     ("[1,2,3]", b"1|2|3."),
@@ -125,7 +125,7 @@ const OBJECTS: &[(&str, &[u8])] = &[
 
 // Arrays of so many of an element, and then of others, how many bytes a run has at most, or twice as many where no
 // element has brackets, and how many elements the runs seem to have. Of 200 digits 50 have 99 bytes with their commas,
-// and 51 have 101. Twelve strings of nine bytes have 119 with their commas. Elements of four bytes are long, and behind
+// and 51 have 101. Twelve strings of nine bytes have 119 with their commas. Elements of four bytes are long, and after
 // one that is shorter a run has at most four.
 const LONG: &[(&[(usize, &str)], usize, &[u8])] = &[
     (&[(200, "1")], 399, &[200]),
@@ -151,7 +151,7 @@ const BLANKS: &[(&str, usize)] = &[
     ("\u{a0}", 0),
 ];
 
-/// Adds a piece, and what stands behind it.
+/// Adds a piece, and what follows it.
 fn push_piece(
     shown: &mut Vec<u8>,
     text: &[u8],
@@ -163,7 +163,7 @@ fn push_piece(
     Ok(())
 }
 
-/// What stands behind a piece.
+/// What follows a piece.
 fn mark(is_last: bool) -> u8 {
     if is_last { b'.' } else { b'|' }
 }
@@ -230,7 +230,7 @@ fn behind_blanks(alloc: Global, blanks: usize, text: &str) -> Result<Vec<u8>, Al
     Ok(padded)
 }
 
-/// The first of some texts that isn't cut as it should be, behind so many blanks that each of its bytes begins a block
+/// The first of some texts that isn't cut as it should be, after enough blanks that each of its bytes begins a block
 /// of 64 once, and ends one.
 fn wrong<'r>(
     alloc: Global,

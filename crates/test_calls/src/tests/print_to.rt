@@ -85,7 +85,7 @@ fn a_text_of_which_each_front_is_written(rt: HostRuntime) -> Result<(), Fail> {
     Ok(())
 }
 
-/// A text with 20,000 short strings, and a long one behind them.
+/// A text with 20,000 short strings, and a long one after them.
 fn long_text(alloc: Global) -> Result<String, AllocError> {
     let mut text = String::from_str(alloc, "{\n  \"v\": [\n")?;
     push_times(&mut text, "    \"abc\",\n", 20_000)?;

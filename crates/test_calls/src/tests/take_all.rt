@@ -21,7 +21,7 @@ impl Read for Bytes<'_> {
     }
 }
 
-/// Readers of which three bytes are taken at most: their bytes, whether they fail behind them, and the fault's number,
+/// Readers of which three bytes are taken at most: their bytes, whether they fail after them, and the fault's number,
 /// 0 where all bytes are taken.
 const READERS: &[(&[u8], bool, u8)] = &[
     (b"abc", false, 0),

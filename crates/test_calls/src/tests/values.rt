@@ -42,7 +42,7 @@ const NARROWER: &[u8] = b"table A {} table B {} union U { A } table T { u:U; } r
 const MEMBERS: &[u8] =
     b"table A { x:int; v:[string]; } union U { A } table T { u:U; } root_type T;";
 
-/// A table behind another.
+/// A table after another.
 const LATER: &[u8] = b"table A {} table T { a:int; } root_type T;";
 
 /// Numbers and unions in the second slot of a first table.

@@ -52,7 +52,7 @@ fn write_of_type(
 }
 
 /// Writes what a schema answers where it is asked for its `size`, to `find` a type, or for a field, a member or a value
-/// of the type with a number: a word, and behind blanks what is sought.
+/// of the type with a number: a word, and after blanks what is sought.
 pub(crate) fn write_asked(schema: &Schema, ask: &str, line: &mut String) -> Result<(), RowFault> {
     let (word, sought) = ask.split_once(' ').unwrap_or((ask, ""));
     match word {

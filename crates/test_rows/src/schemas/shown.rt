@@ -131,7 +131,7 @@ fn write_root(schema: &Schema, line: &mut String) -> Result<(), AllocError> {
     Ok(())
 }
 
-/// Writes the types, with a bar behind each, the root, and the identifier where there is one.
+/// Writes the types, with a bar after each, the root, and the identifier where there is one.
 pub(crate) fn write_schema(schema: &Schema, line: &mut String) -> Result<(), AllocError> {
     for info in schema.types() {
         write_type(info, line)?;
