@@ -23,6 +23,8 @@ PREFIX = /usr/local
 NAME = flatc
 PROGRAM = crates/flatc/out/flatc
 SEED = 1
+# The files of rows, by subject.
+ROWS = $(shell cat crates/test_rows/args)
 # --over-gate: over the libraries that the gate proved
 BUILD =
 LIBDIR = lib
@@ -100,7 +102,7 @@ quick:
 	@tests/quick.sh
 
 rows:
-	@cd crates/test_rows && rt try --steps 1 --seconds 900 < stdin | head -n 1
+	@cd crates/test_rows && rt try --steps 1 --seconds 900 $(foreach it,$(ROWS),--data $(it)=data/$(it)) -- $(ROWS) | head -n 1
 
 fmt:
 	@for crate in crates/*/; do (cd $$crate && rt fmt) || exit 1; done

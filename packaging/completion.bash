@@ -17,10 +17,12 @@ _@IDENTIFIER@() {
     declare -F _init_completion > /dev/null || return
     _init_completion -s || return
     case $prev in
-        @VALUED@)
+        @DIRECTED@)
             _filedir -d
             return
             ;;
+@VALUES@
+        @VALUED@) return ;;
     esac
     for ((i = 1; i < cword; i++)); do
         case ${words[i]} in

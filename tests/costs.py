@@ -7,20 +7,16 @@ valgrind counts the instructions where it is there; else it is the user time of 
 with more slack. The last line is 'N passed, M failed'.
 """
 import os
-import re
-import shutil
 import subprocess
 import sys
 
 import crafted_names
-from harness import Tests, program_of, write
+from harness import VALGRIND, Tests, instructions, program_of, write
 
-VALGRIND = shutil.which("valgrind")
 MOST = 2.2 if VALGRIND else 2.9
 # How many times as large an input is where times are taken, and how many runs.
 TIMED = 10
 RUNS = 5
-SECONDS = 300
 
 
 def defaults_changed(count):
@@ -79,14 +75,6 @@ ROWS = (
     ("comments and tables behind them", comments_ahead, 10_000, 1),
     ("types that are gone", types_gone, 2000, 1),
 )
-
-
-def instructions(words):
-    """The status and the instructions of a run."""
-    counted = [VALGRIND, "--tool=callgrind", "--callgrind-out-file=/dev/null", *words]
-    done = subprocess.run(counted, stdin=subprocess.DEVNULL, capture_output=True, check=False, timeout=SECONDS)
-    found = re.search(rb"Collected : ([0-9]+)", done.stderr)
-    return done.returncode, int(found[1]) if found else 0
 
 
 def seconds(words):

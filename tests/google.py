@@ -40,10 +40,23 @@ def lay_inputs(tests, folder):
         tests.tell(f"{name}.bin", done.returncode == 0, f"{done}")
 
 
+def without_absent(value):
+    """A JSON value without members that are absent: Google's flatc prints these as null, or NONE in a union's place."""
+    if isinstance(value, list):
+        return [without_absent(it) for it in value]
+    if not isinstance(value, dict):
+        return value
+    return {
+        name: without_absent(it)
+        for name, it in value.items()
+        if it is not None and not (name.endswith("_type") and it == "NONE")
+    }
+
+
 def value_of(tests, path, line):
     """What a file that a command line made means."""
     if path.endswith(".json"):
-        return json.loads(content(path))
+        return without_absent(json.loads(content(path)))
     schema = re.search(r"\S+\.fbs", line)[0]
     more = ["--size-prefixed"] if "--size-prefixed" in line else []
     done = tests.run(["json", "--defaults-json", *more, f"{ROOT}/examples/{schema}", path])

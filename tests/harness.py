@@ -1,7 +1,9 @@
-"""What the tests of the built program share: counts, runs with a time limit or at a terminal, and files that hold what
-they should."""
+"""What the tests of the built program share: counts, runs with a time limit or at a terminal, files that hold what they
+should, and counted instructions."""
 import os
 import pty
+import re
+import shutil
 import subprocess
 import sys
 import tempfile
@@ -10,12 +12,23 @@ import tty
 
 ROOT = os.path.dirname(os.path.dirname(os.path.abspath(__file__)))
 SECONDS = 120
+# It counts instructions.
+VALGRIND = shutil.which("valgrind")
+COUNTED_SECONDS = 300
 # In bytes.
 SMALL_STACK = 256 * 1024
 
 ONE = b"table T { a:int; } root_type T;"
 SEVEN = bytes.fromhex("0c000000 0000 0600 0800 0400 06000000 07000000")
 SEVEN_TEXT = b'{\n  "a": 7\n}\n'
+
+
+def instructions(words):
+    """The status and the instructions of a run under valgrind."""
+    counted = [VALGRIND, "--tool=callgrind", "--callgrind-out-file=/dev/null", *words]
+    done = subprocess.run(counted, stdin=subprocess.DEVNULL, capture_output=True, check=False, timeout=COUNTED_SECONDS)
+    found = re.search(rb"Collected : ([0-9]+)", done.stderr)
+    return done.returncode, int(found[1]) if found else 0
 
 
 class Tests:

@@ -153,8 +153,9 @@ def pipes(tests):
 
 def damaged(tests):
     """`json` refuses exactly where `check` does, with the same line, or where a code has no name."""
-    with open(os.path.join(ROOT, "crates", "test_rows", "stdin"), encoding="utf-8") as file:
-        rows = [row for row in map(json.loads, file) if row.get("damaged")]
+    path = os.path.join(ROOT, "crates", "test_rows", "data", "buffers_damaged.jsonl")
+    with open(path, encoding="utf-8") as file:
+        rows = [json.loads(line) for line in file]
     tests.tell("the buffers that are damaged", len(rows) == 9, f"{len(rows)}")
     dice = random.Random(SEED)
     held = unnamed = refused = 0

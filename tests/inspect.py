@@ -562,7 +562,7 @@ def size_prefixed(tests):
         (20, 24, "a: int = 7"),
     ]
     write("b.bin", data)
-    tests.expect("a count in front", ["inspect", "--size-prefixed", "s.fbs", "b.bin"], 0, out=listing(data, wanted))
+    tests.expect("a size prefix", ["inspect", "--size-prefixed", "s.fbs", "b.bin"], 0, out=listing(data, wanted))
     cut = u32(21) + SEVEN
     wanted = [
         (0, 4, "count of the bytes after it: 21"),

@@ -17,7 +17,7 @@ from hostile import refusing, shim
 
 UNREAD = b"110 FileRead\n"
 UNWRITTEN = b"111 FileWrite\n"
-# A table with a number of eight bytes, from whose place the count in front counts too.
+# A table with a number of eight bytes, whose alignment counts the size prefix too.
 LONG = b"table L { a:ulong; } root_type L;"
 TEXT = b"table S { s:string; } root_type S;"
 # As FinishSizePrefixed of the C++ library lays it: count, root, six bytes of padding, vtable, table.
@@ -232,7 +232,7 @@ def closed(tests):
     """Pipes that nobody reads, a full device, and nothing to read."""
     inputs()
     for name, words, text in (("binary", ["binary", "--lines", "one.fbs", "three.json", "-"], UNWRITTEN),
-                              ("json", ["json", "--lines", "one.fbs", "three.bin"], UNWRITTEN)):
+                              ("json", ["json", "--lines", "one.fbs", "three.bin"], b"82 WriteFailed after 0\n")):
         with open("/dev/full", "wb") as full:
             tests.expect(f"{name} to a full device", words, 1, err=text, stdout=full)
         end, pipe = os.pipe()
@@ -249,7 +249,7 @@ def closed(tests):
     run.child.stdout.close()
     run.give(number(2))
     told = run.child.stderr.read()
-    tests.tell("a reader that ends", (told, run.child.wait(SECONDS)) == (UNWRITTEN, 1), f"{told}")
+    tests.tell("a reader that ends", (told, run.child.wait(SECONDS)) == (b"82 WriteFailed after 8\n", 1), f"{told}")
     run.watch.cancel()
 
 

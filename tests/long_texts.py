@@ -13,7 +13,7 @@ import subprocess
 import sys
 from typing import Callable, NamedTuple
 
-from harness import ROOT, Tests, content, program_of, write
+from harness import ROOT, VALGRIND, Tests, content, instructions, program_of, write
 
 sys.path.append(f"{ROOT}/bench")
 from bench import Runner  # noqa: E402
@@ -34,13 +34,15 @@ root_type T;
 """
 # Bytes of a long value, and of a short one.
 LONG, SHORT = 10_000_000, 80
+# Of a text whose instructions are counted.
+COUNTED = 1_000_000
 # How many times text and buffer a run takes at most.
 MOST = 3
 # A buffer of tables, numbers and structs has so many times the bytes of their text; one of which nothing is kept, none.
 TABLES, NUMBERS, NOTHING = 1.5, 2, 0
 # A buffer has as many bytes of a string as its text.
 STRING = 1
-# How many times the processor time of a right text one takes that is refused.
+# How many times the processor time of a right text, or its instructions, one takes that is refused.
 TIMES = 1.3
 RUNS = 5
 PLACE = re.compile(r"long\.json:[0-9]+:[0-9]+: ")
@@ -402,16 +404,29 @@ def explain_row(tests, taken, most, row):
     tests.tell(f"the memory of explaining {row.name} from a pipe", peak <= most, f"{peak} KiB, over {most:.0f} KiB")
 
 
+def words_of(number, row, size):
+    """A line that converts a row's text of a size."""
+    write(f"row{number}.json", row.of_size(size))
+    return ["binary", *row.flags, "s.fbs", f"row{number}.json", "long.bin"]
+
+
 def least_of(taken, *rows):
     """The least processor time of each of some texts, whose runs take turns: on a busy machine one may be slow."""
-    for number, row in enumerate(rows):
-        write(f"row{number}.json", row.of_size(LONG))
+    lines = [words_of(number, row, LONG) for number, row in enumerate(rows)]
     least = [math.inf] * len(rows)
     for _ in range(RUNS):
-        for number, row in enumerate(rows):
-            _, seconds, _ = taken.of(["binary", *row.flags, "s.fbs", f"row{number}.json", "long.bin"])
+        for number, line in enumerate(lines):
+            _, seconds, _ = taken.of(line)
             least[number] = min(least[number], seconds)
     return least
+
+
+def costs_of(taken, *rows):
+    """What each of some texts takes: the instructions of shorter ones, where valgrind counts them, else the time."""
+    if not VALGRIND:
+        return [(seconds, "s") for seconds in least_of(taken, *rows)]
+    lines = [words_of(number, row, COUNTED) for number, row in enumerate(rows)]
+    return [(instructions([taken.program, *line])[1], "instructions") for line in lines]
 
 
 def try_rows(tests):
@@ -423,10 +438,11 @@ def try_rows(tests):
     (right,) = least_of(taken, ROWS[0])
     for row in ROWS:
         if row.line:
-            took, beside = seconds[row.name], right
+            (took, unit), beside = (seconds[row.name], "s"), right
             if took > TIMES * right:
-                took, beside = least_of(taken, row, ROWS[0])
-            tests.tell(f"the time of {row.name}", took <= TIMES * beside, f"{took} s, and {beside} s of a right text")
+                (took, unit), (beside, _) = costs_of(taken, row, ROWS[0])
+            good = 0 < took <= TIMES * beside
+            tests.tell(f"the time of {row.name}", good, f"{took} {unit}, and {beside} of a right text")
 
 
 def by_pipe(tests):

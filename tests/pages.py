@@ -1,5 +1,6 @@
 #!/usr/bin/env python3
-"""README and the pages in docs/: their examples, their tables of changes and flags, their links, and their length.
+"""README, the pages in docs/ and the crates' READMEs: their examples, their tables of changes and flags, their links, and
+their length.
 
 usage: tests/pages.py PROGRAM
 
@@ -16,6 +17,9 @@ PAGES = ["README.md", "CONTRIBUTING.md", "SECURITY.md", "CHANGELOG.md", *sorted(
 # Those whose lines with a `$` are run, and how many there are at least.
 SHOWN = {"README.md": 6, "docs/COMMAND.md": 3, "docs/EVOLUTION.md": 4}
 README_WORDS = 1400
+CRATE_WORDS = 400
+# Where the examples of the crates' READMEs are run.
+CRATE_EXAMPLES = "crates/test_calls/src/tests/examples.rt"
 COMMANDS = ("binary", "json", "check", "conform", "inspect", "explain")
 
 
@@ -48,6 +52,20 @@ def first_example(tests):
     tests.tell("README's contract", function in page(path), path)
     words = len(text.split())
     tests.tell("README's words", words <= README_WORDS, f"{words}")
+
+
+def crate_pages(tests):
+    """A crate's README is short, and its examples are run as tests."""
+    run = "\n".join(line.removeprefix("    ") for line in page(CRATE_EXAMPLES).splitlines())
+    shown = 0
+    for name in sorted(glob.glob("crates/*/README.md", root_dir=ROOT)):
+        prose = re.sub(r"```.*?```", "", page(name), flags=re.S)
+        words = [word for word in prose.split() if re.search(r"\w", word)]
+        tests.tell(f"{name}'s words", len(words) < CRATE_WORDS, f"{len(words)}")
+        for block in re.findall(r"```rust\n(.*?)```", page(name), re.S):
+            tests.tell(f"an example of {name}", f"{{\n{block}" in run, f"isn't in {CRATE_EXAMPLES}:\n{block}")
+            shown += 1
+    tests.tell("examples of crates", shown >= 6, f"{shown}")
 
 
 def changes(tests):
@@ -108,7 +126,7 @@ def links(tests):
 
 def main():
     tests = Tests("pages", program_of(sys.argv, __doc__))
-    return tests.main([first_example, examples, changes, flags, recipes, links])
+    return tests.main([first_example, examples, crate_pages, changes, flags, recipes, links])
 
 
 if __name__ == "__main__":

@@ -34,7 +34,7 @@ try() {
 
 # Compares the counts of the rows with those that are wanted.
 try_rows() {
-    if diff <("$rows" < crates/test_rows/stdin | tail -n 1) crates/test_rows/stdout; then
+    if diff <(cd crates/test_rows/data && xargs "../out/test_rows" < ../args | tail -n 1) crates/test_rows/stdout; then
         echo '1 passed, 0 failed'
     else
         echo '0 passed, 1 failed'

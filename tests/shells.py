@@ -48,6 +48,8 @@ LINES = [
     ("flatc binary -o out", "flatc binary -o outdir/"),
     ("flatc binary --out-dir out", "flatc binary --out-dir outdir/"),
     ("flatc binary -o outdir mon", "flatc binary -o outdir monster.fbs "),
+    ("flatc check --error-format sh", "flatc check --error-format short "),
+    ("flatc conform --error-format h", "flatc conform --error-format human "),
     ("flatc explain 7", "flatc explain 7"),
     ("flatc explain 11", "flatc explain 11"),
 ]
@@ -124,8 +126,8 @@ def page_parts(tests):
 
 def new_flags(tests):
     """A flag that is new is in all of them, and a line of help in another form ends the run."""
-    flag = "      --unknown-json   Ignore unknown JSON fields"
-    program = stands_in(tests.program, flag, f"{flag}\\n      --brand-new      Do what is new")
+    flag = "      --unknown-json  *Ignore unknown JSON fields"
+    program = stands_in(tests.program, flag, "&\\n      --brand-new  Do what is new")
     for path, text in written(program).items():
         tests.tell(f"a new flag in {path}", text and "brand" in text, path)
     program = stands_in(tests.program, flag, "      unknown-json: ignores unknown fields")

@@ -30,10 +30,26 @@ def schema_lines(found, indent, test):
     return [f"{indent}{tests[flag]}schemas={count}" for flag, count in counts if flag or count]
 
 
-def valued(described):
-    """The flags that a directory follows."""
+# What the value of a flag is; of others it is any word.
+DIRECTORY = "DIR"
+VALUES = {"FORMAT": ("line", "human", "short", "json")}
+
+
+def valued(described, *values):
+    """The flags that such a value follows, or any value."""
     options = [option for found in described.commands for option in found.options if option.value]
+    options = [option for option in options if not values or option.value in values]
     return list(dict.fromkeys(it for option in options for it in option.spellings()))
+
+
+def bash_values(described):
+    """Cases of a shell script on the word before: the words that may follow it."""
+    indent = " " * 8
+    return "\n".join(
+        f"{indent}{' | '.join(valued(described, value))})\n{indent}    mapfile -t COMPREPLY < "
+        f"<(compgen -W '{' '.join(words)}' -- \"$cur\")\n{indent}    return\n{indent}    ;;"
+        for value, words in VALUES.items()
+    )
 
 
 def bash(described):
@@ -45,15 +61,24 @@ def bash(described):
         cases += schema_lines(found, indent, '[[ " ${words[*]} " == *" FLAG "* ]]') + [f"{indent};;"]
     cases.append(f"        help) candidates='{' '.join(names_of(described))}' ;;")
     refusals = " ".join(f"'{number} {name}'" for number, name, _ in described.refusals)
-    return {"CASES": "\n".join(cases), "REFUSALS": refusals, "VALUED": " | ".join(valued(described))}
+    lists = {"DIRECTED": valued(described, DIRECTORY), "VALUED": valued(described)}
+    lists = {name: " | ".join(flags) for name, flags in lists.items()}
+    return {"CASES": "\n".join(cases), "REFUSALS": refusals, "VALUES": bash_values(described), **lists}
 
 
 def zsh_text(text):
     return re.sub(r"([\[\]:\\])", r"\\\1", text)
 
 
+def zsh_value(value):
+    """What completes a flag's value."""
+    if value == DIRECTORY:
+        return f":{value}:_files -/"
+    return f":{value}:({' '.join(VALUES.get(value, ())) or ' '})"
+
+
 def zsh_option(option):
-    tail = f"[{zsh_text(option.about)}]" + (f":{option.value}:_files -/" if option.value else "")
+    tail = f"[{zsh_text(option.about)}]" + (zsh_value(option.value) if option.value else "")
     if not option.short:
         return single_quoted(option.long + tail)
     both = f"({option.short} {option.long})"
@@ -73,9 +98,15 @@ def zsh(described):
     return {"CASES": "\n".join(cases), **{part: "\n        ".join(lines) for part, lines in listed.items()}}
 
 
+def fish_value(value):
+    """What completes a flag's value."""
+    words = "(__fish_complete_directories)" if value == DIRECTORY else " ".join(VALUES.get(value, ()))
+    return f" -x -a '{words}'" if words else " -x"
+
+
 def fish_option(when, option):
     short = f" -s {option.short[1:]}" if option.short else ""
-    takes = " -x -a '(__fish_complete_directories)'" if option.value else ""
+    takes = fish_value(option.value) if option.value else ""
     return f"complete -c @NAME@ -n {when}{short} -l {option.long[2:]}{takes} -d {single_quoted(option.about)}"
 
 

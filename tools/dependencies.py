@@ -5,7 +5,7 @@ usage: tools/dependencies.py
 
 - Each crate in USERS lists its library in crates.txt and names it in its sources.
 - The crates in NAMED_BY_INDEX find names and vtables by indexmap: no map or set of the standard library is in their
-  sources, and those in INDEXED name the index of fb_index.
+  sources, and those in INDEXED name the index that finds them.
 - Each public enum of faults or breaches derives thiserror's Error, with a sentence for each variant.
 
 Then the check is tried on itself: each library is taken out of each of its crates in turn, a standard map is put into
@@ -35,7 +35,7 @@ NAMED_BY_INDEX = [
     "fb_index", "fb_schema", "fb_resolve", "fb_declare", "fb_layout", "fb_tape", "fb_build", "fb_json",
 ]
 # Each with what finds its names or vtables.
-INDEXED = {"fb_schema": "DigestIndex", "fb_tape": "DigestIndex", "fb_resolve": "PathTree"}
+INDEXED = {"fb_schema": "DigestIndex", "fb_tape": "DigestIndex", "fb_resolve": "IndexSet"}
 STANDARD_MAP = re.compile(r"\b(HashMap|HashSet|BTreeMap|BTreeSet)\b|\bstd::collections\b")
 FAULTS = re.compile(r"((?:#\[[^\n]*\]\n)*)pub enum (\w*(?:Fault|Breach)) \{\n(.*?)\n\}", re.S)
 
@@ -78,7 +78,7 @@ def wrong_maps(sources):
                 yield f"{path}: {found[0]}, where names and vtables are found by indexmap"
     for name, index in INDEXED.items():
         if not any(re.search(rf"\b{index}\b", code_of(it)) for it in sources[name].values()):
-            yield f"crates/{name}/src: {index} of fb_index isn't used"
+            yield f"crates/{name}/src: {index} isn't used"
 
 
 def wrong_faults(sources):

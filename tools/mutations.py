@@ -12,8 +12,9 @@ does. Of each crate the modules that edits change are proved once, and over what
 modules that it changes, and in the whole crate where these are still proved. The last line is
 'N refused, M not refused'.
 
-What was refused is noted in tools/mutations.tried, with a sum of what the trial read: the toolchain, the edit, the
-crate, and what the crates below it state (their specs, and their sources without the bodies of functions).
+What was refused is noted in tools/mutations.tried, with a sum of what the trial read: the toolchain's logic (which two
+kits may share), the edit, the crate, and what the crates below it state (their specs, and their sources without the
+bodies of functions).
 
 An edit in crates/*/not-compiled writes what can't even be compiled, and has a line 'error: NAME' more: the compiler has
 to refuse it with that error, and no other. The crates below have to be proved. The last line is
@@ -85,6 +86,11 @@ def text_of(path):
         return it.read()
 
 
+def logic():
+    """The second half of the kit's line: 'rattle-kit-13b logic dac8..' and 'rattle-kit-13f logic dac8..' refuse alike."""
+    return text_of(f"{kit()}/KIT-ID").partition(" logic ")[2].strip()
+
+
 @functools.cache
 def statements_sum(name):
     """A sum of what a crate states for those above it."""
@@ -102,7 +108,7 @@ def statements_sum(name):
 def crate_sum(name):
     """A sum of what a trial of one of a crate's edits reads, without the edit."""
     crates = read_crates()
-    total = hashlib.sha256(repr((text_of(f"{kit()}/KIT-ID"), crates[name][0])).encode())
+    total = hashlib.sha256(repr((logic(), crates[name][0])).encode())
     for path in files_of(name):
         total.update(repr((os.path.relpath(path, ROOT), text_of(path))).encode())
     for other in below(crates, name):
