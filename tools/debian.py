@@ -17,7 +17,7 @@ CONTENTS = {
     "libflatc0": ["@LIBDIR@/libflatc.so.*"],
 }
 DOCUMENTS = {
-    "flatc-proved": ["README.md", "docs/*", "examples/*.*", "examples/refused/*", "examples/hooks/*"],
+    "flatc-proved": ["README.md", "docs/*", "examples/*.*", "examples/refused/*", "examples/hooks/*", "examples/ci/*"],
     "libflatc-dev": ["examples/c/*", "examples/cpp/*", "bindings/**/*"],
 }
 
