@@ -34,7 +34,7 @@ fn token_len(text: &[u8]) -> usize {
     }
 }
 
-/// The text of a finding's place from its offset on, as far as it is known.
+/// The text of a finding's place from its offset on. None where the text isn't known.
 fn text_at<'t>(finding: &Finding<'t>, context: &Context<'t>) -> Option<&'t [u8]> {
     if let Excerpt::Line(text, offset) = finding.excerpt {
         return text.get(offset..);

@@ -10,7 +10,7 @@ ghost use Rattle.fb_owned.specs.Memory.{PartIsReached, PartIsReachedFramed};
 
 use crate::values::value_of_view;
 use fb_layout::{Layout, layout_is_well_made};
-use fb_read::{Entries, verify_framed};
+use fb_read::{Entries, Framing, verify_framed};
 use fb_value::{Limits, ReadFault, Value};
 use std::alloc::Global;
 
@@ -48,38 +48,47 @@ pub fn read<'a>(
     ensures refused { IfErr result (λ f. f ≢ ReadFault.Memory → EntersRefused false layout.now limits raw bytes.now f
         entries.old.count entries.new.count) }
 {
-    read_framed(alloc, layout, bytes, limits, raw, false, entries)
+    let framing = Framing {
+        raw,
+        prefixed: false,
+    };
+    read_framed(alloc, layout, bytes, limits, framing, entries)
 }
 
-/// The same of a buffer that may be `prefixed`: with a size prefix, from which positions and
-/// alignment count.
+/// The same of a buffer that may have a size prefix, from which positions and alignment count.
 pub fn read_framed<'a>(
     alloc: Global,
     layout: &'a Layout,
     bytes: &'a [u8],
     limits: Limits,
-    raw: bool,
-    prefixed: bool,
+    framing: Framing,
     entries: &mut Entries,
 ) -> Result<Value, ReadFault>
-    ensures value { IfOk result (λ v. HoldsFramed prefixed layout.now limits raw bytes.now (view v)) }
+    ensures value { IfOk result (λ v. HoldsFramed framing.prefixed layout.now limits framing.raw bytes.now (view v)) }
     ensures fits { IfOk result (λ v. FitsRoot layout.now (view v)) }
     ensures deep { IfOk result (λ v. depth (view v) ≤ 127) }
     ensures nests { IfOk result (λ v. nesting (view v) ≤ 300) }
     ensures fault { IfErr result
-        (λ f. f ≢ ReadFault.Memory → RefusesFramed prefixed layout.now limits raw bytes.now f) }
+        (λ f. f ≢ ReadFault.Memory → RefusesFramed framing.prefixed layout.now limits framing.raw bytes.now f) }
     ensures memory { result ≡ Err ReadFault.Memory →
-        RootKeepsFramed prefixed layout.now limits raw bytes.now }
+        RootKeepsFramed framing.prefixed layout.now limits framing.raw bytes.now }
     ensures reached { result ≡ Err ReadFault.Memory →
-        PartIsReachedFramed prefixed layout.now limits raw bytes.now }
+        PartIsReachedFramed framing.prefixed layout.now limits framing.raw bytes.now }
     ensures rises { entries.old.count ≤ entries.new.count }
     ensures counted { entries.new.count ≤ entries.old.count + (limits.cells + 1) }
     ensures each { IfOk result (λ v. entries.new.count ≡ entries.old.count + entered (view v)) }
-    ensures refused { IfErr result (λ f. f ≢ ReadFault.Memory → EntersRefused prefixed layout.now limits raw bytes.now f
-        entries.old.count entries.new.count) }
+    ensures refused { IfErr result (λ f. f ≢ ReadFault.Memory → EntersRefused framing.prefixed layout.now limits
+        framing.raw bytes.now f entries.old.count entries.new.count) }
 {
     layout_is_well_made(layout);
     limits.most_depth(); // at most 127
-    let root = verify_framed(layout, bytes, limits, raw, prefixed, entries)?;
+    let root = verify_framed(
+        layout,
+        bytes,
+        limits,
+        framing.raw,
+        framing.prefixed,
+        entries,
+    )?;
     Ok(value_of_view(alloc, root)?)
 }

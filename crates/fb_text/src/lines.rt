@@ -50,8 +50,9 @@ fn put_far_line<W: Write>(out: &mut Noted<W>, indent: &Indent, some: bool)
     put_blanks(out, indent);
 }
 
-/// Adds the comma, the line feed and the indent before a member or an element. A piece of 16 bytes has room for those of
-/// seven levels.
+/// Adds the comma, the line feed and the indent before a member or an element.
+///
+/// A piece of 16 bytes has room for those of seven levels.
 #[inline(always)]
 pub(crate) fn put_line<W: Write>(out: &mut Noted<W>, indent: &Indent, some: bool)
     ensures { Prints W.contents out.old out.new (line (blanks indent.now) some) }

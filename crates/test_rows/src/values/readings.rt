@@ -3,7 +3,7 @@ use crate::values::Case;
 use crate::values::agree::table_agrees;
 use crate::values::texts::try_alike;
 use fb_owned::read_framed;
-use fb_read::{Entries, verify_framed};
+use fb_read::{Entries, Framing, verify_framed};
 use fb_value::{ReadFault, Value};
 use std::alloc::AllocError;
 
@@ -47,13 +47,16 @@ fn is_shown(case: &Case, bytes: &[u8], raw: bool, value: &Value) -> bool {
 /// The value that bytes hold, read as a whole and shown by a view.
 pub(crate) fn value_in(case: &Case, bytes: &[u8], raw: bool) -> Result<Value, Unread> {
     let mut entries = Entries::new();
+    let framing = Framing {
+        raw,
+        prefixed: case.prefixed,
+    };
     match read_framed(
         case.alloc,
         case.layout,
         bytes,
         case.limits,
-        raw,
-        case.prefixed,
+        framing,
         &mut entries,
     ) {
         Ok(value) if is_shown(case, bytes, raw, &value) => Ok(value),

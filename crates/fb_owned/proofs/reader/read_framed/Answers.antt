@@ -13,8 +13,9 @@ pub returns-in_err-root : goal.returns-in_err-root
 returns-in_err-root c =
     let p = err_from_is_err_and c.from_residual.result c.from_residual.ensures.1 in
     let refuses = c.in_err-root.ensures.fault in
-    let rule : c.in_err-root.field-0.0 ≡ Memory → ⊥ = refusal_no_memory (front_of c.args.prefixed) c.args.prefixed
-    (checked_identifier c.args.layout.now c.args.raw) c.args.layout.now c.args.limits c.args.bytes.now _ refuses in
+    let rule : c.in_err-root.field-0.0 ≡ Memory → ⊥ = refusal_no_memory (front_of c.args.framing.prefixed)
+    c.args.framing.prefixed (checked_identifier c.args.layout.now c.args.framing.raw) c.args.layout.now c.args.limits
+    c.args.bytes.now _ refuses in
     rw (p.1, p.2) (record {
       value = tt;
       fits = tt;
@@ -34,9 +35,9 @@ returns-in_err-value_of_view c =
     let p = err_from_is_err_and c.from_residual-in_err-value_of_view.result
     c.from_residual-in_err-value_of_view.ensures.1 in
     let held = c.in_ok-root.ensures.held in
-    let kept = root_kept (front_of c.args.prefixed)
-    (front_fault c.args.prefixed c.args.bytes.now (checked_identifier c.args.layout.now c.args.raw)) c.args.layout.now
-    c.args.limits c.args.bytes.now held.0 held.1 in
+    let kept = root_kept (front_of c.args.framing.prefixed)
+    (front_fault c.args.framing.prefixed c.args.bytes.now (checked_identifier c.args.layout.now c.args.framing.raw))
+    c.args.layout.now c.args.limits c.args.bytes.now held.0 held.1 in
     rw (p.1, p.2) (record {
       value = tt;
       fits = tt;
@@ -44,8 +45,8 @@ returns-in_err-value_of_view c =
       nests = tt;
       fault = λ other. absurd (other refl);
       memory = λ memory. kept;
-      reached = λ memory. root_reached (front_of c.args.prefixed) _ c.args.layout.now c.args.limits c.args.bytes.now
-          kept;
+      reached = λ memory. root_reached (front_of c.args.framing.prefixed) _ c.args.layout.now c.args.limits
+          c.args.bytes.now kept;
       rises = c.in_ok-root.ensures.rises;
       counted = c.in_ok-root.ensures.counted;
       each = tt;
@@ -61,7 +62,7 @@ pub returns-clause-fits : goal.returns-clause-fits
 returns-clause-fits c =
     let small : All (λ x. x < 256) c.args.bytes.now = All-from_get_or (λ x. x < 256) c.args.bytes.now 0
     (λ i less. (let fits = c.type_inv.bytes i in omega arith)) in
-    fits_where_held_shown (front_of c.args.prefixed) _ c.args.layout.now c.args.limits c.args.bytes.now _
+    fits_where_held_shown (front_of c.args.framing.prefixed) _ c.args.layout.now c.args.limits c.args.bytes.now _
     c.layout_is_well_made.ensures small (returns-clause-value c)
 
 pub returns-clause-deep : goal.returns-clause-deep
