@@ -54,7 +54,7 @@ def shown(piece):
 
 def excerpt(text, offset):
     _, _, line, front = position(text, offset)
-    return [f"  {shown(line)}", f"  {' ' * len(shown(front))}^"]
+    return [f" | {shown(line)}", f" | {' ' * len(shown(front))}^"]
 
 
 def marked(text):
@@ -90,8 +90,8 @@ def unsupported(tests):
     want = lines(
         "18 Unsupported at 14",
         "s.fbs:2:5: floats aren't supported",
-        "    s:float;",
-        "      ^",
+        " |   s:float;",
+        " |     ^",
         "s.fbs:3:13: this attribute isn't supported",
         "s.fbs:4:6: floats aren't supported",
     )
@@ -134,7 +134,7 @@ def texts(tests):
         want = lines("113 BadJson", place("v.json", text, offset) + sentence, *excerpt(text, offset))
         tests.expect(name, ["binary", "--explain", "s.fbs", "v.json", "out.bin"], 1, err=want)
     write("v.json", b'{"name":"\xff"}')
-    want = lines("113 BadJson", "v.json:1:10: the text isn't UTF-8 from here on", '  {"name":"\\xff"}', "           ^")
+    want = lines("113 BadJson", "v.json:1:10: the text isn't UTF-8 from here on", ' | {"name":"\\xff"}', " |          ^")
     tests.expect("JSON that isn't UTF-8", ["binary", "--explain", "s.fbs", "v.json", "out.bin"], 1, err=want)
     write("v.json", b"[" * 200)
     done = tests.run(["binary", "--explain", "s.fbs", "v.json", "out.bin"])
@@ -238,14 +238,14 @@ def row(bytes_, start):
     part = bytes_[start : start + 16]
     cells = "".join(f" {byte:02x}" for byte in part)
     characters = "".join(chr(byte) if 32 <= byte < 127 else "." for byte in part)
-    return f"{start:10} {cells:<48}  {characters}"
+    return f" | {start:10} {cells:<48}  {characters}"
 
 
 def dump(bytes_, offset):
     offset = min(offset, len(bytes_))
     own = offset - offset % 16
     rows = [row(bytes_, own - 16)] if own else []
-    rows += [row(bytes_, own), " " * (12 + 3 * (offset % 16)) + "^^"]
+    rows += [row(bytes_, own), " | " + " " * (12 + 3 * (offset % 16)) + "^^"]
     return rows + ([row(bytes_, 16)] if not own and len(bytes_) > 16 else [])
 
 
@@ -336,8 +336,8 @@ def limits(tests):
     want = lines(
         "78 TooDeep in type 0 slot 0",
         *wrap(place("v.json", text, 320) + f"{path}: tables are nested deeper than 64 levels"),
-        "  ..." + (b'{"n":' * 12).decode() + (text[320 : 320 + 50]).decode() + "...",
-        " " * 65 + "^",
+        " | ..." + (b'{"n":' * 12).decode() + (text[320 : 320 + 50]).decode() + "...",
+        " | " + " " * 63 + "^",
     )
     tests.expect("JSON of 65 levels", ["binary", "--explain", "s.fbs", "v.json", "out.bin"], 1, err=want)
 
@@ -376,8 +376,8 @@ def cells(tests):
     want = ["79 TooManyCells in type 0 slot 0",
     "v.json:1:9: name: more than 100000000 tables, strings, vectors, elements "
             "and bytes of strings"]
-    tests.tell("JSON of more than 100 million cells", rows[:2] == want and rows[2].startswith('  {"name":"xxx')
-               and rows[2].endswith("...") and rows[3] == " " * 10 + "^" and len(rows) == 4, f"{rows!r}"[:500])
+    tests.tell("JSON of more than 100 million cells", rows[:2] == want and rows[2].startswith(' | {"name":"xxx')
+               and rows[2].endswith("...") and rows[3] == " | " + " " * 8 + "^" and len(rows) == 4, f"{rows!r}"[:500])
 
 
 def unnamed(tests):
@@ -513,7 +513,7 @@ def cuts(tests):
     tests.tell("a line of a megabyte", len(rows) == 4 and all(len(it) <= COLUMNS for it in rows), f"{rows!r}"[:300])
     caret = rows[3].index("^") if len(rows) == 4 else -1
     tests.tell("the caret in a long line", rows[2][caret:].startswith("Missing;"), f"{rows[2:]!r}")
-    tests.tell("the dots of a long line", rows[2].startswith("  ...") and rows[2].endswith("..."), f"{rows[2:]!r}")
+    tests.tell("the dots of a long line", rows[2].startswith(" | ...") and rows[2].endswith("..."), f"{rows[2:]!r}")
     write("s.fbs", b"table T { a:" + b"x" * 5000 + b"; } root_type T;")
     done = tests.run(["check", "--explain", "s.fbs"])
     tests.tell("a long name", all(len(it) <= COLUMNS for it in done.stderr.decode().splitlines()))

@@ -24,8 +24,8 @@ WRONG = "table Monster {\n  hp:ubyte = 300;\n}\nroot_type Monster;\n"
 LINE = "12 BadDefault at 29\n"
 PLACE = "wrong.fbs:2:14"
 SENTENCE = ": the default 300 of field 'hp' doesn't fit the type ubyte: 0 to 255"
-EXCERPT = "    hp:ubyte = 300;\n"
-CARET = " " * (2 + 13)
+EXCERPT = " |   hp:ubyte = 300;\n"
+CARET = " | " + " " * 13
 EXPLAINED = f"{LINE}{PLACE}{SENTENCE}\n{EXCERPT}{CARET}^\n"
 COLOURED = f"{LINE}{BOLD}{PLACE}{PLAIN}{SENTENCE}\n{EXCERPT}{CARET}{RED}^{PLAIN}\n"
 NARROW = f"{LINE}{wrapped(PLACE + SENTENCE, 60)}{EXCERPT}{CARET}^\n"
@@ -39,7 +39,7 @@ WARNINGS = wrapped(
 MOVED_LINE = "103 NameMoved in type 0 slot 0\n"
 SHORT = "short.bin: 50 Short at 2\n"
 SHORT_SENTENCE = "short.bin: the buffer's length is 2: too short for the root's offset and the file identifier\n"
-SHORT_BYTES = f"{0:10} {' 0c 00':<48}  ..\n"
+SHORT_BYTES = f" | {0:10} {' 0c 00':<48}  ..\n"
 
 # The words, what is exported, the status, what a terminal shows, and what a pipe gets.
 ROWS = [
@@ -63,7 +63,7 @@ ROWS = [
      ["conform", "--explain", "--names", "--terse", "old.fbs", "moved.fbs"], {}, 1, MOVED_LINE, MOVED_LINE),
     ("no name that moved", ["conform", "old.fbs", "old.fbs"], {}, 0, "", ""),
     ("files that are refused", ["check", "one.fbs", "short.bin", "seven.bin"], {}, 1,
-     f"{SHORT}{SHORT_SENTENCE}{SHORT_BYTES}{' ' * (12 + 3 * 2)}{RED}^^{PLAIN}\n", SHORT),
+     f"{SHORT}{SHORT_SENTENCE}{SHORT_BYTES} | {' ' * (12 + 3 * 2)}{RED}^^{PLAIN}\n", SHORT),
     ("a job without a refusal", ["check", "one.fbs", "seven.bin"], {}, 0, "", ""),
 ]
 

@@ -77,7 +77,7 @@ def changed_files(tests):
     write("s.fbs", NUMBER)
     words = ["binary", "--explain", "s.fbs", "v.json", "out.bin"]
     line = b"72 OutOfRange in type 0 slot 0\n"
-    place = b"v.json:1:6: a: 300 isn't in 0 to 255, the range of ubyte\n  {\"a\":300}\n       ^\n"
+    place = b"v.json:1:6: a: 300 isn't in 0 to 255, the range of ubyte\n | {\"a\":300}\n |      ^\n"
     others = (
         ("a text of another length", b'{"a":1}'),
         ("a text of the same length", b'{"a":400}'),
@@ -148,20 +148,20 @@ def pipes(tests):
     """What came through a pipe is explained like a file."""
     write("s.fbs", NUMBER)
     write("v.json", b'{"a":300}')
-    number = b"/dev/stdin:1:6: a: 300 isn't in 0 to 255, the range of ubyte\n  {\"a\":300}\n       ^\n"
-    cut = b"/dev/stdin:1:6: the text ends here, in the middle of a value\n  {\"a\":\n       ^\n"
+    number = b"/dev/stdin:1:6: a: 300 isn't in 0 to 255, the range of ubyte\n | {\"a\":300}\n |      ^\n"
+    cut = b"/dev/stdin:1:6: the text ends here, in the middle of a value\n | {\"a\":\n |      ^\n"
     binary = ["binary", "s.fbs", "/dev/stdin", "out.bin"]
     piped(tests, "a JSON text with a bad number", binary, b'{"a":300}', b"72 OutOfRange in type 0 slot 0\n", number)
     piped(tests, "a JSON text that isn't one", binary, b'{"a":', b"113 BadJson\n", cut)
     line = b"12 BadDefault at 20\n"
     place = (b"/dev/stdin:1:21: the default 300 of field 'a' doesn't fit the type ubyte: 0 to 255\n"
-             b"  table T { a:ubyte = 300; } root_type T;\n" + b" " * 22 + b"^\n")
+             b" | table T { a:ubyte = 300; } root_type T;\n | " + b" " * 20 + b"^\n")
     bad = b"table T { a:ubyte = 300; } root_type T;"
     piped(tests, "a schema", ["check", "/dev/stdin"], bad, line, place)
     piped(tests, "a schema before a JSON text", ["binary", "/dev/stdin", "v.json", "out.bin"], bad, line, place)
     write("bad.fbs", bad)
     place = (b"bad.fbs:1:21: the default 300 of field 'a' doesn't fit the type ubyte: 0 to 255\n"
-             b"  table T { a:ubyte = 300; } root_type T;\n" + b" " * 22 + b"^\n")
+             b" | table T { a:ubyte = 300; } root_type T;\n | " + b" " * 20 + b"^\n")
     piped(
         tests, "a JSON text under a bad schema", ["binary", "bad.fbs", "/dev/stdin", "out.bin"], b'{"a":3}', line, place
     )

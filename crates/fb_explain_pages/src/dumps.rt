@@ -1,5 +1,5 @@
 //! Bytes of a buffer in hexadecimal, with a place marked.
-use crate::wrapping::Page;
+use crate::wrapping::{GUTTER, Page};
 use itoa::Buffer;
 
 // How many bytes a row has, and where there are few columns.
@@ -34,6 +34,7 @@ fn row_len(page: &Page) -> usize {
 /// Adds a row of bytes, and their characters where they are ASCII.
 fn push_row(page: &mut Page, bytes: &[u8], start: usize) {
     let most = row_len(page);
+    page.line.push_str(GUTTER);
     push_offset(page, start);
     page.line.push_str(" ");
     let row = bytes.get(start..).unwrap_or(&[]);
@@ -63,6 +64,7 @@ pub(crate) fn push_dump(page: &mut Page, bytes: &[u8], offset: usize) {
         push_row(page, bytes, row_before);
     }
     push_row(page, bytes, own);
+    page.line.push_str(GUTTER);
     page.line.push_spaces(
         OFFSET_DIGITS
             .saturating_add(2)

@@ -1,14 +1,11 @@
 //! A line of a text, with a caret under a place.
-use crate::wrapping::{Page, shown_width};
+use crate::wrapping::{GUTTER, Page, shown_width};
 use bstr::{ByteSlice, decode_last_utf8, decode_utf8};
 use fb_findings::line_start;
 
-// Before the line, and for the dots where a part of it is left out.
-const INDENT: usize = 2;
-
 const DOTS: &str = "...";
 
-// Of half the columns each, what dots and indent may take is left out of the rest's.
+// Of half the columns each, what dots and gutter may take is left out of the rest's.
 const SPARED: usize = 10;
 
 /// A part of a line, and how many columns it takes.
@@ -77,8 +74,8 @@ pub(crate) fn push_excerpt(page: &mut Page, text: &[u8], offset: usize) {
     let half = page.columns() / 2;
     let left = end_of(front, half);
     let right = beginning_of(rest, half.saturating_sub(SPARED));
-    let mut caret = INDENT.saturating_add(left.columns);
-    page.line.push_spaces(INDENT);
+    let mut caret = left.columns;
+    page.line.push_str(GUTTER);
     if left.bytes.len() < front.len() {
         page.line.push_str(DOTS);
         caret = caret.saturating_add(DOTS.len());
@@ -89,6 +86,7 @@ pub(crate) fn push_excerpt(page: &mut Page, text: &[u8], offset: usize) {
         page.line.push_str(DOTS);
     }
     page.end_line();
+    page.line.push_str(GUTTER);
     page.line.push_spaces(caret);
     page.push_line("^");
 }

@@ -7,6 +7,9 @@ use crate::lines::{COLUMNS, Lines, plain_width};
 use fb_findings::Note;
 use std::alloc::{AllocError, Global};
 
+/// What each line of an excerpt begins with, and no other line: a line that goes on begins with four spaces.
+pub(crate) const GUTTER: &str = " | ";
+
 // How many columns a tab takes.
 const TAB: usize = 4;
 

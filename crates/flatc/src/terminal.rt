@@ -102,16 +102,24 @@ fn place_len(line: &str) -> Option<usize> {
         .find(|at| line.get(..*at).is_some_and(ends_in_position))
 }
 
-/// Prints a line: a place bold, and the mark below a line red.
+/// The caret that marks a place in the line before, and what is before the caret.
+fn caret_in(line: &str) -> Option<(&str, &str)> {
+    match line.rsplit_once(' ') {
+        Some((front, caret)) if matches!(caret, "^" | "^^") && front.trim() == "|" => {
+            Some((front, caret))
+        }
+        _ => None,
+    }
+}
+
+/// Prints a line: a place bold, and the caret below a line red.
 fn print_coloured(rt: &HostRuntime, line: &str) {
-    let words = line.trim_start_matches(' ');
-    let indent = line.len().saturating_sub(words.len());
+    if let Some((front, caret)) = caret_in(line) {
+        let _printed = eprintln!(rt; "{front} \u{1b}[1;31m{caret}\u{1b}[0m");
+        return;
+    }
     let _printed = match place_len(line) {
-        _ if matches!(words, "^" | "^^") => eprintln!(rt;
-            "{:indent$}\u{1b}[1;31m{words}\u{1b}[0m",
-            ""
-        ),
-        Some(len) if indent == 0 => {
+        Some(len) if !line.starts_with(' ') => {
             let place = line.get(..len).unwrap_or("");
             let rest = line.get(len..).unwrap_or("");
             eprintln!(rt; "\u{1b}[1m{place}\u{1b}[0m{rest}")
