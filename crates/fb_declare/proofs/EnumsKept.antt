@@ -3,10 +3,10 @@
 use Rattle.std.proofs.Common.{◌≡◌, ◌≢◌, ℕ, ◌*◌, ◌^◌, ◌<◌, ◌||◌, Bool, true, false, List, [], take, get_or, All}
 use Rattle.std.proofs.Common.{AllPairs, Option, None, Some, is_none, refl, ap, sym, ◌∙◌, arith, if◌then◌else◌, ⊎_elim}
 use Rattle.std.proofs.Common.{true≢false}
-use Rattle.std.specs.Prelude.{ℤ, pos, negsuc, int_le}
+use Rattle.std.specs.Prelude.{ℤ, pos, negsuc}
 use Rattle.std.specs.Ordering.{int_eq}
 use Rattle.std.specs.Str.{bytes_eq}
-use Rattle.std.proofs.lemmas.Bool.{and_parts, not-false, ltb-true, cases_order}
+use Rattle.std.proofs.lemmas.Bool.{not-false, ltb-true, cases_order}
 use Rattle.std.proofs.lemmas.Bool.Decides.{Decides-int_eq}
 use Rattle.std.proofs.lemmas.Cmp.{nat_list_eq_equiv, int_eq_equiv}
 use Rattle.std.proofs.lemmas.Int.{ints}
@@ -20,13 +20,12 @@ use Rattle.fb_schema.specs.declared.kinds.Base.TheVariants.{Bool as Boolean, U8,
 use Rattle.fb_schema.specs.declared.kinds.Kind.TheVariants.{Scalar}
 use Rattle.fb_schema.specs.Schema.{Name}
 use Rattle.fb_schema.specs.Alignments.{base_size}
-use Rattle.fb_schema.specs.WellDeclared.{IsBetween, InRange, is_unsigned, IsFlag, IsEnumBody}
+use Rattle.fb_schema.specs.WellDeclared.{InRange, is_unsigned, IsFlag, IsEnumBody}
 use Rattle.fb_declare.specs.declared.faults.SchemaFault.TheVariants.{DuplicateName, BadEnumValue, Unsupported}
 use Rattle.fb_resolve.specs.declared.meanings.Meaning.{Meaning}
 use Rattle.fb_resolve.specs.declared.meanings.Meaning.TheVariants.{Known, Unknown}
 use Rattle.fb_syntax.specs.declared.attributes.BuiltInAttribute.TheVariants.{BitFlags}
 use Rattle.fb_declare.specs.declared.attribute_faults.AttributeHost.TheVariants as hosts
-use Rattle.fb_schema.specs.Ranges.{is_between, holds}
 use Rattle.fb_resolve.specs.ResolvedFields.{ResolvedValue, ResolvedEnum}
 use Rattle.fb_declare.specs.AttributeFaults.{may_stand, metadata_faults}
 use Rattle.fb_resolve.specs.EnumValues.{name_of_value, integer_type, has_flags, value_number, may_be_written}
@@ -36,6 +35,7 @@ use Rattle.fb_declare.specs.EnumFaults.{underlying_faults, is_out_of_range, valu
 use Rattle.fb_resolve.specs.RepeatedNames.{is_again}
 use Rattle.fb_declare.proofs.FaultFree.{either-none, keys_distinct, keys_apart, pairs_map, both_none, three_none}
 use Rattle.fb_declare.proofs.FaultFree.{none_behind, when-none, noted_stands}
+use Rattle.fb_schema.proofs.NumbersInRange.{held_in_range}
 
 -- no enum is one of `bool`
 not_boolean : (m : Meaning) → base_or_ubyte (integer_type m) ≢ Boolean
@@ -53,18 +53,6 @@ flags_unsigned : (b : Bool) (value : Option AttributeValue)
     → may_stand (if b then hosts.Enum else hosts.SignedEnum) BitFlags value ≡ true → b ≡ true
 flags_unsigned true value h = refl
 flags_unsigned false value h = absurd (true≢false (sym h))
-
--- a test of two bounds passes between them
-is_within : (low high n : ℤ) → is_between low high n ≡ true → IsBetween low high n
-is_within low high n h = let both : (int_le low n ≡ true)
-    × (int_le n high ≡ true) = and_parts (int_le low n) (int_le n high) h in
-    (grind (arith, ints, both.0), grind (arith, ints, both.1))
-
--- the numbers that a basic type holds are in its range
-pub held_in_range : (base : Base) (n : ℤ) → holds base n ≡ true → InRange base n
-unfolding holds
-held_in_range Boolean n h = is_within _ _ n h
-held_in_range _ n h = is_within _ _ n h
 
 -- a bit of an unsigned type is in its range
 bit_in_range : (base : Base) (k : ℕ) → is_unsigned base ≡ true → k < 8 * base_size base → InRange base (pos (2 ^ k))

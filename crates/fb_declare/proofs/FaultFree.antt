@@ -1,11 +1,11 @@
 -- What an empty list of faults says of its parts: of attributes, that each known one may stand where it does, and of
 -- names, that they differ.
 use Rattle.std.proofs.Common.{◌≡◌, ◌++◌, ◌||◌, ℕ, zero, suc, Bool, true, false, List, [], ◌∷◌, take, get_or, refl, ap}
-use Rattle.std.proofs.Common.{sym, subst, ◌∙◌, append_assoc, Option, None, Some, if◌then◌else◌, not, ◌≢◌, ◌<◌, length}
+use Rattle.std.proofs.Common.{sym, subst, ◌∙◌, append_assoc, Option, Some, if◌then◌else◌, not, ◌≢◌, ◌<◌, length}
 use Rattle.std.proofs.Common.{map, AllPairs, arith}
 use Rattle.std.specs.List.{flat_map, slice_get, All, position_or_len, IsDistinct}
 use Rattle.std.specs.Str.{bytes_eq}
-use Rattle.std.proofs.lemmas.Bool.{or_parts, not-false, false≢true}
+use Rattle.std.proofs.lemmas.Bool.{or_parts, not-false}
 use Rattle.std.proofs.lemmas.List.{append-nil, flat_map_more, map_push, get_or-map, length-map}
 use Rattle.std.proofs.lemmas.Option.{none-some, same_Some, get_or_from_slice_get, slice_get_within, slice_get-get_or}
 use Rattle.fb_schema.specs.Schema.{Name}
@@ -24,7 +24,6 @@ use Rattle.fb_resolve.specs.RepeatedNames.{is_again}
 use Rattle.fb_declare.specs.TypeFaults.{names_of_field, attribute_host, given_in, field_faults, field_behind}
 use Rattle.fb_declare.specs.TypeFaults.{declaration_faults, aligns_from, type_behind}
 use Rattle.std.proofs.lemmas.List.Folds.{find_at}
-use Rattle.std.specs.Option.{is_some}
 use Rattle.std.proofs.lemmas.List.Sums.{passes_at_first}
 use Rattle.fb_syntax.specs.Attributes.{AttributeRead, built_in_attribute, is_same}
 use Rattle.fb_syntax.specs.declared.attributes.BuiltInAttribute.{BuiltInAttribute}
@@ -35,6 +34,7 @@ use Rattle.std.specs.Cmp.{IsEquivalence}
 use Rattle.std.proofs.lemmas.Cmp.{nat_list_eq_equiv}
 use Rattle.std.proofs.lemmas.Map.Keys.{IsDistinct-push}
 use Rattle.std.proofs.lemmas.Map.Made.{AllPairs-from_IsDistinct}
+use Rattle.fb_schema.proofs.SomeOrNone.{some_of}
 
 -- of joined lists that are empty, each is
 pub both_none : {X : Type 0} (xs ys : List X) → xs ++ ys ≡ [] → (xs ≡ []) × (ys ≡ [])
@@ -109,10 +109,6 @@ either P false x y p q = q
 known_same : (k : BuiltInAttribute) (o : Option BuiltInAttribute) → is_same k o ≡ true → o ≡ Some k
 known_same k o h = grind (arith, h)
 
-some_found : {X : Type 0} (o : Option X) → is_some o ≡ true → (x : X) × (o ≡ Some x)
-some_found (Some x) h = (x, refl)
-some_found None h = absurd (false≢true h)
-
 module _ (declared : Name → Bool) (host : AttributeHost) (attributes : List AttributeRead)
     (none : metadata_faults declared host attributes ≡ []) (k : BuiltInAttribute) where
   -- an attribute that is a built-in one may stand as such
@@ -141,7 +137,7 @@ module _ (declared : Name → Bool) (host : AttributeHost) (attributes : List At
 
   -- if there is one, some such attribute may stand
   pub noted_stands : has_attribute k attributes ≡ true → (a : AttributeRead) × (may_stand host k a.value ≡ true)
-  noted_stands has = let found = some_found (attribute_called k attributes) has in
+  noted_stands has = let found = some_of (attribute_called k attributes) has in
       (found.0, called_stands found.0 found.1)
 
 -- what each element with no fault keeps holds in the end

@@ -17,7 +17,6 @@ use Rattle.fb_schema.specs.Schema.{Name, DeclaredField, DeclaredSchema, body_at,
 use Rattle.fb_schema.specs.WellDeclared.{InRange, Names, IsShape, MayBeElement, MarksFit, IsTableBody, names_of}
 use Rattle.fb_schema.specs.WellDeclared.{IsUnionPair}
 use Rattle.fb_schema.specs.declared.kinds.Base.{Base}
-use Rattle.fb_schema.specs.declared.kinds.Base.TheVariants.{Bool as Boolean}
 use Rattle.fb_schema.specs.declared.kinds.TypeId.{TypeId}
 use Rattle.fb_schema.specs.declared.kinds.Kind.TheVariants.{Scalar, Enum, Union, Code}
 use Rattle.fb_resolve.specs.Outline.{TypeRead}
@@ -30,7 +29,6 @@ use Rattle.fb_resolve.specs.Ids.{slots_read, AreInPlace, are_ids_wrong, slot_by_
 use Rattle.fb_resolve.specs.declared.meanings.Meaning.TheVariants.{Known}
 use Rattle.fb_resolve.specs.declared.defaults.Given.{Given}
 use Rattle.fb_resolve.specs.declared.defaults.Given.TheVariants.{Number, Null, Wrong}
-use Rattle.fb_declare.proofs.EnumsKept.{held_in_range}
 use Rattle.fb_declare.proofs.FaultFree.{either, three_none, IsFieldRight, fields_right, noted_stands, fields_distinct}
 use Rattle.fb_declare.specs.declared.field_faults.FieldHost.TheVariants as fields
 use Rattle.fb_syntax.specs.Attributes.{AttributeRead}
@@ -54,6 +52,8 @@ use Rattle.std.proofs.lemmas.Map.Keys.{IsDistinct-IsPermutation}
 use Rattle.std.proofs.lemmas.Map.Made.{AllPairs-from_IsDistinct}
 use Rattle.std.proofs.lemmas.Slice.Eq.{bytes_eq-Decides}
 use Rattle.fb_schema.specs.declared.kinds.Shape.TheVariants.{One}
+use Rattle.fb_schema.specs.declared.kinds.Base.TheVariants.{Bool as Boolean}
+use Rattle.fb_schema.proofs.NumbersInRange.{held_in_range}
 
 -- 0 is in the range of each basic type
 InRange-zero : (base : Base) → InRange base (pos 0)

@@ -83,7 +83,7 @@ other_test j k ne = by_test (nat_lt j k) refl (nat_lt j (k + 1)) refl
 pub other_slot : (L : LaidSchema) (a j k : ℕ) (f : Slot) → (j ≡ k → ⊥) → before L a k j f ≡ before L a (k + 1) j f
 other_slot L a j k f ne = rw (other_test j k ne) refl
 
-not_itself : (k : ℕ) → nat_lt k k ≡ false
+pub not_itself : (k : ℕ) → nat_lt k k ≡ false
 not_itself k = grind (arith, nat_tests)
 
 below_next : (k : ℕ) → nat_lt k (k + 1) ≡ true

@@ -13,6 +13,7 @@ use Rattle.fb_build.proofs.fields.SlotStoresItsEntry.{same_some}
 use Rattle.fb_build.proofs.fields.FieldEndsBehindThoseBefore.{own_end}
 use Rattle.fb_build.proofs.order.LaidFieldsTakeTheirSizes.{size_retested, size_before, size_part}
 use Rattle.fb_build.proofs.order.LaidFieldsTakeTheirSizes.{size_from}
+use Rattle.fb_build.proofs.fields.FieldsFillTheTable.{not_itself}
 
 pub record IsNamed (L : LaidSchema) (laid : ℕ → Slot → Bool) (fs : List Slot) (xs : List (Option Datum)) (k : ℕ)
     (f : Slot) (x : Option Datum) : Type 0 where
@@ -35,9 +36,6 @@ named L laid fs xs link k f x (inr next) e fk xk =
       stored = rw (f_is, x_is) at next.there.stored;
       behind = rw (← align) (rw (← at) next.behind);
     }
-
-not_itself : (k : ℕ) → nat_lt k k ≡ false
-not_itself k = grind (arith, nat_tests)
 
 -- itself it isn't laid yet
 pub waits : (L : LaidSchema) (k : ℕ) (f : Slot) → before L (inline_align L f.shape) k k f ≡ false

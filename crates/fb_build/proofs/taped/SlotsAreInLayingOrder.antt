@@ -12,7 +12,7 @@ use Rattle.fb_tape.specs.LayingOrder.{slots_at, laying_order}
 use Rattle.fb_build.specs.FieldOrder.{IsStoredAt, SameOfStored, LinksNext, before}
 use Rattle.fb_build.specs.Fields.{AreKnown, is_at, from, above}
 use Rattle.fb_build.proofs.fields.AlignmentDividesTheSize.{simple_aligned}
-use Rattle.fb_build.proofs.fields.FieldsFillTheTable.{other_slot}
+use Rattle.fb_build.proofs.fields.FieldsFillTheTable.{other_slot, not_itself}
 use Rattle.fb_build.proofs.fields.SlotStoresItsEntry.{same_some}
 use Rattle.fb_build.proofs.order.AlignmentsDouble.{next_power, under_all}
 use Rattle.fb_layout.proofs.sizes.AlignmentsArePowersOfTwo.{lower}
@@ -61,9 +61,6 @@ both_tests a n ne = by_test (nat_lt a n) refl (nat_le a n) refl
     by_test false p false q = refl
     by_test true p false q = absurd (grind (arith, nat_tests))
     by_test false p true q = absurd (grind (arith, nat_tests))
-
-not_itself : (k : ℕ) → nat_lt k k ≡ false
-not_itself k = grind (arith, nat_tests)
 
 not_first : (k : ℕ) → nat_lt k 0 ≡ false
 not_first k = grind (arith, nat_tests)

@@ -136,11 +136,6 @@ unfolding is_scalar
 never false n (one_of (scalar_kind base)) e = cc
 never _ n _ e = refl
 
-pub number_shape : (gone : Bool) (m n : ℤ) (s : StoredShape) → default_of gone m s ≡ Some n
-    → (base : Base) × (s ≡ one_of (scalar_kind base))
-number_shape false m n (one_of (scalar_kind base)) e = (base, refl)
-number_shape _ m n _ e = cc
-
 pub number_stored : (S : DeclaredSchema) (z : declared_shape.Shape) → is_scalar (stored_shape S z) ≡ is_number z
 unfolding is_scalar
 number_stored S (One (Scalar b)) = refl

@@ -39,11 +39,7 @@ use Rattle.fb_conform.proofs.laws.SlotsAndFieldsAgree.{parts_agree}
 use Rattle.fb_conform.proofs.laws.SlotsMeanTheCarriedEntries.{is_code, Told, told_union, absent_slot, SlotAgrees}
 use Rattle.fb_conform.proofs.laws.SlotsMeanTheCarriedEntries.{is_code_moved, code_in_use, used_code, handed}
 use Rattle.fb_conform.proofs.laws.TextsKeepTheirNumbers.{code_path}
-
-found_in : (o : Option Data) (t : Data) → unless_null o ≡ Some t → o ≡ Some t
-found_in None t h = cc
-found_in (Some null) t h = cc
-found_in _ t h = h
+use Rattle.fb_json.proofs.slots.LookUpFindsMembers.{found_in}
 
 -- ---- codes
 

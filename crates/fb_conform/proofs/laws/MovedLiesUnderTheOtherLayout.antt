@@ -24,6 +24,7 @@ use Rattle.fb_conform.proofs.laws.MovedIsNoLarger.{count_moved}
 use Rattle.fb_conform.proofs.laws.MovementsBetweenLayouts.{SlotPasses, SlotsPass, Passes}
 use Rattle.fb_conform.proofs.laws.SlotsNameTheSamePlaces.{empty_union, union_is}
 use Rattle.fb_conform.proofs.laws.WholeValuesHaveNoUnknownCode.{IsWhole, AreWhole, SlotsWhole}
+use Rattle.fb_value.proofs.rules.UnusedSlotHasNoPlace.{no_place}
 
 -- a slot in which nothing stands
 nothing_there : (W : LaidSchema) (b : Bytes) (p k : ℕ) (hs : List Slot) (s : StoredShape) → slot_number b p k ≡ 0
@@ -33,10 +34,6 @@ nothing_there W b p k hs (one_of (union_kind u)) e =
     ∙ rw e (empty_union (code_at b p (k - 1) == 0) (code_at b p (k - 1)) (p + 0)
     (member_by_code W u (code_at b p (k - 1))))
 nothing_there W b p k hs _ e = rw e refl
-
-no_place : (gone : Bool) (x : Option Place) → x ≡ None → cond gone None x ≡ None
-no_place true x e = refl
-no_place false x e = e
 
 default_slot : (W : LaidSchema) (b : Bytes) (h : Slot) (hs : List Slot) (o : Option ℤ) (x : Option Place)
     (ys : List (Option Place)) (ss : SlotEntries) → h.if_absent ≡ o → x ≡ None → LiesSlots W b hs ys ss

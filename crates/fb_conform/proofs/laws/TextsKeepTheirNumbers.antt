@@ -25,6 +25,7 @@ use Rattle.fb_conform.proofs.laws.LayoutsAgree.{types_in}
 use Rattle.fb_conform.proofs.members.ValueIsFoundByItsName.{value_found}
 use Rattle.fb_conform.proofs.names.NamesHaveOneSlot.{one_code}
 use Rattle.fb_conform.proofs.twins.TypesAreFoundByTheirNames.{new_name}
+use Rattle.fb_schema.proofs.SomeOrNone.{some_of}
 
 -- ---- paths
 
@@ -89,10 +90,6 @@ values_kept (table_body fs) (table_body gs) same keeps = λ k d within. absurd (
 values_kept (struct_body fs m) (struct_body gs n) same keeps = λ k d within. absurd (omega (arith, within))
 values_kept (union_body ms) (union_body ns) same keeps = λ k d within. absurd (omega (arith, within))
 values_kept _ _ same keeps = absurd same
-
-some_of : {X : Type 0} (o : Option X) → is_some o ≡ true → (x : X) × (o ≡ Some x)
-some_of None e = absurd cc
-some_of (Some x) e = (x, refl)
 
 module _ (A B : LaidSchema) (old : IsWellMade A) (new : IsWellMade B) (conforms : Conforms A B) where
   abbrev to : ℕ → ℕ

@@ -7,6 +7,7 @@ use Rattle.std.proofs.lemmas.Option.{slice_get-get_or, slice_get_within}
 use Rattle.fb_schema.specs.Schema.{Name, DeclaredBody, union_body, DeclaredSchema}
 use Rattle.fb_schema.specs.Found.{member_coded}
 use Rattle.fb_conform.specs.Conforms.{CodeKept}
+use Rattle.fb_conform.proofs.laws.SlotsNameTheSamePlaces.{same_number}
 
 -- the values below a number are there
 abbrev pub ValuesThere : List (Name × ℤ) → List (Name × ℤ) → ℕ → Type 0
@@ -46,9 +47,6 @@ member_at : (members : List (Name × ℕ)) (i : ℕ) (m : Name × ℕ) → slice
 member_at members i m at =
     let next : suc i ≡ i + 1 = omega arith in
     rw (← next) (ap (option_map (λ x. x.1)) at)
-
-same_number : (m n : ℕ) → Some m ≡ Some n → m ≡ n
-same_number m n e = cc
 
 pub kept_more : (S T : DeclaredSchema) (members : List (Name × ℕ)) (body : DeclaredBody) (i : ℕ) (m : Name × ℕ)
     → slice_get members i ≡ Some m → CodeKept S T body (i + 1) m.1 → CodesKept S T members body i

@@ -11,6 +11,7 @@ use Rattle.fb_value.specs.Nth.{nth_entry, nth_part}
 use Rattle.fb_value.specs.Num.{Bytes}
 use Rattle.fb_value.specs.Places.{Place}
 use Rattle.fb_value.specs.View.{view, parts_in, entries_in, parts_view, entries_view}
+use Rattle.fb_value.proofs.types.PartsByTheirIndex.{part_there}
 
 -- the first k entries
 abbrev pub first_entries : ℕ → SlotEntries → List (Option Datum)
@@ -69,11 +70,6 @@ part_more : (ds : Parts) (i : ℕ) (d : Datum) → nth_part ds i ≡ Some d
 part_more no_parts i d here = cc
 part_more (more_parts x ds) zero d here = let is : x ≡ d = cc in rw is refl
 part_more (more_parts x ds) (suc i) d here = ap (λ os. x ∷ os) (part_more ds i d here)
-
-part_there : (ds : Parts) (i : ℕ) → i < count ds → (d : Datum) × (nth_part ds i ≡ Some d)
-part_there no_parts i less = absurd (omega arith)
-part_there (more_parts d ds) zero less = (d, refl)
-part_there (more_parts d ds) (suc i) less = part_there ds i (omega (arith, less))
 
 -- of the value that was found there
 pub value_more : (vs : List Value) (ds : Parts) (i : ℕ) (found : Option Value) (v : Value)

@@ -11,7 +11,7 @@ use Rattle.fb_pieces.specs.Blanks.{AreBlanks, BlanksChangeNothing}
 use Rattle.fb_pieces.proofs.laws.LexemesSplitOutsideStrings.{lex-cut, may_cut}
 use Rattle.fb_pieces.proofs.laws.WordEndsAtADelimiter.{of_space}
 
-blanks-before : (blanks text : List ℕ) → AreBlanks blanks → lex between (blanks ++ text) ≡ lex between text
+pub blanks-before : (blanks text : List ℕ) → AreBlanks blanks → lex between (blanks ++ text) ≡ lex between text
 unfolding lex
 blanks-before [] text h = refl
 blanks-before (x ∷ blanks) text h =

@@ -27,6 +27,7 @@ use Rattle.fb_read.proofs.view.ViewsAreWithinTheBuffer.{ref_within, there_too, t
 use Rattle.fb_read.specs.Kinds.{base_wanted, structure_wanted, table_wanted, is_text}
 use Rattle.fb_read.specs.Stored.{text_behind, IsTextBehind}
 use Rattle.fb_read.specs.Views.{number_in, text_in, table_in, struct_in}
+use Rattle.fb_layout.proofs.sizes.FieldsStandInOrder.{order_rises}
 
 -- ---- numbers and structs in their place
 
@@ -93,13 +94,6 @@ pub kinds_long : (L : LaidSchema) (xs : List FieldInfo)
     → length (map (λ f. kind_in (stored_shape L.schema f.shape)) (map field_seen xs)) ≡ length xs
 kinds_long L [] = refl
 kinds_long L (x ∷ xs) = rw (kinds_long L xs) refl
-
-order_rises : (L : LaidSchema) (p : ℕ) (ks : List StoredKind) (os : List ℕ) (end : ℕ) → StandInOrder L p ks os end
-    → p ≤ end
-order_rises L p [] [] end stand = omega (arith, stand)
-order_rises L p (x ∷ ks) (o ∷ os) end stand = let low = stand.0.above in let rest =
-    order_rises L (o + size_of L x) ks os end stand.1 in omega (arith, low, rest)
-order_rises L p _ _ end stand = absurd stand
 
 -- a field's offset, and that the field ends before the struct does
 offset_there : (L : LaidSchema) (p : ℕ) (ks : List StoredKind) (os : List ℕ) (end k : ℕ) (kind : StoredKind)

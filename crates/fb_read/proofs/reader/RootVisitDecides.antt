@@ -1,7 +1,6 @@
 -- A visit from the root decides whether the buffer holds a value.
-use Rattle.std.proofs.Common.{◌≡◌, ℕ, ◌+◌, ◌<◌, ◌⊎◌, inl, inr, List, [], ◌∷◌, Option, None, Some, Result, Ok, Err}
-use Rattle.std.proofs.Common.{OnOk, IfErr, map, true, refl, sym, arith}
-use Rattle.std.proofs.lemmas.Bool.{cases_order}
+use Rattle.std.proofs.Common.{◌≡◌, ℕ, ◌+◌, ◌<◌, ◌⊎◌, List, [], ◌∷◌, Option, None, Some, Result, Ok, Err}
+use Rattle.std.proofs.Common.{OnOk, IfErr, map, true, refl, arith}
 use Rattle.fb_layout.specs.Laid.{LaidSchema}
 use Rattle.fb_layout.specs.WellMade.{IsWellMade}
 use Rattle.fb_value.specs.declared.faults.ReadFault.{ReadFault}
@@ -13,7 +12,7 @@ use Rattle.fb_value.specs.Lies.{EntryAt, Lies}
 use Rattle.fb_value.specs.Places.{part_place, table_part, Place}
 use Rattle.fb_value.specs.Faults.{fault_from}
 use Rattle.fb_value.proofs.rules.ComputedFaultIsTheLeast.{from_none, from_some}
-use Rattle.fb_value.specs.Reached.{Path, ComesBefore}
+use Rattle.fb_value.specs.Reached.{Path}
 use Rattle.fb_value.specs.Holds.{HoldsBehind, NoFaultBehind, RefusesBehind, root_at}
 use Rattle.fb_value.proofs.held.BytesHoldAValueOrAFault.{outcome_shown}
 use Rattle.fb_read.specs.declared.buffer.Buffer.{Buffer}
@@ -25,6 +24,7 @@ use Rattle.fb_read.specs.Values.{Finds}
 use Rattle.fb_read.specs.Visits.{Visits, outcome, visit}
 use Rattle.fb_read.specs.Walks.{IsBufferOf, limits_of, visit_in, EntersAt}
 use Rattle.fb_read.proofs.laws.ReachedPartsAreThoseOfTheValue.{parts_of_value_shown}
+use Rattle.fb_value.proofs.reached.PathsAreInOrder.{same_path}
 
 pub err_told : (o : Option ReadFault) (n : ℕ) (f : ReadFault) → outcome o n ≡ Err f → o ≡ Some f
 err_told None n f e = cc
@@ -57,19 +57,6 @@ unfolding visit
 visit_fault_is L b most x tables spent f fails = err_told (fault_from L b most x tables spent) _ f fails
 
 -- ---- the least fault is one
-
--- paths of which neither comes before the other
-same_path : (p q : Path) → (ComesBefore p q → ⊥) → (ComesBefore q p → ⊥) → p ≡ q
-same_path [] [] n m = refl
-same_path [] (k ∷ ks) n m = absurd (n tt)
-same_path (j ∷ js) [] n m = absurd (m tt)
-same_path (j ∷ js) (k ∷ ks) n m =
-    by_case (cases_order j k) (λ same. same_path js ks (λ h. n (inr (same, h))) (λ h. m (inr (sym same, h))))
-  where
-    by_case : (j ≡ k) ⊎ ((j < k) ⊎ (k < j)) → (j ≡ k → js ≡ ks) → (j ∷ js) ≡ (k ∷ ks)
-    by_case (inr (inl less)) rest = absurd (n (inl less))
-    by_case (inr (inr more)) rest = absurd (m (inl more))
-    by_case (inl same) rest = rw (same, rest same) refl
 
 -- What a walk has entered up to the least fault, which is this one.
 pub enters_to_fault : (L : LaidSchema) (b : Bytes) (most : Bounds) (x : Place) (path : Path) (f g : ReadFault)

@@ -29,6 +29,7 @@ use Rattle.fb_read.proofs.stored.StoredIsTheEntry.{stored_as}
 use Rattle.fb_read.proofs.view.EachSortHasItsClass.{class_of}
 use Rattle.fb_read.proofs.view.EachSortHasItsClass.{stored_class, number_else, text_else}
 use Rattle.fb_read.proofs.view.EachSortHasItsClass.{table_else, member_else, unknown_else, struct_else, vector_else}
+use Rattle.fb_layout.proofs.slots.SlotsAreAsManyAsFields.{seen_long}
 
 -- ---- what is found, or not
 
@@ -156,15 +157,11 @@ nth_past L b (f ∷ fs) (x ∷ xs) (present_entry d es) zero lies past = absurd 
 nth_past L b (f ∷ fs) (x ∷ xs) (present_entry d es) (suc k) lies past = nth_past L b fs xs es k lies.1 (omega arith)
 nth_past L b _ _ _ k lies past = absurd lies
 
-seen_length : (L : LaidSchema) (xs : List FieldInfo) → length (slots_seen L xs) ≡ length xs
-seen_length L [] = refl
-seen_length L (x ∷ xs) = rw (seen_length L xs) refl
-
 -- past the slots there is no entry
 pub entry_past : (L : LaidSchema) (b : Bytes) (t p : ℕ) (xs : List FieldInfo) (d : Datum) (k : ℕ)
     → slots_of L t ≡ slots_seen L xs → length xs ≤ k → Lies L b (part_place (table_part t)) p d → entry_of d k ≡ None
 entry_past L b t p xs (a_table type es) k seen past lies =
-    nth_past L b (slots_of L t) (named_slots L b p 0 (slots_of L t)) es k lies.2 (rw (seen, seen_length L xs) past)
+    nth_past L b (slots_of L t) (named_slots L b p 0 (slots_of L t)) es k lies.2 (rw (seen, seen_long L xs) past)
 entry_past L b t p xs _ k seen past lies = absurd lies
 
 -- what lies in one slot

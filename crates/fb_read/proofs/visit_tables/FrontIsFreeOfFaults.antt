@@ -18,6 +18,7 @@ use Rattle.fb_read.specs.Visits.{outcome, visit_each, visit_entry, slot_seen, sl
 use Rattle.fb_read.proofs.places.FieldsAreTheirSlots.{slot_there, seen_drop, drop_past, named_drop}
 use Rattle.fb_read.proofs.places.AbsentSlotNamesNoPlace.{unset_place}
 use Rattle.fb_read.proofs.visit_tables.VisitsOnePlaceAfterAnother.{each_nil, each_step, each_stop}
+use Rattle.fb_layout.proofs.slots.SlotsAreAsManyAsFields.{seen_long}
 
 -- the entry at a number is the same in a front that has it
 front_entry : (xs : List (Option Place)) (j k : ℕ) → j < k → slice_get (take k xs) j ≡ slice_get xs j
@@ -173,10 +174,6 @@ slots_long : (L : LaidSchema) (b : Bytes) (p k : ℕ) (fs : List Slot) → lengt
 unfolding named_slots
 slots_long L b p k [] = refl
 slots_long L b p k (f ∷ fs) = ap suc (slots_long L b p (suc k) fs)
-
-seen_long : (L : LaidSchema) (xs : List FieldInfo) → length (slots_seen L xs) ≡ length xs
-seen_long L [] = refl
-seen_long L (x ∷ xs) = ap suc (seen_long L xs)
 
 pub slots_whole : (L : LaidSchema) (b : Bytes) (p : ℕ) (xs : List FieldInfo)
     → length (named_slots L b p 0 (slots_seen L xs)) ≡ length xs

@@ -1,5 +1,5 @@
 -- What a hearer hears and a walk enters at a place, by what they do at those that the place names.
-use Rattle.std.proofs.Common.{◌≡◌, ℕ, ◌+◌, ◌<◌, ◌≤◌, List, [], ◌∷◌, map, None, Some, Ok, Err}
+use Rattle.std.proofs.Common.{◌≡◌, ℕ, ◌+◌, ◌<◌, ◌≤◌, List, [], ◌∷◌, map, Some, Ok, Err}
 use Rattle.std.proofs.Common.{refl, sym, ap, ◌∙◌, arith, add-zero}
 use Rattle.fb_schema.specs.declared.kinds.TypeId.{TypeId}
 use Rattle.fb_layout.specs.Laid.{StoredKind, slots_of}
@@ -21,10 +21,7 @@ use Rattle.fb_read.specs.FaultPaths.{number_of}
 use Rattle.fb_read.proofs.visit_tables.PartsAddUp.{member_along}
 use Rattle.fb_read.proofs.visit_tables.StepLeadsToTheLeast.{one_more, IsFaulty, own_end, names_nothing}
 use Rattle.fb_read.proofs.visit_tables.StepLeadsToTheLeast.{rule_fails, limit_fails, none_itself, member_leads}
-
-no_limits : first_failing [] ≡ None
-unfolding first_failing
-no_limits = refl
+use Rattle.fb_value.proofs.rules.RulesHoldOneByOne.{no_rules}
 
 module _ {H : Type 0} (told : H → List Step → H → Type 0) (silent : (h : H) → told h [] h) (buffer : Buffer) where
   -- ---- a place's own fault
@@ -73,7 +70,7 @@ module _ {H : Type 0} (told : H → List Step → H → Type 0) (silent : (h : H
         heard = tells v heard.steps heard.heard;
         leads = one_more buffer (place (ref_place X) p) tables spent Reference (Some (place (part_place X) q)) tables
             spent heard.steps heard.fault (record {
-              fine = none_itself buffer (place (ref_place X) p) tables spent keeps no_limits;
+              fine = none_itself buffer (place (ref_place X) p) tables spent keeps no_rules;
               of_sort = tt;
               names = rw is refl;
               above = sym (add-zero tables);

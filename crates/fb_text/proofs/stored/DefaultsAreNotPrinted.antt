@@ -1,5 +1,5 @@
 -- Numbers at their defaults aren't printed.
-use Rattle.std.proofs.Common.{◌≡◌, ◌||◌, ◌∷◌, [], ℕ, zero, suc, List, map, slice_get, Bool, true, false}
+use Rattle.std.proofs.Common.{◌≡◌, ◌||◌, ◌∷◌, [], ℕ, slice_get, Bool, true, false}
 use Rattle.std.proofs.Common.{Option, Some, refl}
 use Rattle.std.proofs.lemmas.Bool.Decides.{Decides-int_eq}
 use Rattle.fb_schema.specs.Schema.{DeclaredField, DeclaredSchema, body_at, slots_in}
@@ -8,12 +8,7 @@ use Rattle.fb_layout.specs.Laid.{stored_shape}
 use Rattle.fb_value.specs.Datum.{Datum}
 use Rattle.fb_read.specs.Stored.{number_entry}
 use Rattle.fb_text.specs.Printed.{is_entry_printed}
-
-pub mapped_there : (S : DeclaredSchema) (fs : List DeclaredField) (k : ℕ) (f : DeclaredField) → slice_get fs k ≡ Some f
-    → slice_get (map (slot_of S) fs) k ≡ Some (slot_of S f)
-mapped_there S [] k f e = cc
-mapped_there S (g ∷ fs) zero f e = let is : g ≡ f = cc in rw is refl
-mapped_there S (g ∷ fs) (suc k) f e = mapped_there S fs k f e
+use Rattle.fb_layout.proofs.slots.SlotsFollowTheirFields.{slot_there}
 
 default_unprinted : (f : DeclaredField) (hidden : Bool) (shape : StoredShape) → (hidden ≡ false → f.optional ≡ false)
     → is_entry_printed false f (number_entry (default_of hidden f.default shape)) ≡ false
@@ -39,4 +34,4 @@ pub unprinted_behind : (L K : LaidSchema) (t u k : ℕ) (f : DeclaredField) (o :
 unprinted_behind L K t u k f o layout same there known =
     unset_unprinted L.schema f o
     (known (slot_of L.schema f)
-    (rw (layout, ← same) (mapped_there L.schema (slots_in (body_at L.schema t)) k f there)))
+    (rw (layout, ← same) (slot_there L.schema (slots_in (body_at L.schema t)) k f there)))

@@ -5,9 +5,7 @@ use Rattle.fb_schema.specs.declared.types.FieldInfo.{FieldInfo}
 use Rattle.fb_schema.specs.Schema.{DeclaredField}
 use Rattle.fb_schema.specs.Seen.{field_seen}
 use Rattle.fb_layout.specs.Laid.{LaidSchema}
-use Rattle.fb_value.specs.Datum.{Datum, a_number, a_text, a_vector, a_struct, a_table, a_member, an_unknown, Parts}
-use Rattle.fb_value.specs.Datum.{no_parts, more_parts, count}
-use Rattle.fb_value.specs.Nth.{nth_part}
+use Rattle.fb_value.specs.Datum.{Datum, a_number, a_text, a_vector, a_struct, a_table, a_member, an_unknown}
 use Rattle.fb_text.specs.Texts.{has_code, code_text}
 use Rattle.fb_text.specs.declared.faults.WriteFault.{WriteFault}
 use Rattle.fb_text.specs.declared.faults.WriteFault.TheVariants.{NoMemberName}
@@ -28,11 +26,6 @@ seen_there (y ∷ xs) (suc k) x less is = seen_there xs k x (omega arith) is
 pub seen_long : (xs : List FieldInfo) → length (map field_seen xs) ≡ length xs
 seen_long [] = refl
 seen_long (x ∷ xs) = rw (seen_long xs) refl
-
-pub part_there : (ds : Parts) (i : ℕ) → i < count ds → (d : Datum) × (nth_part ds i ≡ Some d)
-part_there no_parts i less = absurd (omega arith)
-part_there (more_parts d ds) zero less = (d, refl)
-part_there (more_parts d ds) (suc i) less = part_there ds i (omega arith)
 
 -- A printed slot is its code, if it has one, and its name and value.
 pub entry_added : (L : LaidSchema) (defaults : Bool) (inner : Option (List ℕ)) (some : Bool) (f : DeclaredField)

@@ -15,8 +15,9 @@ use Rattle.fb_text.proofs.values.NestedStructIsAField.{fields_next}
 use Rattle.fb_text.proofs.values.NestedStructIsAField.{struct_first}
 use Rattle.fb_text.proofs.values.OneMemberMore.{members_skip, members_step, members_behind, items_step, items_end}
 use Rattle.fb_text.proofs.values.OneMemberMore.{table_text}
-use Rattle.fb_text.proofs.values.MemberIsItsCodeAndValue.{seen_there, seen_long, part_there, entry_added}
+use Rattle.fb_text.proofs.values.MemberIsItsCodeAndValue.{seen_there, seen_long, entry_added}
 use Rattle.fb_text.proofs.values.MemberIsItsCodeAndValue.{found_there, is_some_now}
+use Rattle.fb_value.proofs.types.PartsByTheirIndex.{part_there}
 use Rattle.fb_text.proofs.values.+print.Goals as goal
 
 -- ---- orders

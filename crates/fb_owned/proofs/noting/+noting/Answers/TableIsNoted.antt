@@ -20,7 +20,8 @@ use Rattle.fb_build.specs.Parts.{TableKnown}
 use Rattle.fb_build.proofs.fields.EntriesAreKnown.{known_in}
 use Rattle.fb_owned.proofs.noting.SlotsAreNoted.{none_noted, next_noted, all_noted}
 use Rattle.fb_build.proofs.tables.CodeSlotHasNoEntry.{stored_get}
-use Rattle.fb_owned.proofs.noting.PartsFitTheirSlots.{entries_at, entries_long, slots_are, slots_at, slots_long}
+use Rattle.fb_owned.proofs.noting.PartsFitTheirSlots.{entries_at, entries_long, slots_are, slots_at}
+use Rattle.fb_layout.proofs.slots.SlotsAreAsManyAsFields.{seen_long}
 use Rattle.fb_owned.proofs.noting.+noting.Goals as goal
 
 -- what a slot stores
@@ -39,7 +40,7 @@ at_slot : (L : LaidSchema) (slots : List FieldInfo) (es : List (Option Value)) (
     → (slice_get (slots_seen L slots) k ≡ Some (slot_of L.schema (field_seen r)))
     × (slice_get (entries_seen es) k ≡ Some (option_map view v))
 at_slot L slots es k r v known low is1 is2 =
-    let within : k < length es = omega (arith, low, slots_long L slots, entries_long es, known.long) in
+    let within : k < length es = omega (arith, low, seen_long L slots, entries_long es, known.long) in
     (slots_at L slots k r low is1, entries_at es k v within is2)
 
 pub next_entry_fits : goal.note_entries-note_entry-requires
@@ -51,7 +52,7 @@ next_entry_fits t c =
     let low : k < length c.args.entries.now = omega (
       arith,
       c.loop-k-test.true,
-      slots_long L c.args.slots.now,
+      seen_long L c.args.slots.now,
       entries_long c.args.entries.now,
       known.long,
     ) in
@@ -96,7 +97,7 @@ all_slots_noted t c =
     let low : length (entries_seen c.args.entries.now) ≤ c.loop-k.k = omega (
       arith,
       c.loop-k-test.false,
-      slots_long L c.args.slots.now,
+      seen_long L c.args.slots.now,
       c.requires.known.long,
     ) in
     (all_noted L (slots_seen L c.args.slots.now) (entries_seen c.args.entries.now) c.loop-k.k _ _ _ _ low
@@ -157,7 +158,7 @@ pub entry_there : goal.note_entries-bounds-entries-k
 entry_there t c = omega (
   arith,
   c.loop-k-test.true,
-  slots_long c.args.layout.now c.args.slots.now,
+  seen_long c.args.layout.now c.args.slots.now,
   entries_long c.args.entries.now,
   c.requires.known.long,
 )
@@ -168,7 +169,7 @@ all_parts_added t c =
     let low : length (entries_seen c.args.entries.now) ≤ c.loop-k.k = omega (
       arith,
       c.loop-k-test.false,
-      slots_long L c.args.slots.now,
+      seen_long L c.args.slots.now,
       c.requires.known.long,
     ) in
     (all_noted L (slots_seen L c.args.slots.now) (entries_seen c.args.entries.now) c.loop-k.k _ _ _ _ low

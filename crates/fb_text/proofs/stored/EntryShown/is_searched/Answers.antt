@@ -8,9 +8,9 @@ use Rattle.fb_value.proofs.held.EachPartLiesInItsPlace.{entry_lies_shown}
 use Rattle.fb_text.specs.Printed.{first_in_entry}
 use Rattle.fb_text.specs.Unnamed.{may_have_unions, nth_child}
 use Rattle.fb_text.proofs.values.MemberIsItsCodeAndValue.{seen_there}
-use Rattle.fb_text.proofs.stored.DefaultsAreNotPrinted.{mapped_there}
 use Rattle.fb_text.proofs.stored.PlainSlotsHaveNoUnions.{plain_slot}
 use Rattle.fb_text.proofs.unnamed.OneEntryMore.{table_case}
+use Rattle.fb_layout.proofs.slots.SlotsFollowTheirFields.{slot_there}
 use Rattle.fb_text.proofs.stored.EntryShown.is_searched.Goals as goal
 
 pub returns : goal.returns
@@ -24,7 +24,7 @@ returns c L o at shown plain =
     let less : i < length fields = omega (arith, c.if-i-slots.false) in
     let seen = rw (c.layout.ensures, c.type_id.ensures) at c.slots_of-slots.ensures.slots in
     let field = rw seen at (seen_there fields i x less c.index-slots-i.is) in
-    let slot = mapped_there K.schema (slots_in (body_at K.schema view.table.0)) i (field_seen x) field in
+    let slot = slot_there K.schema (slots_in (body_at K.schema view.table.0)) i (field_seen x) field in
     let own = ap (λ (y : FieldInfo). may_have_unions y.shape) c.index-slots-i.is in
     rw shows.2 (table_case view (λ d. first_in_entry at (nth_child (Some d) i) ≡ None) shows.1 shows.3 (λ t es here.
     sym (plain_slot K view.bytes.now at (slot_of K.schema (field_seen x)) view.at i
