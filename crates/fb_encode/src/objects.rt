@@ -29,7 +29,7 @@ use crate::slot_texts::{SlotTexts, members_of, pass_by_text, texts_by_slot};
 use crate::stand_ins::stand_in;
 use crate::steps::{after_step, trace_member};
 use crate::unnoted::Unnoted;
-use fb_json::{JsonFault, Room, Source, Step, code_of_slot, is_absent};
+use fb_json::{JsonContext, JsonFault, JsonStep, Room, code_of_slot, is_absent};
 use fb_layout::layout_is_well_made;
 use fb_pieces::{
     MOST_BRACKETS, cut_object_is_read, cut_object_is_utf8, text_is_read_without_brackets,
@@ -97,7 +97,7 @@ fn once_texts_read(
 /// Notes a table, and returns the cells that are left.
 #[cycle(reads)]
 pub(crate) fn note_members(
-    source: Source,
+    source: JsonContext,
     walk: &mut TextWalk<'_>,
     excerpt: Excerpt<'_>,
     owner: TypeId,
@@ -153,7 +153,7 @@ pub(crate) fn note_members(
 /// Notes the next slot of a table, whose member has this text, or which has none.
 #[cycle(reads)]
 fn note_next(
-    source: Source,
+    source: JsonContext,
     walk: &mut TextWalk<'_>,
     slot: SlotRead<'_>,
     text: Option<Excerpt<'_>>,
@@ -172,13 +172,17 @@ fn note_next(
         → IfFound result (IsSlotNotedOr L seen slot.entry levels after walk.old.noting walk.new.noting) }
 {
     let noted = note_slot_text(source, walk, slot, text, after, levels);
-    after_step(&mut walk.trail, Step::Slot(slot.owner, slot.number), noted)
+    after_step(
+        &mut walk.trail,
+        JsonStep::Slot(slot.owner, slot.number),
+        noted,
+    )
 }
 
 /// The same without the slot's step to a fault.
 #[cycle(reads)]
 fn note_slot_text(
-    source: Source,
+    source: JsonContext,
     walk: &mut TextWalk<'_>,
     slot: SlotRead<'_>,
     text: Option<Excerpt<'_>>,
@@ -238,7 +242,7 @@ fn is_enclosed(text: &[u8]) -> bool
 
 /// Notes a slot whose member is a tree, or which has none.
 fn note_tree(
-    source: Source,
+    source: JsonContext,
     walk: &mut TextWalk<'_>,
     slot: SlotRead<'_>,
     tree: Option<&Json>,
@@ -271,7 +275,7 @@ fn note_tree(
 /// Notes what the reference of a slot names, whose text is long, and returns the cells that are left.
 #[cycle(reads)]
 fn note_named(
-    source: Source,
+    source: JsonContext,
     walk: &mut TextWalk<'_>,
     number: u16,
     text: Excerpt<'_>,
@@ -297,7 +301,7 @@ fn note_named(
 /// Notes a slot whose member is long, and is read in pieces.
 #[cycle(reads)]
 fn note_reference(
-    source: Source,
+    source: JsonContext,
     walk: &mut TextWalk<'_>,
     slot: SlotRead<'_>,
     text: Excerpt<'_>,
@@ -328,7 +332,7 @@ fn note_reference(
 /// Notes a union whose member is long, and is read in pieces under the table that its code names.
 #[cycle(reads)]
 fn note_union(
-    source: Source,
+    source: JsonContext,
     walk: &mut TextWalk<'_>,
     slot: SlotRead<'_>,
     union: TypeId,

@@ -15,7 +15,7 @@ ghost use Rattle.fb_encode.specs.SlotTexts.{AreTextsOf, AreTextsRead, IsPieceOf,
 ghost use Rattle.fb_encode.specs.TextsRead.{IsRead, IsReadAs};
 
 use crate::reader::{Excerpt, Reader, Unread};
-use fb_json::{JsonFault, Place, Source};
+use fb_json::{JsonContext, JsonFault, Place};
 use fb_layout::layout_is_well_made;
 use fb_pieces::{Cuts, Member, Piece, cut_object};
 use fb_schema::{FieldInfo, TypeId};
@@ -58,7 +58,7 @@ fn no_texts<'t>(alloc: Global, slots: usize) -> Result<Vec<Option<Excerpt<'t>>>,
 /// The text of each slot's member. What no slot takes is read here: the value of a name that comes again, and one of
 /// a name that no slot in use has.
 pub(crate) fn texts_by_slot<'t>(
-    source: Source,
+    source: JsonContext,
     reader: &mut Reader,
     excerpt: Excerpt<'t>,
     owner: TypeId,
@@ -109,7 +109,7 @@ pub(crate) fn piece_of<'t>(excerpt: Excerpt<'t>, piece: Piece) -> Excerpt<'t>
 
 /// The field that a name finds, which is read.
 fn field_read<'s>(
-    source: Source<'s>,
+    source: JsonContext<'s>,
     reader: &mut Reader,
     owner: TypeId,
     name: Excerpt<'_>,

@@ -16,7 +16,7 @@ use crate::reader::{Excerpt, Reader, Unread};
 use crate::trees::{note_root, plan_noted};
 use crate::unnoted::Unnoted;
 use fb_build::{Noting, TapePlan};
-use fb_json::{JsonFault, Place, Source, Trail, first_fault_refuses, only_what_is_meant};
+use fb_json::{JsonContext, JsonFault, JsonTrail, Place, first_fault_refuses, only_what_is_meant};
 use fb_pieces::{MOST_BRACKETS, is_json_at};
 use fb_schema::{Kind, Shape};
 use fb_tape::Tape;
@@ -41,7 +41,7 @@ fn first_fault(fault: JsonFault) -> TextFault
 
 /// Notes the value that a text means, which is read in pieces, on a tape of nothing.
 pub(crate) fn note_pieces(
-    source: Source,
+    source: JsonContext,
     walk: &mut TextWalk<'_>,
     json: &[u8],
     limits: Limits,
@@ -79,10 +79,10 @@ pub(crate) fn note_pieces(
 
 /// A walk over a text that is read in pieces, which has noted nothing yet.
 pub(crate) fn walk_over<'l>(
-    source: Source<'l>,
+    source: JsonContext<'l>,
     json: &[u8],
     piece: usize,
-    trail: Trail,
+    trail: JsonTrail,
 ) -> Result<TextWalk<'l>, Unread>
     ensures layout { IfOk result (λ walk. walk.noting.tape.layout ≡ source.entry.layout.now) }
     ensures waits { IfOk result (λ walk. Waits walk.noting.tape []) }
@@ -98,7 +98,7 @@ pub(crate) fn walk_over<'l>(
 
 /// A tape on which the value is noted that a text means, which is read in pieces.
 fn note_in_pieces<'l>(
-    source: Source<'l>,
+    source: JsonContext<'l>,
     json: &[u8],
     limits: Limits,
     piece: usize,
@@ -107,13 +107,17 @@ fn note_in_pieces<'l>(
     ensures refused { IfErr result (λ e. IfFault e (λ f.
         IsUnread source.entry.layout.now limits source.entry.unknown json.now (first_fault f))) }
 {
-    let mut walk = walk_over(source, json, piece, Trail::none())?;
+    let mut walk = walk_over(source, json, piece, JsonTrail::none())?;
     note_pieces(source, &mut walk, json, limits)?;
     Ok(walk.into_tape())
 }
 
 /// The same of a text that is read at once.
-fn note_at_once<'l>(source: Source<'l>, json: &[u8], limits: Limits) -> Result<Tape<'l>, TextFault>
+fn note_at_once<'l>(
+    source: JsonContext<'l>,
+    json: &[u8],
+    limits: Limits,
+) -> Result<Tape<'l>, TextFault>
     ensures noted { IfOk result (IsTextNoted source.entry.layout.now limits source.entry.unknown json.now) }
     ensures refused { IfErr result (IsUnread source.entry.layout.now limits source.entry.unknown json.now) }
 {
@@ -154,7 +158,7 @@ pub(crate) fn check_json(alloc: Global, json: &[u8]) -> Result<(), TextFault>
 
 /// A tape on which the value is noted that a text means.
 fn note_text<'l>(
-    source: Source<'l>,
+    source: JsonContext<'l>,
     json: &[u8],
     limits: Limits,
     piece: usize,
@@ -176,7 +180,7 @@ fn note_text<'l>(
 
 /// The plan of the buffer of a text whose value is noted.
 fn plan_tape<'l>(
-    source: Source<'l>,
+    source: JsonContext<'l>,
     tape: Tape<'l>,
     prefixed: bool,
 ) -> Result<TapePlan<'l>, TextFault>
@@ -199,7 +203,7 @@ fn plan_tape<'l>(
 /// read. Which they are changes nothing of the result. The error is that of the text, then that of its first fault, and
 /// then that of the value's size. A `prefixed` buffer has a size prefix.
 pub fn encode_text(
-    source: Source,
+    source: JsonContext,
     json: &[u8],
     limits: Limits,
     piece: usize,
@@ -224,7 +228,7 @@ pub fn encode_text(
 /// The JSON text is freed once its value is noted, before memory for the buffer is taken. A text that is refused stays
 /// as it is: one that isn't JSON, or whose meaning breaks a rule.
 pub fn plan_text<'l>(
-    source: Source<'l>,
+    source: JsonContext<'l>,
     json: &mut Vec<u8>,
     limits: Limits,
     piece: usize,

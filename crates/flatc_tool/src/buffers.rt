@@ -10,7 +10,7 @@ use crate::options::EncodeOptions;
 use fb_build::TapePlan;
 use fb_encode::{EncodeFault, PIECE, TextFault, encode_text, plan_text};
 use fb_faults::ToolFault;
-use fb_json::Source;
+use fb_json::JsonContext;
 use fb_layout::Layout;
 use std::alloc::Global;
 
@@ -48,7 +48,7 @@ pub fn encode(
         options.now.unknown_json) }
 {
     layer_laws();
-    let source = Source {
+    let source = JsonContext {
         alloc,
         layout,
         unknown: options.unknown_json,
@@ -82,7 +82,7 @@ pub fn encode_plan<'l>(
     ensures kept { IfErr result (λ f. IsOfJson f → json.new.items ≡ json.old.items) }
 {
     layer_laws();
-    let source = Source {
+    let source = JsonContext {
         alloc,
         layout,
         unknown: options.unknown_json,

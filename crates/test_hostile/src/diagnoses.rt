@@ -5,7 +5,7 @@ use crate::meanings::limits;
 use fb_conform::all_breaches;
 use fb_encode::text_fault_path;
 use fb_explain::{COLUMNS, Source, Sources, explain};
-use fb_json::{Source as JsonSource, fault_path as json_fault_path};
+use fb_json::{JsonContext, fault_path as json_fault_path};
 use fb_layout::Layout;
 use fb_read::{Entries, Framing, fault_path};
 use flatc_tool::{ToolFault, check, conform_texts, schema_of, to_binary};
@@ -63,7 +63,7 @@ fn steps_in_tree(alloc: Global, layout: &Layout, tree: &Json) -> Result<usize, A
 
 /// How many steps lead to the first fault of a JSON text that is read in pieces of a few bytes; 0 where there is none.
 fn steps_in_text(alloc: Global, layout: &Layout, json: &[u8]) -> Result<usize, AllocError> {
-    let source = JsonSource {
+    let source = JsonContext {
         alloc,
         layout,
         unknown: false,

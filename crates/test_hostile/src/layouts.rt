@@ -5,7 +5,7 @@ use crate::examples::Example;
 use crate::meanings::limits;
 use crate::values::{is_printed_as, try_value_call};
 use fb_encode::{EncodeFault, TextFault, encode_text};
-use fb_json::{Source, value_of};
+use fb_json::{JsonContext, value_of};
 use fb_layout::Layout;
 use fb_owned::read;
 use fb_read::Entries;
@@ -39,7 +39,7 @@ fn try_plan(rt: &HostRuntime, example: &Example, layout: &Layout, arms: bool) ->
 /// An example's buffer, whose text is read in pieces of a few bytes.
 fn try_pieces(rt: &HostRuntime, example: &Example, layout: &Layout, arms: bool) -> Outcome {
     let limits = limits();
-    let source = Source {
+    let source = JsonContext {
         alloc: rt.alloc(),
         layout,
         unknown: false,

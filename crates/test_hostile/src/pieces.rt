@@ -1,7 +1,7 @@
 //! JSON texts that are read in pieces of a few bytes and at once: both ways have the same outcome, and the same path to
 //! what is refused.
 use fb_encode::{EncodeFault, TextFault, encode_text, text_fault_path};
-use fb_json::{Source, Step};
+use fb_json::{JsonContext, JsonStep};
 use fb_layout::Layout;
 use fb_value::Limits;
 use flatc_tool::schema_of;
@@ -22,11 +22,11 @@ fn limits() -> Limits {
 #[derive(PartialEq, Drop)]
 struct Read {
     encoded: Result<Vec<u8>, TextFault>,
-    path: Option<Vec<Step>>,
+    path: Option<Vec<JsonStep>>,
 }
 
 impl Read {
-    fn of(source: Source, json: &[u8], piece: usize) -> Read {
+    fn of(source: JsonContext, json: &[u8], piece: usize) -> Read {
         Read {
             encoded: encode_text(source, json, limits(), piece, false),
             path: match text_fault_path(source, json, limits(), piece) {
@@ -43,7 +43,7 @@ impl Read {
 }
 
 /// The first size of pieces with which something else comes of a text than at once.
-fn other_pieces(source: Source, json: &[u8], whole: &Read) -> Option<usize> {
+fn other_pieces(source: JsonContext, json: &[u8], whole: &Read) -> Option<usize> {
     for piece in PIECES {
         if Read::of(source, json, *piece) != *whole {
             return Some(*piece);
@@ -54,7 +54,7 @@ fn other_pieces(source: Source, json: &[u8], whole: &Read) -> Option<usize> {
 
 /// Prints the outcome of a text, or with which pieces something else comes of it.
 fn print_outcome(rt: &HostRuntime, layout: &Layout, json: &[u8], unknown: bool) -> io::Result<()> {
-    let source = Source {
+    let source = JsonContext {
         alloc: rt.alloc(),
         layout,
         unknown,
