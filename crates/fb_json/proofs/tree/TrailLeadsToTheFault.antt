@@ -69,7 +69,8 @@ fault_given f r h kept = unless_memory f (failed f r h) kept
 
 -- the steps on a trail that was empty
 pub kept_steps : {V : Type 0} (M : Type 0) (items : V → List JsonStep) (o : Option V)
-    (start new : Option (List JsonStep)) (Is : List JsonStep → Type 0) → start ≡ Some [] → option_map items o ≡ new → (steps : List JsonStep)
+    (start new : Option (List JsonStep)) (Is : List JsonStep → Type 0)
+    → start ≡ Some [] → option_map items o ≡ new → (steps : List JsonStep)
     → new ≡ option_map (λ behind. steps ++ behind) start → Is steps → MatchOption o M (λ v. Is (items v))
 kept_steps M items None start new Is empty seen steps added is = let all = rw empty at added in cc
 kept_steps M items (Some v) start new Is empty seen steps added is =
