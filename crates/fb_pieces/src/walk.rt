@@ -10,7 +10,7 @@ const EVEN: u64 = 0x5555_5555_5555_5555;
 
 /// What one block tells the next, and how many brackets are open.
 #[derive(Clone, Copy)]
-pub(crate) struct Walk {
+pub(crate) struct BlockWalk {
     pub(crate) is_escaped: bool,
     pub(crate) in_string: bool,
     pub(crate) open: usize,
@@ -77,9 +77,9 @@ fn prefix_xor(bits: u64) -> u64 {
     e ^ (e << 32)
 }
 
-impl Walk {
+impl BlockWalk {
     /// Where the walk begins.
-    pub(crate) const START: Walk = Walk {
+    pub(crate) const START: BlockWalk = BlockWalk {
         is_escaped: false,
         in_string: false,
         open: 0,
