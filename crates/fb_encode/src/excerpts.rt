@@ -12,7 +12,7 @@ use crate::elements::Elements;
 use crate::numbers::note_number_runs;
 use crate::objects::note_members;
 use crate::parts::note_part;
-use crate::reader::{Excerpt, Reader, Unread, innermost};
+use crate::reader::{JsonExcerpt, Reader, Unread, innermost};
 use crate::steps::trace_tree;
 use crate::unnoted::Unnoted;
 use crate::vectors::note_runs;
@@ -63,7 +63,7 @@ impl<'l> TextWalk<'l> {
 pub(crate) fn note_excerpt(
     source: JsonContext,
     walk: &mut TextWalk<'_>,
-    excerpt: Excerpt<'_>,
+    excerpt: JsonExcerpt<'_>,
     wanted: Wanted,
 ) -> Result<u32, Unnoted>
     requires layout { walk.old.noting.tape.layout ≡ source.layout.now }
@@ -102,7 +102,7 @@ pub(crate) fn note_excerpt(
 pub(crate) fn note_at_once(
     source: JsonContext,
     walk: &mut TextWalk<'_>,
-    excerpt: Excerpt<'_>,
+    excerpt: JsonExcerpt<'_>,
     wanted: Wanted,
 ) -> Result<u32, Unnoted>
     requires layout { walk.old.noting.tape.layout ≡ source.layout.now }
@@ -129,7 +129,7 @@ pub(crate) fn note_at_once(
 fn note_in_brackets(
     source: JsonContext,
     walk: &mut TextWalk<'_>,
-    excerpt: Excerpt<'_>,
+    excerpt: JsonExcerpt<'_>,
     wanted: Wanted,
 ) -> Result<u32, Unnoted>
     requires layout { walk.old.noting.tape.layout ≡ source.layout.now }

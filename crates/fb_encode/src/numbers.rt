@@ -14,7 +14,7 @@ ghost use Rattle.fb_encode.specs.TreesNoted.{AddsInline};
 
 use crate::elements::{Elements, push_elements};
 use crate::excerpts::{TextWalk, note_at_once};
-use crate::reader::Excerpt;
+use crate::reader::JsonExcerpt;
 use crate::runs::{AfterElements, elements_of, elements_read, left_for, once_runs_read};
 use crate::slot_texts::piece_of;
 use crate::stand_ins::stand_in;
@@ -32,7 +32,7 @@ use serde_json::Value as Json;
 pub(crate) fn note_number_runs(
     source: JsonContext,
     walk: &mut TextWalk<'_>,
-    excerpt: Excerpt<'_>,
+    excerpt: JsonExcerpt<'_>,
     elements: Elements,
     left: u32,
 ) -> Result<u32, Unnoted>
@@ -80,7 +80,7 @@ pub(crate) fn note_number_runs(
 fn push_run(
     source: JsonContext,
     walk: &mut TextWalk<'_>,
-    array: Excerpt<'_>,
+    array: JsonExcerpt<'_>,
     run: Run,
     elements: Elements,
     after: AfterElements,

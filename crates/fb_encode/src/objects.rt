@@ -24,7 +24,7 @@ ghost use Rattle.fb_encode.specs.TreesNoted.{IsPart, IsSlot};
 use crate::entries::{SlotRead, note_slot};
 use crate::excerpts::{TextWalk, Wanted, note_at_once, note_excerpt};
 use crate::outlines::container_of;
-use crate::reader::{Excerpt, Reader, Unread, innermost};
+use crate::reader::{JsonExcerpt, Reader, Unread, innermost};
 use crate::slot_texts::{SlotTexts, members_of, pass_by_text, texts_by_slot};
 use crate::stand_ins::stand_in;
 use crate::steps::{after_step, trace_member};
@@ -70,7 +70,7 @@ fn before_slots(known: Result<(), JsonFault>, wanted: Wanted) -> Result<AfterSlo
 }
 
 /// Checks texts of members, of which no trees are made.
-fn check_texts(reader: &mut Reader, texts: &[Option<Excerpt<'_>>]) -> Result<(), Unread>
+fn check_texts(reader: &mut Reader, texts: &[Option<JsonExcerpt<'_>>]) -> Result<(), Unread>
     ensures { OnOk result (AreTextsRead texts.now) }
 {
     for text in texts {
@@ -82,7 +82,7 @@ fn check_texts(reader: &mut Reader, texts: &[Option<Excerpt<'_>>]) -> Result<(),
 /// What was found before these texts. After a fault they are checked, since it is a fault only of a text that is JSON.
 fn once_texts_read(
     reader: &mut Reader,
-    texts: &[Option<Excerpt<'_>>],
+    texts: &[Option<JsonExcerpt<'_>>],
     found: Result<AfterSlot, Unnoted>,
 ) -> Result<AfterSlot, Unnoted>
     ensures same { IfFound result (λ now. found_of found ≡ Some now) }
@@ -99,7 +99,7 @@ fn once_texts_read(
 pub(crate) fn note_members(
     source: JsonContext,
     walk: &mut TextWalk<'_>,
-    excerpt: Excerpt<'_>,
+    excerpt: JsonExcerpt<'_>,
     owner: TypeId,
     wanted: Wanted,
 ) -> Result<u32, Unnoted>
@@ -156,7 +156,7 @@ fn note_next(
     source: JsonContext,
     walk: &mut TextWalk<'_>,
     slot: SlotRead<'_>,
-    text: Option<Excerpt<'_>>,
+    text: Option<JsonExcerpt<'_>>,
     after: AfterSlot,
     levels: u8,
 ) -> Result<AfterSlot, Unnoted>
@@ -185,7 +185,7 @@ fn note_slot_text(
     source: JsonContext,
     walk: &mut TextWalk<'_>,
     slot: SlotRead<'_>,
-    text: Option<Excerpt<'_>>,
+    text: Option<JsonExcerpt<'_>>,
     after: AfterSlot,
     levels: u8,
 ) -> Result<AfterSlot, Unnoted>
@@ -278,7 +278,7 @@ fn note_named(
     source: JsonContext,
     walk: &mut TextWalk<'_>,
     number: u16,
-    text: Excerpt<'_>,
+    text: JsonExcerpt<'_>,
     wanted: Wanted,
 ) -> Result<u32, Unnoted>
     requires layout { walk.old.noting.tape.layout ≡ source.layout.now }
@@ -304,7 +304,7 @@ fn note_reference(
     source: JsonContext,
     walk: &mut TextWalk<'_>,
     slot: SlotRead<'_>,
-    text: Excerpt<'_>,
+    text: JsonExcerpt<'_>,
     after: AfterSlot,
     levels: u8,
 ) -> Result<AfterSlot, Unnoted>
@@ -336,7 +336,7 @@ fn note_union(
     walk: &mut TextWalk<'_>,
     slot: SlotRead<'_>,
     union: TypeId,
-    text: Excerpt<'_>,
+    text: JsonExcerpt<'_>,
     after: AfterSlot,
     levels: u8,
 ) -> Result<AfterSlot, Unnoted>

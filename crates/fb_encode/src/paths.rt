@@ -4,7 +4,7 @@ ghost use Rattle.serde_json.specs.Data.{Data};
 ghost use Rattle.fb_json.specs.FaultPaths.{LeadsToFirst};
 ghost use Rattle.fb_encode.specs.TextsEncoded.{IsJsonOf};
 
-use crate::faults::TextFault;
+use crate::faults::JsonTextFault;
 use crate::reader::Unread;
 use crate::texts::{check_json, note_pieces, walk_over};
 use crate::unnoted::Unnoted;
@@ -68,7 +68,7 @@ pub fn text_fault_path(
             // If the whole is JSON nevertheless, it was cut at a wrong place.
             Err(Unread::Piece) => match check_json(source.alloc, json) {
                 Ok(()) => {}
-                Err(TextFault::Memory) => return Err(AllocError),
+                Err(JsonTextFault::Memory) => return Err(AllocError),
                 Err(_) => return Ok(None),
             },
         }

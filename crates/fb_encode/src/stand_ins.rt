@@ -10,7 +10,7 @@ ghost use Rattle.fb_schema.specs.declared.kinds.Shape.TheVariants.{One};
 ghost use Rattle.fb_json.specs.Meant.{names_known};
 ghost use Rattle.fb_encode.specs.StandIns.{IsFieldPut, IsStandIn};
 
-use crate::reader::{Excerpt, Reader, Unread, innermost};
+use crate::reader::{JsonExcerpt, Reader, Unread, innermost};
 use crate::slot_texts::{SlotTexts, members_of, texts_by_slot};
 use fb_json::JsonContext;
 use fb_layout::layout_is_well_made;
@@ -27,7 +27,7 @@ use std::alloc::AllocError;
 pub(crate) fn stand_in(
     source: JsonContext,
     reader: &mut Reader,
-    excerpt: Excerpt<'_>,
+    excerpt: JsonExcerpt<'_>,
     shape: Shape,
 ) -> Result<Option<Json>, Unread>
     requires brackets { excerpt.brackets ≤ 127 }
@@ -53,7 +53,7 @@ pub(crate) fn stand_in(
 fn own_fields(
     source: JsonContext,
     reader: &mut Reader,
-    excerpt: Excerpt<'_>,
+    excerpt: JsonExcerpt<'_>,
     structure: TypeId,
 ) -> Result<Option<Json>, Unread>
     requires some { 0 < excerpt.brackets }
@@ -94,7 +94,7 @@ fn put_field(
     source: JsonContext,
     reader: &mut Reader,
     field: &FieldInfo,
-    text: Option<Excerpt<'_>>,
+    text: Option<JsonExcerpt<'_>>,
     object: &mut Map<String, Json>,
 ) -> Result<(), Unread>
     requires brackets { IfSome text (λ e. e.brackets ≤ 127) }
@@ -124,7 +124,7 @@ fn put_member(object: &mut Map<String, Json>, name: String, tree: Json) -> Resul
 fn field_tree(
     source: JsonContext,
     reader: &mut Reader,
-    text: Excerpt<'_>,
+    text: JsonExcerpt<'_>,
     shape: Shape,
 ) -> Result<Json, Unread>
     requires brackets { text.brackets ≤ 127 }

@@ -11,8 +11,8 @@ ghost use Rattle.fb_encode.specs.TextsEncoded.{IsUnread, TextRefused, first_faul
 ghost use Rattle.fb_encode.specs.TextsRead.{IsRead};
 
 use crate::excerpts::{TextWalk, Wanted, note_excerpt};
-use crate::faults::{EncodeFault, TextFault};
-use crate::reader::{Excerpt, Reader, Unread};
+use crate::faults::{EncodeFault, JsonTextFault};
+use crate::reader::{JsonExcerpt, Reader, Unread};
 use crate::trees::{note_root, plan_noted};
 use crate::unnoted::Unnoted;
 use fb_build::{Noting, TapePlan};
@@ -30,12 +30,12 @@ use std::alloc::Global;
 pub const PIECE: usize = 16_384;
 
 /// The fault of a text whose first fault this is.
-fn first_fault(fault: JsonFault) -> TextFault
+fn first_fault(fault: JsonFault) -> JsonTextFault
     ensures { result ≡ first_fault fault }
 {
     match fault {
-        JsonFault::Memory => TextFault::Memory,
-        _ => TextFault::Encode(EncodeFault::Json(fault)),
+        JsonFault::Memory => JsonTextFault::Memory,
+        _ => JsonTextFault::Encode(EncodeFault::Json(fault)),
     }
 }
 
@@ -62,7 +62,7 @@ pub(crate) fn note_pieces(
         owner: root,
         slot: None,
     };
-    let excerpt = Excerpt {
+    let excerpt = JsonExcerpt {
         text: json,
         brackets: MOST_BRACKETS,
         at: 0,
@@ -117,7 +117,7 @@ fn note_at_once<'l>(
     source: JsonContext<'l>,
     json: &[u8],
     limits: Limits,
-) -> Result<Tape<'l>, TextFault>
+) -> Result<Tape<'l>, JsonTextFault>
     ensures noted { IfOk result (IsTextNoted source.entry.layout.now limits source.entry.unknown json.now) }
     ensures refused { IfErr result (IsUnread source.entry.layout.now limits source.entry.unknown json.now) }
 {
@@ -126,33 +126,33 @@ fn note_at_once<'l>(
         Ok(tree) => tree,
         Err(error) => {
             return Err(if error.is_memory() {
-                TextFault::Memory
+                JsonTextFault::Memory
             } else {
-                TextFault::BadJson
+                JsonTextFault::BadJson
             });
         }
     };
     let Ok(noting) = Noting::with_capacity(source.alloc, source.layout) else {
-        return Err(TextFault::Memory);
+        return Err(JsonTextFault::Memory);
     };
     match note_root(source, noting, &tree, limits) {
         Ok(tape) => Ok(tape),
-        Err(fault) => Err(TextFault::Encode(EncodeFault::Json(fault))),
+        Err(fault) => Err(JsonTextFault::Encode(EncodeFault::Json(fault))),
     }
 }
 
 /// Checks that a text is JSON, without a tree.
 // Its scratch is large, and no caller is to have it in its own frame.
 #[inline(never)]
-pub(crate) fn check_json(alloc: Global, json: &[u8]) -> Result<(), TextFault>
+pub(crate) fn check_json(alloc: Global, json: &[u8]) -> Result<(), JsonTextFault>
     ensures refused { IfErr result (λ f. (L : LaidSchema) (most : Bounds) (unknown : Bool)
         → IsUnread L most unknown json.now f) }
     ensures json { OnOk result (IsRead 127 json.now) }
 {
     match is_json_at(json, MOST_BRACKETS, &mut Scratch::new(alloc)) {
         Ok(true) => Ok(()),
-        Ok(false) => Err(TextFault::BadJson),
-        Err(_) => Err(TextFault::Memory),
+        Ok(false) => Err(JsonTextFault::BadJson),
+        Err(_) => Err(JsonTextFault::Memory),
     }
 }
 
@@ -162,7 +162,7 @@ fn note_text<'l>(
     json: &[u8],
     limits: Limits,
     piece: usize,
-) -> Result<Tape<'l>, TextFault>
+) -> Result<Tape<'l>, JsonTextFault>
     ensures noted { IfOk result (IsTextNoted source.entry.layout.now limits source.entry.unknown json.now) }
     ensures refused { IfErr result (IsUnread source.entry.layout.now limits source.entry.unknown json.now) }
 {
@@ -170,7 +170,7 @@ fn note_text<'l>(
         match note_in_pieces(source, json, limits, piece) {
             Ok(tape) => return Ok(tape),
             Err(Unnoted::Fault(fault)) => return Err(first_fault(fault)),
-            Err(Unnoted::Unread(Unread::Memory)) => return Err(TextFault::Memory),
+            Err(Unnoted::Unread(Unread::Memory)) => return Err(JsonTextFault::Memory),
             // If the whole is JSON nevertheless, it was cut at a wrong place.
             Err(Unnoted::Unread(Unread::Piece)) => check_json(source.alloc, json)?,
         }
@@ -183,7 +183,7 @@ fn plan_tape<'l>(
     source: JsonContext<'l>,
     tape: Tape<'l>,
     prefixed: bool,
-) -> Result<TapePlan<'l>, TextFault>
+) -> Result<TapePlan<'l>, JsonTextFault>
     requires { (d : Datum) × NotesRoot source.layout.now tape d }
     ensures planned { let L = source.entry.layout.now in (most : Bounds) (unknown : Bool) (json : List ℕ)
         → IsTextNoted L most unknown json tape.entry → IfOk result (IsTextPlanned prefixed L most unknown json) }
@@ -193,7 +193,7 @@ fn plan_tape<'l>(
 {
     match plan_noted(source, tape, prefixed) {
         Ok(plan) => Ok(plan),
-        Err(fault) => Err(TextFault::Encode(EncodeFault::Build(fault))),
+        Err(fault) => Err(JsonTextFault::Encode(EncodeFault::Build(fault))),
     }
 }
 
@@ -208,7 +208,7 @@ pub fn encode_text(
     limits: Limits,
     piece: usize,
     prefixed: bool,
-) -> Result<Vec<u8>, TextFault>
+) -> Result<Vec<u8>, JsonTextFault>
     ensures encoded { IfOk result (λ b. IsTextEncoded prefixed source.entry.layout.now limits source.entry.unknown
         json.now b.items) }
     ensures refused { IfErr result (TextRefused prefixed source.entry.layout.now limits source.entry.unknown json.now) }
@@ -233,7 +233,7 @@ pub fn plan_text<'l>(
     limits: Limits,
     piece: usize,
     prefixed: bool,
-) -> Result<TapePlan<'l>, TextFault>
+) -> Result<TapePlan<'l>, JsonTextFault>
     ensures planned { IfOk result (IsTextPlanned prefixed source.entry.layout.now limits source.entry.unknown
         json.old.items) }
     ensures refused { IfErr result (TextRefused prefixed source.entry.layout.now limits source.entry.unknown

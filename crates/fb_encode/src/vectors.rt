@@ -15,7 +15,7 @@ ghost use Rattle.fb_encode.specs.TreesNoted.{AddsTargets};
 use crate::elements::Elements;
 use crate::excerpts::{TextWalk, note_at_once, note_excerpt};
 use crate::parts::note_targets;
-use crate::reader::Excerpt;
+use crate::reader::JsonExcerpt;
 use crate::runs::{AfterElements, elements_of, elements_read, left_for, once_runs_read};
 use crate::slot_texts::piece_of;
 use crate::steps::{after_step, trace_elements};
@@ -32,7 +32,7 @@ use serde_json::Value as Json;
 pub(crate) fn note_runs(
     source: JsonContext,
     walk: &mut TextWalk<'_>,
-    excerpt: Excerpt<'_>,
+    excerpt: JsonExcerpt<'_>,
     elements: Elements,
     left: u32,
 ) -> Result<u32, Unnoted>
@@ -79,7 +79,7 @@ pub(crate) fn note_runs(
 fn note_run(
     source: JsonContext,
     walk: &mut TextWalk<'_>,
-    array: Excerpt<'_>,
+    array: JsonExcerpt<'_>,
     run: Run,
     elements: Elements,
     after: AfterElements,
@@ -115,7 +115,7 @@ fn note_run(
 fn note_element(
     source: JsonContext,
     walk: &mut TextWalk<'_>,
-    excerpt: Excerpt<'_>,
+    excerpt: JsonExcerpt<'_>,
     elements: Elements,
     after: AfterElements,
 ) -> Result<u32, Unnoted>

@@ -8,21 +8,21 @@ ghost use Rattle.flatc_tool.specs.Jobs.{IsBinary, MayBeBinary, BinaryRefused, Is
 use crate::laws::layer_laws;
 use crate::options::EncodeOptions;
 use fb_build::TapePlan;
-use fb_encode::{EncodeFault, PIECE, TextFault, encode_text, plan_text};
+use fb_encode::{EncodeFault, JsonTextFault, PIECE, encode_text, plan_text};
 use fb_faults::ToolFault;
 use fb_json::JsonContext;
 use fb_layout::Layout;
 use std::alloc::Global;
 
 /// A refusal to encode.
-fn refused(fault: TextFault) -> ToolFault
+fn refused(fault: JsonTextFault) -> ToolFault
     ensures { result ≡ encode_fault fault }
 {
     match fault {
-        TextFault::BadJson => ToolFault::BadJson,
-        TextFault::Memory => ToolFault::Memory,
-        TextFault::Encode(EncodeFault::Json(fault)) => ToolFault::Json(fault),
-        TextFault::Encode(EncodeFault::Build(fault)) => ToolFault::Build(fault),
+        JsonTextFault::BadJson => ToolFault::BadJson,
+        JsonTextFault::Memory => ToolFault::Memory,
+        JsonTextFault::Encode(EncodeFault::Json(fault)) => ToolFault::Json(fault),
+        JsonTextFault::Encode(EncodeFault::Build(fault)) => ToolFault::Build(fault),
     }
 }
 

@@ -4,7 +4,7 @@ use crate::diagnoses::{try_breaches, try_json_path, try_path, try_text_path};
 use crate::examples::Example;
 use crate::meanings::limits;
 use crate::values::{is_printed_as, try_value_call};
-use fb_encode::{EncodeFault, TextFault, encode_text};
+use fb_encode::{EncodeFault, JsonTextFault, encode_text};
 use fb_json::{JsonContext, value_of};
 use fb_layout::Layout;
 use fb_owned::read;
@@ -49,8 +49,10 @@ fn try_pieces(rt: &HostRuntime, example: &Example, layout: &Layout, arms: bool) 
     disarm(rt, arms);
     match answer {
         Ok(bytes) => Outcome::of(bytes.as_slice() == example.bytes),
-        Err(TextFault::Memory) => Outcome::of_refusal(ToolFault::Memory.number()),
-        Err(TextFault::Encode(EncodeFault::Build(fault))) => Outcome::of_refusal(fault.number()),
+        Err(JsonTextFault::Memory) => Outcome::of_refusal(ToolFault::Memory.number()),
+        Err(JsonTextFault::Encode(EncodeFault::Build(fault))) => Outcome::of_refusal(
+            fault.number(),
+        ),
         Err(_) => Outcome::Wrong,
     }
 }

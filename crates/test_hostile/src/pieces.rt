@@ -1,6 +1,6 @@
 //! JSON texts that are read in pieces of a few bytes and at once: both ways have the same outcome, and the same path to
 //! what is refused.
-use fb_encode::{EncodeFault, TextFault, encode_text, text_fault_path};
+use fb_encode::{EncodeFault, JsonTextFault, encode_text, text_fault_path};
 use fb_json::{JsonContext, JsonStep};
 use fb_layout::Layout;
 use fb_value::Limits;
@@ -21,7 +21,7 @@ fn limits() -> Limits {
 /// What comes of a text in pieces of so many bytes.
 #[derive(PartialEq, Drop)]
 struct Read {
-    encoded: Result<Vec<u8>, TextFault>,
+    encoded: Result<Vec<u8>, JsonTextFault>,
     path: Option<Vec<JsonStep>>,
 }
 
@@ -38,7 +38,11 @@ impl Read {
 
     /// Whether a path leads to a fault exactly where a rule is broken.
     fn is_led_to(&self) -> bool {
-        self.path.is_some() == matches!(self.encoded, Err(TextFault::Encode(EncodeFault::Json(_))))
+        self.path.is_some()
+            == matches!(
+                self.encoded,
+                Err(JsonTextFault::Encode(EncodeFault::Json(_)))
+            )
     }
 }
 
@@ -68,9 +72,9 @@ fn print_outcome(rt: &HostRuntime, layout: &Layout, json: &[u8], unknown: bool) 
     }
     let told = match whole.encoded {
         Ok(_) => "a buffer",
-        Err(TextFault::BadJson) => "no JSON",
-        Err(TextFault::Memory) => "no memory",
-        Err(TextFault::Encode(fault)) => return println!(rt; "{fault}"),
+        Err(JsonTextFault::BadJson) => "no JSON",
+        Err(JsonTextFault::Memory) => "no memory",
+        Err(JsonTextFault::Encode(fault)) => return println!(rt; "{fault}"),
     };
     println!(rt; "{told}")
 }
