@@ -1,6 +1,6 @@
 //! A task over many files, each for itself, under one schema.
 use crate::explained::{Refusal, refuse};
-use crate::faults::{Buffer, read_fault, write_fault};
+use crate::faults::{BufferContent, read_fault, write_fault};
 use crate::{layout_of, tell};
 use clap::Error;
 use clap::error::ErrorKind;
@@ -68,7 +68,7 @@ fn write_buffer<'j>(
     flags: Flags,
 ) -> Result<(), ToolFault> {
     let buffer = encoded(rt.alloc(), layout, &mut texts.input.bytes, flags)?;
-    match write_file(rt, target, &mut Buffer(buffer.as_slice())) {
+    match write_file(rt, target, &mut BufferContent(buffer.as_slice())) {
         Ok(()) => Ok(()),
         Err(error) => Err(write_fault(rt, texts, target.path.as_str(), &error)),
     }
