@@ -11,7 +11,7 @@ ghost use Rattle.flatc_c.specs.Settings.{limits_of, unknown_of, raw_of, defaults
 
 use crate::contents::{clear, give, put, take};
 use crate::faults::{Fault, told};
-use crate::handles::{Bytes, Schema};
+use crate::handles::{Bytes, SchemaHandle};
 use crate::options::Options;
 use crate::status::{BAD_OPTIONS, NO_MEMORY, NO_SCHEMA, OK, REFUSED, status_of};
 use flatc_tool::{DecodeOptions, EncodeOptions, Entries, ToolFault, decode, encode, verify_framed};
@@ -21,7 +21,7 @@ use std::alloc::Global;
 #[unsafe(no_mangle)]
 pub extern "C" fn flatc_encode(
     alloc: Global,
-    schema: &mut Schema,
+    schema: &mut SchemaHandle,
     json: &[u8],
     options: &Options,
     out: &mut Bytes,
@@ -75,7 +75,7 @@ pub extern "C" fn flatc_encode(
 #[unsafe(no_mangle)]
 pub extern "C" fn flatc_decode(
     alloc: Global,
-    schema: &mut Schema,
+    schema: &mut SchemaHandle,
     buffer: &[u8],
     options: &Options,
     out: &mut Bytes,
@@ -132,7 +132,7 @@ pub extern "C" fn flatc_decode(
 #[unsafe(no_mangle)]
 pub extern "C" fn flatc_verify(
     alloc: Global,
-    schema: &mut Schema,
+    schema: &mut SchemaHandle,
     buffer: &[u8],
     options: &Options,
     fault: &mut Fault,
