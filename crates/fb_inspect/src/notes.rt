@@ -2,7 +2,7 @@
 ghost use Rattle.std.specs.Prelude.{◌<◌, ◌^◌};
 
 use crate::nodes::{Lead, Reached};
-use crate::pieces::{Piece, What};
+use crate::pieces::{BufferPiece, What};
 use fb_index::HashKey;
 use fb_layout::Layout;
 use fb_read::{
@@ -13,7 +13,7 @@ use std::alloc::Global;
 
 /// A part that the walk is at.
 #[derive(Clone, Copy)]
-struct Open<'a> {
+struct WalkedPart<'a> {
     node: u32,
     /// The table, where the walk is at it for the first time and its own rules hold.
     table: Option<EnteredTable<'a>>,
@@ -30,14 +30,14 @@ pub(crate) struct Notes<'a> {
     pub layout: &'a Layout,
     pub bytes: &'a [u8],
     pub reached: Reached,
-    pub pieces: Vec<Piece>,
+    pub pieces: Vec<BufferPiece>,
     /// The steps back from the fault that a walk has found, the last one first.
     pub way_back: Vec<Step>,
     /// Whether a walk was made, since the front keeps its rules.
     pub is_walked: bool,
     /// Whether something is missing since memory ran out.
     pub is_cut: bool,
-    open: Vec<Open<'a>>,
+    open: Vec<WalkedPart<'a>>,
     /// How many fields were noted that the tables' types don't have.
     unknown: usize,
 }
@@ -69,7 +69,7 @@ impl<'a> Notes<'a> {
         if start >= end {
             return;
         }
-        let piece = Piece {
+        let piece = BufferPiece {
             start: noted(start),
             end: noted(end),
             node,
@@ -106,7 +106,7 @@ impl<'a> Notes<'a> {
             Some(table) => self.count_of(table),
             None => 0,
         };
-        let open = Open {
+        let open = WalkedPart {
             node,
             table,
             next: 0,
@@ -187,7 +187,12 @@ impl<'a> Notes<'a> {
     }
 
     /// The next slot of a table that has the reference at a position. What is in the slots up to it is noted.
-    fn slot_with(&mut self, open: Open<'a>, table: EnteredTable<'a>, reference_at: usize) -> u32 {
+    fn slot_with(
+        &mut self,
+        open: WalkedPart<'a>,
+        table: EnteredTable<'a>,
+        reference_at: usize,
+    ) -> u32 {
         for slot in open.next..open.count {
             let found = self.note_slot(open.node, table, slot.min(65535) as u16);
             if found == Some(reference_at) {
@@ -200,7 +205,7 @@ impl<'a> Notes<'a> {
     }
 
     /// Notes what a table has in its slots before one of this number, as far as they aren't noted yet.
-    fn note_slots(&mut self, open: Open<'a>, end: u32) {
+    fn note_slots(&mut self, open: WalkedPart<'a>, end: u32) {
         let Some(table) = open.table else {
             return;
         };

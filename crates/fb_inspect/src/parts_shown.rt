@@ -3,7 +3,7 @@ use crate::nodes::{Lead, Node};
 use crate::notes::{u16_within, u32_within};
 use crate::page_lines::begin_piece;
 use crate::paths::{Scene, push_path};
-use crate::pieces::{Piece, What};
+use crate::pieces::{BufferPiece, What};
 use crate::values_shown::{push_code, push_number_at, push_numbers, push_text};
 use fb_explain_pages::Page;
 use fb_findings::push_shape;
@@ -85,7 +85,7 @@ fn push_length(page: &mut Page, scene: Scene<'_>, node: &Node) {
 }
 
 /// Adds what a string or a vector has.
-fn push_content(page: &mut Page, scene: Scene<'_>, node: &Node, piece: &Piece) {
+fn push_content(page: &mut Page, scene: Scene<'_>, node: &Node, piece: &BufferPiece) {
     let at = piece.start as usize;
     match node.lead {
         Lead::Vector(kind) => {
@@ -119,7 +119,7 @@ fn step_to(what: What, table: TypeId) -> Option<Step> {
 }
 
 /// Adds what a piece of a part is.
-fn push_part(page: &mut Page, scene: Scene<'_>, piece: &Piece, node: &Node) {
+fn push_part(page: &mut Page, scene: Scene<'_>, piece: &BufferPiece, node: &Node) {
     let schema = scene.layout.schema();
     let at = piece.start as usize;
     let table = match node.lead {
@@ -180,7 +180,7 @@ fn push_member(page: &mut Page, scene: Scene<'_>, table: TypeId, slot: u16, code
 }
 
 /// Adds what the header of a buffer has.
-fn push_front(page: &mut Page, scene: Scene<'_>, piece: &Piece) {
+fn push_front(page: &mut Page, scene: Scene<'_>, piece: &BufferPiece) {
     let at = piece.start as usize;
     match piece.what {
         What::Count => {
@@ -206,7 +206,7 @@ fn push_front(page: &mut Page, scene: Scene<'_>, piece: &Piece) {
 }
 
 /// What is said of bytes that nothing refers to.
-fn gap_words(scene: Scene<'_>, piece: &Piece, is_whole: bool) -> &'static str {
+fn gap_words(scene: Scene<'_>, piece: &BufferPiece, is_whole: bool) -> &'static str {
     let bytes = scene
         .bytes
         .get(piece.start as usize..piece.end as usize)
@@ -224,7 +224,7 @@ fn gap_words(scene: Scene<'_>, piece: &Piece, is_whole: bool) -> &'static str {
 pub(crate) fn push_head(
     page: &mut Page,
     scene: Scene<'_>,
-    piece: &Piece,
+    piece: &BufferPiece,
     is_whole: bool,
     overlaps: bool,
 ) {

@@ -31,7 +31,7 @@ pub(crate) enum What {
 
 /// A range of a buffer's bytes from `start` up to `end`, and what it is.
 #[derive(Clone, Copy, Drop)]
-pub(crate) struct Piece {
+pub(crate) struct BufferPiece {
     pub start: u32,
     pub end: u32,
     /// The number of the part that it belongs to, as `Nodes` has it.
