@@ -55,8 +55,7 @@ pub(crate) fn note_root<'l>(
     }
 }
 
-/// The plan of the buffer of the value that is noted on a tape, as the root's. A `prefixed` buffer has the count of its
-/// bytes in front.
+/// The plan of the buffer of the value that is noted on a tape, as the root's. A `prefixed` buffer has a size prefix.
 pub(crate) fn plan_noted<'l>(
     source: JsonContext<'l>,
     tape: Tape<'l>,

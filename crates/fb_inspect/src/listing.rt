@@ -63,7 +63,7 @@ struct Turn {
 
 /// Notes the pieces of a buffer's front: a count, the reference to the root, and the identifier.
 fn note_front(notes: &mut Notes<'_>, front: usize) {
-    notes.note(0, 0, front, What::Count);
+    notes.note(0, 0, front, What::SizePrefix);
     notes.note(0, front, 4, What::Root);
     if notes.layout.schema().identifier().is_some() {
         notes.note(0, front.saturating_add(4), 4, What::Identifier);

@@ -112,9 +112,8 @@ fn step_to(what: What, table: TypeId) -> Option<Step> {
             Some(Step::Slot(table, slot))
         }
         What::Table | What::UnknownField(_) | What::Length | What::Content => Some(Step::Reference),
-        What::Vtable | What::Count | What::Root | What::Identifier | What::Gap | What::Fault => {
-            None
-        }
+        What::Vtable | What::SizePrefix | What::Root | What::Identifier | What::Gap | What::Fault =>
+            { None }
     }
 }
 
@@ -162,7 +161,7 @@ fn push_part(page: &mut Page, scene: Scene<'_>, piece: &BufferPiece, node: &Node
         }
         What::Length => push_length(page, scene, node),
         What::Content => push_content(page, scene, node, piece),
-        What::Count | What::Root | What::Identifier | What::Gap | What::Fault => {}
+        What::SizePrefix | What::Root | What::Identifier | What::Gap | What::Fault => {}
     }
 }
 
@@ -183,7 +182,7 @@ fn push_member(page: &mut Page, scene: Scene<'_>, table: TypeId, slot: u16, code
 fn push_front(page: &mut Page, scene: Scene<'_>, piece: &BufferPiece) {
     let at = piece.start as usize;
     match piece.what {
-        What::Count => {
+        What::SizePrefix => {
             page.line.push_str("count of the bytes after it: ");
             page.line
                 .push_number(u64::from(u32_within(scene.bytes, at)));
@@ -231,7 +230,7 @@ pub(crate) fn push_head(
     begin_piece(page, scene.bytes, piece);
     match piece.what {
         What::Gap => page.line.push_str(gap_words(scene, piece, is_whole)),
-        What::Count | What::Root | What::Identifier => push_front(page, scene, piece),
+        What::SizePrefix | What::Root | What::Identifier => push_front(page, scene, piece),
         _ => {
             if let Some(node) = scene.nodes.get(piece.node) {
                 push_part(page, scene, piece, &node);

@@ -3,8 +3,7 @@
 /// What a range of bytes is, of the part that it belongs to.
 #[derive(Clone, Copy, Drop)]
 pub(crate) enum What {
-    /// The count before a size-prefixed buffer.
-    Count,
+    SizePrefix,
     /// The reference to the root.
     Root,
     Identifier,
