@@ -55,7 +55,7 @@ pub(crate) struct Reader {
 
 impl Reader {
     /// What reads excerpts of a JSON text.
-    pub(crate) fn over(alloc: Global, json: &[u8], most: usize) -> Result<Reader, Unread> {
+    pub(crate) fn new(alloc: Global, json: &[u8], most: usize) -> Result<Reader, Unread> {
         let Some(cuts) = Cuts::of(alloc, json, most)? else {
             return Err(Unread::Piece);
         };

@@ -90,7 +90,7 @@ pub(crate) fn walk_over<'l>(
     ensures room { IfOk result (λ walk. walk.noting.tape.room ≡ 0) }
 {
     Ok(TextWalk {
-        reader: Reader::over(source.alloc, json, piece)?,
+        reader: Reader::new(source.alloc, json, piece)?,
         noting: Noting::new(source.alloc, source.layout),
         trail,
     })

@@ -43,7 +43,7 @@ pub(crate) struct Notes<'a> {
 }
 
 /// A position as it is noted. Only the target of a last reference, past the bytes, may be beyond it.
-fn noted(at: usize) -> u32 {
+fn position_of(at: usize) -> u32 {
     u32::try_from(at).unwrap_or(u32::MAX)
 }
 
@@ -70,8 +70,8 @@ impl<'a> Notes<'a> {
             return;
         }
         let piece = BufferPiece {
-            start: noted(start),
-            end: noted(end),
+            start: position_of(start),
+            end: position_of(end),
             node,
             what,
         };
@@ -92,7 +92,7 @@ impl<'a> Notes<'a> {
         let lead = Lead::of(part);
         let Ok((node, is_new)) = self
             .reached
-            .reach(lead, noted(at), (parent, number), counts)
+            .reach(lead, position_of(at), (parent, number), counts)
         else {
             self.is_cut = true;
             return None;
@@ -181,7 +181,7 @@ impl<'a> Notes<'a> {
     /// Which element of a vector of references is at a position.
     fn element_at(&self, node: u32, at: usize) -> u32 {
         match self.reached.nodes.get(node) {
-            Some(vector) => { noted(at).saturating_sub(vector.at).saturating_sub(4) / 4 }
+            Some(vector) => { position_of(at).saturating_sub(vector.at).saturating_sub(4) / 4 }
             None => 0,
         }
     }
@@ -272,7 +272,7 @@ impl<'a> Notes<'a> {
     fn note_vtable(&mut self, node: u32, table: EnteredTable<'a>) {
         let at = table.vtable_at();
         let lead = Lead::Vtable(table.table);
-        match self.reached.reach(lead, noted(at), (node, 0), true) {
+        match self.reached.reach(lead, position_of(at), (node, 0), true) {
             Ok((vtable, true)) => {
                 let size = usize::from(u16_within(self.bytes, at));
                 self.note(vtable, at, size, What::Vtable);

@@ -153,12 +153,12 @@ impl BlockWalk {
                 end: None,
             };
         }
-        self.between(opening, closing, equal_to(block, wanted) & !inside)
+        self.pass_brackets(opening, closing, equal_to(block, wanted) & !inside)
     }
 
     /// Goes over the brackets of a block.
     #[inline(always)]
-    fn between(&mut self, opening: u64, closing: u64, wanted: u64) -> Outside {
+    fn pass_brackets(&mut self, opening: u64, closing: u64, wanted: u64) -> Outside {
         let mut found = 0;
         let mut live = if self.open == 0 { u64::MAX } else { 0 };
         let mut rest = opening | closing;

@@ -64,7 +64,7 @@ pub extern "C" fn flatc_encode(
             NO_MEMORY
         },
         Some(Err(refusal)) => {
-            *fault = told(refusal);
+            *fault = c_fault(refusal);
             status_of(refusal)
         }
         None => NO_SCHEMA,
@@ -121,7 +121,7 @@ pub extern "C" fn flatc_decode(
             NO_MEMORY
         },
         Some(Err(refusal)) => {
-            *fault = told(refusal);
+            *fault = c_fault(refusal);
             status_of(refusal)
         }
         None => NO_SCHEMA,
@@ -168,7 +168,7 @@ pub extern "C" fn flatc_verify(
     match verified {
         Some(Ok(())) => OK,
         Some(Err(refusal)) => {
-            *fault = told(ToolFault::Read(refusal));
+            *fault = c_fault(ToolFault::Read(refusal));
             REFUSED
         }
         None => NO_SCHEMA,

@@ -69,7 +69,7 @@ pub extern "C" fn flatc_schema_parse(
             OK
         }
         Err(refusal) => {
-            *fault = told(ToolFault::Schema(refusal));
+            *fault = c_fault(ToolFault::Schema(refusal));
             schema_status(refusal)
         }
     }
@@ -151,7 +151,7 @@ pub extern "C" fn flatc_conform(
     match answer {
         Some(Ok(())) => OK,
         Some(Err(breach)) => {
-            *fault = told(ToolFault::Breach(breach));
+            *fault = c_fault(ToolFault::Breach(breach));
             REFUSED
         }
         None => NO_SCHEMA,

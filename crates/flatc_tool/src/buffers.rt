@@ -15,7 +15,7 @@ use fb_layout::Layout;
 use std::alloc::Global;
 
 /// A refusal to encode.
-fn refused(fault: JsonTextFault) -> ToolFault
+fn encode_fault(fault: JsonTextFault) -> ToolFault
     ensures { result ≡ encode_fault fault }
 {
     match fault {
@@ -55,7 +55,7 @@ pub fn encode(
     };
     match encode_text(source, json, options.limits, PIECE, options.size_prefixed) {
         Ok(bytes) => Ok(bytes),
-        Err(fault) => Err(refused(fault)),
+        Err(fault) => Err(encode_fault(fault)),
     }
 }
 
@@ -89,6 +89,6 @@ pub fn encode_plan<'l>(
     };
     match plan_text(source, json, options.limits, PIECE, options.size_prefixed) {
         Ok(plan) => Ok(plan),
-        Err(fault) => Err(refused(fault)),
+        Err(fault) => Err(encode_fault(fault)),
     }
 }

@@ -138,7 +138,7 @@ pub(crate) fn try_breaches(
     of_count(known, found)
 }
 
-fn explained(alloc: Global, refused: &Refused<'_>) -> Result<String, AllocError> {
+fn explain_refusal(alloc: Global, refused: &Refused<'_>) -> Result<String, AllocError> {
     let sources = Sources {
         schema: Source {
             path: "s.fbs",
@@ -188,11 +188,11 @@ fn refusal_of<'e>(rt: &HostRuntime, call: &str, example: &'e Example) -> Option<
 }
 
 fn try_refused(rt: &HostRuntime, refused: &Refused<'_>, arms: bool) -> Outcome {
-    let Ok(known) = explained(rt.alloc(), refused) else {
+    let Ok(known) = explain_refusal(rt.alloc(), refused) else {
         return Outcome::Wrong;
     };
     arm(rt, arms);
-    let answer = explained(rt.alloc(), refused);
+    let answer = explain_refusal(rt.alloc(), refused);
     disarm(rt, arms);
     match answer {
         Ok(found) => Outcome::of(found == known && !known.is_empty()),
