@@ -153,12 +153,12 @@ impl BlockWalk {
                 end: None,
             };
         }
-        self.pass_brackets(opening, closing, equal_to(block, wanted) & !inside)
+        self.scan_brackets(opening, closing, equal_to(block, wanted) & !inside)
     }
 
-    /// Goes over the brackets of a block.
+    /// Scans the brackets of a block for those outside the brackets that are opened from here on.
     #[inline(always)]
-    fn pass_brackets(&mut self, opening: u64, closing: u64, wanted: u64) -> Outside {
+    fn scan_brackets(&mut self, opening: u64, closing: u64, wanted: u64) -> Outside {
         let mut found = 0;
         let mut live = if self.open == 0 { u64::MAX } else { 0 };
         let mut rest = opening | closing;
