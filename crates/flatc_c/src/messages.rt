@@ -10,7 +10,7 @@ ghost use Rattle.flatc_c.specs.Faults.{Told, OnReadFault};
 ghost use Rattle.flatc_c.specs.Settings.{limits_of, unknown_of, raw_of, defaults_of, prefixed_of, compact_of, AreSet};
 
 use crate::contents::{clear, give, put, take};
-use crate::faults::{Fault, told};
+use crate::faults::{Fault, c_fault};
 use crate::handles::{Bytes, SchemaHandle};
 use crate::options::Options;
 use crate::status::{BAD_OPTIONS, NO_MEMORY, NO_SCHEMA, OK, REFUSED, status_of};

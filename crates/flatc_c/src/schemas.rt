@@ -9,7 +9,7 @@ ghost use Rattle.flatc_c.specs.Handles.{HasLayout, layout_of};
 ghost use Rattle.flatc_c.specs.Faults.{Told, OnSchemaFault, OnBreach};
 
 use crate::contents::{clear, put, take};
-use crate::faults::{Fault, told};
+use crate::faults::{Fault, c_fault};
 use crate::handles::{Bytes, SchemaHandle};
 use crate::kept::Kept;
 use crate::status::{NO_MEMORY, NO_SCHEMA, OK, REFUSED, schema_status};
