@@ -59,7 +59,7 @@ fn is_laid_alike(alloc: Global, layout: &Layout, bytes: &[u8]) -> Result<bool, T
 }
 
 /// The value that a buffer holds, under the next version of its schema.
-fn carried(
+fn carry_to(
     alloc: Global,
     layout: &Layout,
     next: &Layout,
@@ -100,7 +100,7 @@ fn compare<W: Write>(
         Ok(false) => writeln!(out, "laid again: other bytes")?,
         Err(fault) => writeln!(out, "laid again: {fault}")?,
     }
-    match carried(alloc, layout, next, bytes) {
+    match carry_to(alloc, layout, next, bytes) {
         Ok(value) => writeln!(out, "carried: {} slots", slot_count(&value)),
         Err(fault) => writeln!(out, "carried: {fault}"),
     }

@@ -1,1 +1,1 @@
-pub mod FramedRoomHasTheCount
+pub mod FramedRoomHasThePrefix

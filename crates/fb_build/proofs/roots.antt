@@ -1,2 +1,2 @@
-pub mod CountedTailIsABuffer
+pub mod PrefixedTailIsABuffer
 pub mod TailWithItsRootIsABuffer

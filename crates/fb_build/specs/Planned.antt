@@ -14,7 +14,7 @@ use Rattle.fb_tape.specs.Tapes.{MeansRoot, Taped}
 use Rattle.fb_build.specs.Covered.{CoveredFramed, EndsAlignedFramed}
 use Rattle.fb_build.specs.NotedRoots.{NotesRoot}
 
--- the tape that is to be laid, its layout, and whether the count of the bytes comes before the buffer
+-- the tape that is to be laid, its layout, and whether the buffer is size-prefixed
 pub record TapePlanned : Type 0 where
   pub layout : LaidSchema
   pub tape : Taped

@@ -16,8 +16,8 @@ use fb_value::front_of;
 use std::alloc::Global;
 
 /// The plan by which the bytes of a value of the root table are laid, which is noted on a tape. It has all the memory
-/// that laying them takes: `TapePlan::finish` needs no more, and can't fail. Where it is `prefixed`, the count of the
-/// buffer's bytes comes before it, and it is aligned from there.
+/// that laying them takes: `TapePlan::finish` needs no more, and can't fail. Where it is `prefixed`, the buffer has a
+/// size prefix, and is aligned from there.
 pub fn plan_root<'l>(
     alloc: Global,
     layout: &'l Layout,

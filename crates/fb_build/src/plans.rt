@@ -23,8 +23,7 @@ use std::alloc::{AllocError, Global};
 use std::marker::Model;
 
 /// A tape that means a value of the root table, with all the memory that laying its buffer takes: a block as long as
-/// that, a count for each part that waits, and a place for each vtable. A `prefixed` buffer has the count of its bytes
-/// in front.
+/// that, a count for each part that waits, and a place for each vtable. A `prefixed` buffer has a size prefix.
 #[derive(Drop)]
 pub struct TapePlan<'l> {
     layout: &'l Layout,

@@ -11,7 +11,7 @@ use crate::names::MovedName;
 use std::alloc::AllocError;
 
 /// Takes differences, one after another, until it stops.
-pub(crate) trait Hearer {
+pub(crate) trait DifferenceHearer {
     type Error;
 
     /// Whether it wants moved names; otherwise they aren't looked up.
@@ -42,7 +42,7 @@ pub(crate) trait Hearer {
 #[derive(Drop)]
 pub(crate) struct FirstBreach;
 
-impl Hearer for FirstBreach {
+impl DifferenceHearer for FirstBreach {
     type Error = Breach;
 
     const WANTS_NAMES: bool = false;
@@ -66,7 +66,7 @@ impl Hearer for FirstBreach {
 }
 
 /// Lists each breach, and stops where memory runs out.
-impl Hearer for Vec<Breach> {
+impl DifferenceHearer for Vec<Breach> {
     type Error = AllocError;
 
     const WANTS_NAMES: bool = false;
@@ -90,7 +90,7 @@ impl Hearer for Vec<Breach> {
 }
 
 /// Lists each moved name, and stops where memory runs out.
-impl Hearer for Vec<MovedName> {
+impl DifferenceHearer for Vec<MovedName> {
     type Error = AllocError;
 
     const WANTS_NAMES: bool = true;
@@ -114,7 +114,7 @@ impl Hearer for Vec<MovedName> {
 }
 
 /// Lists each difference, and stops where memory runs out.
-impl Hearer for Vec<Difference> {
+impl DifferenceHearer for Vec<Difference> {
     type Error = AllocError;
 
     const WANTS_NAMES: bool = true;

@@ -12,7 +12,7 @@ ghost use Rattle.fb_conform.specs.Twins.{SameName, Twins, TableTwins, TableSlot}
 use crate::bodies::body_of;
 use crate::breaches::Breach;
 use crate::difference::Difference;
-use crate::hearers::Hearer;
+use crate::hearers::DifferenceHearer;
 use crate::kept_fields::{is_required, same_default, same_required, same_type, stays_deprecated};
 use crate::members::{has_values, keeps_codes, same_numbers};
 use crate::names::{MovedName, is_moved, names_end};
@@ -22,7 +22,11 @@ use fb_layout::Layout;
 use fb_schema::{Body, FieldInfo, TypeId};
 
 /// Reports a breach, unless what it is about is kept.
-fn report_unless<H: Hearer>(hearer: &mut H, kept: bool, breach: Breach) -> Result<(), H::Error>
+fn report_unless<H: DifferenceHearer>(
+    hearer: &mut H,
+    kept: bool,
+    breach: Breach,
+) -> Result<(), H::Error>
     ensures { (A B : LaidSchema) → IsTrue kept ↔ Kept A B breach
         → Lists A B H.wants (IsAhead (Broken breach)) (H.heard hearer.old)
         → Walks A B H.wants H.stops (IsUpTo (Broken breach)) (H.heard hearer.new) result }
@@ -41,7 +45,7 @@ struct OldSlot {
 }
 
 /// Reports the breaches of two fields in one slot.
-fn walk_fields<H: Hearer>(
+fn walk_fields<H: DifferenceHearer>(
     hearer: &mut H,
     old: &Layout,
     new: &Layout,
@@ -71,7 +75,7 @@ fn walk_fields<H: Hearer>(
 }
 
 /// Reports the breaches of one slot of two tables.
-fn walk_slot<H: Hearer>(
+fn walk_slot<H: DifferenceHearer>(
     hearer: &mut H,
     old: &Layout,
     new: &Layout,
@@ -98,7 +102,7 @@ fn walk_slot<H: Hearer>(
 }
 
 /// Reports the breaches of two tables' slots.
-fn walk_slots<H: Hearer>(
+fn walk_slots<H: DifferenceHearer>(
     hearer: &mut H,
     old: &Layout,
     new: &Layout,
@@ -122,7 +126,7 @@ fn walk_slots<H: Hearer>(
 }
 
 /// Reports the breaches of two types of one full name.
-fn walk_bodies<H: Hearer>(
+fn walk_bodies<H: DifferenceHearer>(
     hearer: &mut H,
     old: &Layout,
     new: &Layout,
@@ -156,7 +160,7 @@ fn walk_bodies<H: Hearer>(
 }
 
 /// Reports the names of an old type that are moved.
-fn walk_names<H: Hearer>(
+fn walk_names<H: DifferenceHearer>(
     hearer: &mut H,
     old: &Layout,
     new: &Layout,
@@ -178,7 +182,7 @@ fn walk_names<H: Hearer>(
 }
 
 /// Reports the breaches of an old type, then its names that are moved.
-fn walk_type<H: Hearer>(
+fn walk_type<H: DifferenceHearer>(
     hearer: &mut H,
     old: &Layout,
     new: &Layout,
@@ -216,7 +220,11 @@ fn same_identifier(old: &Layout, new: &Layout) -> bool
 }
 
 /// Reports the breaches of the root and the identifier.
-fn walk_header<H: Hearer>(hearer: &mut H, old: &Layout, new: &Layout) -> Result<(), H::Error>
+fn walk_header<H: DifferenceHearer>(
+    hearer: &mut H,
+    old: &Layout,
+    new: &Layout,
+) -> Result<(), H::Error>
     requires { H.heard hearer.old ≡ [] }
     ensures { Walks old.now new.now H.wants H.stops (IsOfTypesBelow 0) (H.heard hearer.new) result }
 {
@@ -228,7 +236,11 @@ fn walk_header<H: Hearer>(hearer: &mut H, old: &Layout, new: &Layout) -> Result<
 
 /// Reports each difference that the hearer wants: the root's and the identifier's breaches, then for each old type its
 /// breaches by slot and number, and its moved names by slot.
-pub(crate) fn walk<H: Hearer>(hearer: &mut H, old: &Layout, new: &Layout) -> Result<(), H::Error>
+pub(crate) fn walk<H: DifferenceHearer>(
+    hearer: &mut H,
+    old: &Layout,
+    new: &Layout,
+) -> Result<(), H::Error>
     requires { H.heard hearer.old ≡ [] }
     ensures { Walks old.now new.now H.wants H.stops IsAny (H.heard hearer.new) result }
 {

@@ -5,7 +5,7 @@ ghost use Rattle.fb_declare.specs.AttributeFaults.{may_stand, attribute_faults, 
 ghost use Rattle.fb_declare.specs.Faults.{least_of};
 ghost use Rattle.fb_declare.specs.NameSet.{is_met};
 
-use crate::faults::{SchemaFault, earlier, when};
+use crate::faults::{SchemaFault, earlier_fault, fault_if};
 use crate::name_set::NameSet;
 use fb_resolve::{is_alignment, is_left_out};
 use fb_syntax::{Attribute, AttributeValue, BuiltInAttribute};
@@ -74,9 +74,9 @@ fn attribute_fault(
     match built_in {
         Some(built_in) => {
             let is_bad = !may_stand(host, built_in, attribute.value.as_ref()) || again;
-            when(is_bad, SchemaFault::BadAttribute(at))
+            fault_if(is_bad, SchemaFault::BadAttribute(at))
         }
-        None => when(!declared.contains(name), SchemaFault::UnknownAttribute(at)),
+        None => fault_if(!declared.contains(name), SchemaFault::UnknownAttribute(at)),
     }
 }
 
@@ -96,7 +96,7 @@ pub(crate) fn metadata_fault(
         [one, other] => {
             let again = other.name.text == one.name.text;
             let first = attribute_fault(declared, host, false, one);
-            Ok(earlier(first, attribute_fault(declared, host, again, other)))
+            Ok(earlier_fault(first, attribute_fault(declared, host, again, other)))
         }
         _ => fault_of_many(alloc, declared, host, attributes),
     }
@@ -117,7 +117,7 @@ fn fault_of_many(
     for attribute in attributes {
         let name = &attribute.name;
         let again = met.meet(name.text)?;
-        least = earlier(least, attribute_fault(declared, host, again, attribute));
+        least = earlier_fault(least, attribute_fault(declared, host, again, attribute));
     }
     Ok(least)
 }

@@ -7,7 +7,7 @@ ghost use Rattle.fb_declare.specs.FaultRows.{faults_in_turn};
 ghost use Rattle.fb_declare.specs.NameSet.{is_met};
 
 use crate::attribute_faults::{AttributeHost, metadata_fault};
-use crate::faults::{SchemaFault, earlier, when};
+use crate::faults::{SchemaFault, earlier_fault, fault_if};
 use crate::name_set::NameSet;
 use fb_index::HashKey;
 use fb_resolve::{EnumValues, Meaning, ResolvedEnum, integer_type, may_be_written};
@@ -62,9 +62,9 @@ fn values_fault(
         let name = &resolved.value.name;
         let is_new = numbers.insert(resolved.number)?;
         let is_bad = is_bad_number(base, flags, resolved.number, !is_new);
-        let bad_name = when(repeats[place], SchemaFault::DuplicateName(name.at));
-        let bad_number = when(is_bad, SchemaFault::BadEnumValue(name.at));
-        least = earlier(least, earlier(bad_name, bad_number));
+        let bad_name = fault_if(repeats[place], SchemaFault::DuplicateName(name.at));
+        let bad_number = fault_if(is_bad, SchemaFault::BadEnumValue(name.at));
+        least = earlier_fault(least, earlier_fault(bad_name, bad_number));
     }
     Ok(least)
 }
@@ -85,5 +85,5 @@ pub(crate) fn enum_fault(
     let host = host_of_enum(values.base);
     let metadata = metadata_fault(alloc, declared, host, read.attributes.as_slice())?;
     let in_values = values_fault(alloc, declared.key(), values)?;
-    Ok(earlier(earlier(under, metadata), in_values))
+    Ok(earlier_fault(earlier_fault(under, metadata), in_values))
 }

@@ -116,7 +116,7 @@ ghost use Rattle.fb_declare.specs.Faults.{earlier, least_of};
 ghost use Rattle.fb_declare.specs.FaultRows.{when};
 
 /// The fault that comes before the other, by offset and then by number.
-pub(crate) fn earlier(
+pub(crate) fn earlier_fault(
     first: Option<SchemaFault>,
     second: Option<SchemaFault>,
 ) -> Option<SchemaFault>
@@ -130,7 +130,7 @@ pub(crate) fn earlier(
 }
 
 /// The fault, where its rule fails.
-pub(crate) fn when(fails: bool, fault: SchemaFault) -> Option<SchemaFault>
+pub(crate) fn fault_if(fails: bool, fault: SchemaFault) -> Option<SchemaFault>
     ensures { result ≡ least_of (when fails fault) }
 {
     fails.then_some(fault)

@@ -9,7 +9,7 @@ ghost use Rattle.fb_declare.specs.FaultRows.{use_faults, misplaced_type, bad_def
 ghost use Rattle.fb_declare.specs.TypeFaults.{names_of_field, attribute_host, field_faults, field_behind};
 
 use crate::attribute_faults::{AttributeHost, metadata_fault};
-use crate::faults::{SchemaFault, earlier, when};
+use crate::faults::{SchemaFault, earlier_fault, fault_if};
 use crate::name_set::NameSet;
 use fb_resolve::{Given, Meaning, ResolvedField, type_name};
 use fb_schema::Kind;
@@ -47,7 +47,7 @@ fn misplaced_type(host: FieldHost, kind: &FieldType<'_>, meaning: Meaning) -> Op
         (_, FieldType::One(_), Meaning::Known(Kind::Scalar(_) | Kind::Enum(_))) => None,
         (FieldHost::Struct(number), FieldType::One(name), Meaning::Known(Kind::Struct(part))) => {
             let incomplete = SchemaFault::IncompleteStruct(name.at());
-            when(number as u64 <= part.0, incomplete)
+            fault_if(number as u64 <= part.0, incomplete)
         }
         (_, FieldType::One(name), Meaning::Known(_)) => Some(SchemaFault::BadMember(name.at())),
         (_, FieldType::One(_), Meaning::Float | Meaning::Unknown) => None,
@@ -98,7 +98,7 @@ fn names_fault<'f>(
     };
     let again = met.meet(name.text)?;
     let fault = SchemaFault::DuplicateName(name.at);
-    Ok(earlier(when(code_again, fault), when(again, fault)))
+    Ok(earlier_fault(fault_if(code_again, fault), fault_if(again, fault)))
 }
 
 /// What else is wrong with a field.
@@ -115,17 +115,17 @@ fn field_fault(
     let kind = &field.kind;
     let meaning = resolved.meaning;
     let in_use = use_fault(meaning, type_name(kind).at());
-    let in_type = earlier(in_use, misplaced_type(host, kind, meaning));
+    let in_type = earlier_fault(in_use, misplaced_type(host, kind, meaning));
     let given = match host {
         FieldHost::Table => resolved.given,
         // a field of a struct takes no default, whatever it would give
         FieldHost::Struct(_) => Given::Wrong,
     };
-    let fault = earlier(in_type, bad_default(field.default.as_ref(), given));
+    let fault = earlier_fault(in_type, bad_default(field.default.as_ref(), given));
     let of_attributes = attribute_host(host, kind, meaning);
     let attributes = field.attributes.as_slice();
     let metadata = metadata_fault(alloc, declared, of_attributes, attributes)?;
-    Ok(earlier(fault, metadata))
+    Ok(earlier_fault(fault, metadata))
 }
 
 /// The least fault of the fields of a table or struct. The only error is a refused allocation.
@@ -143,7 +143,7 @@ pub(crate) fn fields_fault(
     for field in fields {
         let again = names_fault(&mut met, host, field)?;
         let fault = field_fault(alloc, declared, host, field)?;
-        least = earlier(least, earlier(again, fault));
+        least = earlier_fault(least, earlier_fault(again, fault));
     }
     Ok(least)
 }

@@ -5,7 +5,7 @@ ghost use Rattle.std.specs.Option.{option_copied};
 ghost use Rattle.fb_declare.specs.Faults.{least_of};
 ghost use Rattle.fb_declare.specs.FaultRows.{root_faults, is_printable, identifier_faults};
 
-use crate::faults::{SchemaFault, earlier, when};
+use crate::faults::{SchemaFault, earlier_fault, fault_if};
 use crate::field_faults::use_fault;
 use fb_resolve::{Meaning, RootRead, is_table};
 use fb_syntax::Text;
@@ -23,8 +23,8 @@ pub(crate) fn root_fault(
         return Some(SchemaFault::BadRoot(text_len));
     };
     let name = root.name;
-    let bad_root = when(!is_table(meaning), SchemaFault::BadRoot(name.at()));
-    earlier(use_fault(meaning, name.at()), bad_root)
+    let bad_root = fault_if(!is_table(meaning), SchemaFault::BadRoot(name.at()));
+    earlier_fault(use_fault(meaning, name.at()), bad_root)
 }
 
 fn are_printable(text: &[u8]) -> bool
@@ -40,5 +40,5 @@ pub(crate) fn identifier_fault(identifier: Option<&Text<'_>>) -> Option<SchemaFa
     let text = identifier?;
     let bytes = text.text.as_bytes();
     let is_right = bytes.len() == 4 && are_printable(bytes);
-    when(!is_right, SchemaFault::BadIdentifier(text.at))
+    fault_if(!is_right, SchemaFault::BadIdentifier(text.at))
 }

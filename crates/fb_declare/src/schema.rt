@@ -8,7 +8,7 @@ ghost use Rattle.fb_declare.specs.Faults.{least_of};
 ghost use Rattle.fb_declare.specs.TypeFaults.{faults_of_outline, faults_of};
 ghost use Rattle.fb_declare.specs.Declares.{Gives, Declares, Stands};
 
-use crate::faults::{SchemaFault, earlier};
+use crate::faults::{SchemaFault, earlier_fault};
 use crate::name_set::names_met;
 use crate::root::{identifier_fault, root_fault};
 use crate::types::{types_fault, types_of};
@@ -37,7 +37,7 @@ fn least_fault(
     let in_types = types_fault(alloc, &declared, resolved)?;
     let root = root_fault(outline.text_len, outline.root.as_ref(), resolved.root);
     let identifier = identifier_fault(outline.identifier);
-    Ok(earlier(earlier(in_types, root), identifier))
+    Ok(earlier_fault(earlier_fault(in_types, root), identifier))
 }
 
 /// The schema that declarations with no fault give. The only error is a refused allocation.

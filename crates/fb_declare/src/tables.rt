@@ -7,7 +7,7 @@ ghost use Rattle.fb_declare.specs.NameSet.{is_met};
 ghost use Rattle.fb_declare.specs.TypeFaults.{table_faults, struct_faults};
 
 use crate::attribute_faults::{AttributeHost, metadata_fault};
-use crate::faults::{SchemaFault, earlier, when};
+use crate::faults::{SchemaFault, earlier_fault, fault_if};
 use crate::field_faults::{FieldHost, fields_fault};
 use crate::name_set::NameSet;
 use fb_resolve::{ResolvedStruct, ResolvedTable, wrong_ids};
@@ -25,13 +25,13 @@ pub(crate) fn table_fault(
     let read = resolved.declared;
     let attributes = read.attributes.as_slice();
     let metadata = metadata_fault(alloc, declared, AttributeHost::Table, attributes)?;
-    let ids = when(
+    let ids = fault_if(
         wrong_ids(resolved).is_some(),
         SchemaFault::BadIds(read.name.at),
     );
     let fields = resolved.fields.as_slice();
     let in_fields = fields_fault(alloc, declared, FieldHost::Table, fields)?;
-    Ok(earlier(earlier(metadata, ids), in_fields))
+    Ok(earlier_fault(earlier_fault(metadata, ids), in_fields))
 }
 
 /// The least fault of the struct of a number, whose fields need this alignment. The only error is a
@@ -53,7 +53,7 @@ pub(crate) fn struct_fault(
     let fields = resolved.fields.as_slice();
     let host = AttributeHost::Struct(natural);
     let metadata = metadata_fault(alloc, declared, host, read.attributes.as_slice())?;
-    let empty = when(fields.is_empty(), SchemaFault::EmptyStruct(read.name.at));
+    let empty = fault_if(fields.is_empty(), SchemaFault::EmptyStruct(read.name.at));
     let in_fields = fields_fault(alloc, declared, FieldHost::Struct(number), fields)?;
-    Ok(earlier(earlier(metadata, empty), in_fields))
+    Ok(earlier_fault(earlier_fault(metadata, empty), in_fields))
 }

@@ -11,7 +11,7 @@ ghost use Rattle.fb_schema.specs.Seen.{body_seen, type_seen};
 ghost use Rattle.fb_declare.specs.Declares.{HasBody, IsType, IsBuildable, AreBuildable};
 
 use crate::enum_faults::enum_fault;
-use crate::faults::{SchemaFault, earlier, when};
+use crate::faults::{SchemaFault, earlier_fault, fault_if};
 use crate::name_set::NameSet;
 use crate::tables::{struct_fault, table_fault};
 use crate::unions::{members_read, union_fault};
@@ -41,14 +41,14 @@ fn type_fault(
     let read = resolved.read;
     let name = word_of(read.declaration);
     let is_taken = again || is_reserved(name.text);
-    let bad_name = when(is_taken, SchemaFault::DuplicateName(name.at));
+    let bad_name = fault_if(is_taken, SchemaFault::DuplicateName(name.at));
     let fault = match &resolved.declaration {
         ResolvedDecl::Table(table) => table_fault(alloc, declared, table),
         ResolvedDecl::Struct(table) => struct_fault(alloc, declared, number, natural, table),
         ResolvedDecl::Enum(resolved) => enum_fault(alloc, declared, resolved),
         ResolvedDecl::Union(union) => union_fault(alloc, declared, union),
     }?;
-    Ok(earlier(bad_name, fault))
+    Ok(earlier_fault(bad_name, fault))
 }
 
 /// The least fault of the types. The only error is a refused allocation.
@@ -69,7 +69,7 @@ pub(crate) fn types_fault(
     for (number, read) in types.iter().enumerate() {
         let natural = natural_of_type(outline, lower.as_slice(), read);
         let fault = type_fault(alloc, declared, number, natural, repeats[number], read)?;
-        least = earlier(least, fault);
+        least = earlier_fault(least, fault);
         lower.push_reserved(align_of_type(natural, read));
     }
     Ok(least)

@@ -10,7 +10,7 @@ ghost use Rattle.fb_resolve.specs.RepeatedNames.{is_again};
 ghost use Rattle.fb_declare.specs.TypeFaults.{union_faults};
 
 use crate::attribute_faults::{AttributeHost, metadata_fault};
-use crate::faults::{SchemaFault, earlier, when};
+use crate::faults::{SchemaFault, earlier_fault, fault_if};
 use crate::field_faults::use_fault;
 use crate::name_set::NameSet;
 use fb_index::HashKey;
@@ -33,9 +33,9 @@ fn member_fault(
     let at = resolved.member.table.at();
     let is_taken = resolved.name.as_str() == "NONE" || again;
     let is_bad = !is_table(meaning) || 255 <= number;
-    let bad_name = when(is_taken, SchemaFault::DuplicateName(resolved.name_at));
-    let bad_member = when(is_bad, SchemaFault::BadMember(at));
-    earlier(earlier(bad_name, use_fault(meaning, at)), bad_member)
+    let bad_name = fault_if(is_taken, SchemaFault::DuplicateName(resolved.name_at));
+    let bad_member = fault_if(is_bad, SchemaFault::BadMember(at));
+    earlier_fault(earlier_fault(bad_name, use_fault(meaning, at)), bad_member)
 }
 
 fn members_fault(
@@ -49,7 +49,7 @@ fn members_fault(
     let mut met = NameSet::new(alloc, key, members.len())?;
     for (number, member) in members.iter().enumerate() {
         let again = met.meet(member.name.as_str())?;
-        least = earlier(least, member_fault(number, again, member));
+        least = earlier_fault(least, member_fault(number, again, member));
     }
     Ok(least)
 }
@@ -67,7 +67,7 @@ pub(crate) fn union_fault(
     let attributes = read.attributes.as_slice();
     let metadata = metadata_fault(alloc, declared, AttributeHost::Union, attributes)?;
     let in_members = members_fault(alloc, declared.key(), resolved.members.as_slice())?;
-    Ok(earlier(metadata, in_members))
+    Ok(earlier_fault(metadata, in_members))
 }
 
 /// What is read of the members. The only error is a refused allocation.

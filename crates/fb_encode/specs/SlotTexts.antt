@@ -16,7 +16,7 @@ use Rattle.fb_build.specs.declared.noting.Noting.{Noting}
 use Rattle.fb_pieces.specs.declared.cut.Piece.{Piece}
 use Rattle.fb_encode.specs.declared.entries.SlotRead.{SlotRead}
 use Rattle.fb_encode.specs.declared.objects.AfterSlot.{AfterSlot}
-use Rattle.fb_encode.specs.declared.reader.Excerpt.{Excerpt}
+use Rattle.fb_encode.specs.declared.reader.JsonExcerpt.{JsonExcerpt}
 use Rattle.fb_encode.specs.MembersRead.{object_read, tree_read}
 use Rattle.fb_encode.specs.TextsRead.{IsRead}
 use Rattle.fb_encode.specs.TreesNoted.{IsEntryNoted}
@@ -27,34 +27,34 @@ pub record IsPieceOf (text : List ℕ) (piece : Piece) : Type 0 where
   pub within : piece.end ≤ length text
 
 -- the tree that a text is read as
-abbrev pub excerpt_tree : Excerpt → Data
+abbrev pub excerpt_tree : JsonExcerpt → Data
 excerpt_tree e = tree_read e.brackets e.text.now
 
 -- what a look-up gives that finds this text, or none
-abbrev pub text_found : LaidSchema → Bool → Option Excerpt → Option (Data × Meaner)
+abbrev pub text_found : LaidSchema → Bool → Option JsonExcerpt → Option (Data × Meaner)
 text_found L unknown o = option_map (λ e. (excerpt_tree e, meant L unknown (excerpt_tree e))) o
 
 -- Each text at a slot is read.
-abbrev pub AreTextsRead : List (Option Excerpt) → Type 0
-AreTextsRead texts = (k : ℕ) (e : Excerpt) → slice_get texts k ≡ Some (Some e) → IsRead e.brackets e.text.now
+abbrev pub AreTextsRead : List (Option JsonExcerpt) → Type 0
+AreTextsRead texts = (k : ℕ) (e : JsonExcerpt) → slice_get texts k ≡ Some (Some e) → IsRead e.brackets e.text.now
 
 -- Each slot in use has the text of the member that a look-up of its name finds, and a deprecated one has none.
-pub record AreTextsOf (brackets : ℕ) (texts : List (Option Excerpt)) (fs : List DeclaredField)
+pub record AreTextsOf (brackets : ℕ) (texts : List (Option JsonExcerpt)) (fs : List DeclaredField)
     (ms : List (List ℕ × List ℕ)) : Type 0 where
   pub all : length texts ≡ length fs
   pub each : (k : ℕ) (f : DeclaredField) → slice_get fs k ≡ Some f → f.deprecated ≡ false
       → slice_get (map (option_map excerpt_tree) texts) k ≡ Some (get_member f.name (object_read brackets ms))
   pub old : (k : ℕ) (f : DeclaredField) → slice_get fs k ≡ Some f → f.deprecated ≡ true
       → slice_get texts k ≡ Some None
-  pub brackets_are : (k : ℕ) (e : Excerpt) → slice_get texts k ≡ Some (Some e) → e.brackets ≡ brackets
+  pub brackets_are : (k : ℕ) (e : JsonExcerpt) → slice_get texts k ≡ Some (Some e) → e.brackets ≡ brackets
 
 -- the texts after a member with this text, whose name finds this field
-abbrev pub texts_with : List (Option Excerpt) → Option DeclaredField → Excerpt → List (Option Excerpt)
+abbrev pub texts_with : List (Option JsonExcerpt) → Option DeclaredField → JsonExcerpt → List (Option JsonExcerpt)
 texts_with texts None e = texts
 texts_with texts (Some f) e = if f.deprecated then texts else slice_set texts f.slot (Some e)
 
 -- the text that no slot has then: this one, or the one that was at its slot
-abbrev pub text_over : List (Option Excerpt) → Option DeclaredField → Excerpt → Option Excerpt
+abbrev pub text_over : List (Option JsonExcerpt) → Option DeclaredField → JsonExcerpt → Option JsonExcerpt
 text_over texts None e = Some e
 text_over texts (Some f) e = if f.deprecated then Some e else slice_index_or texts f.slot (Some e)
 

@@ -10,7 +10,7 @@ use Rattle.fb_layout.specs.Laid.{LaidSchema}
 use Rattle.fb_json.specs.declared.faults.Place.{Place}
 use Rattle.fb_json.specs.Leaves.{code_told}
 use Rattle.fb_json.specs.Meant.{is_null, meant}
-use Rattle.fb_encode.specs.declared.reader.Excerpt.{Excerpt}
+use Rattle.fb_encode.specs.declared.reader.JsonExcerpt.{JsonExcerpt}
 use Rattle.fb_encode.specs.TextsRead.{IsReadAs}
 
 -- Where a value of this shape is wanted, both trees mean the same, or have the same first fault.
@@ -33,7 +33,7 @@ pub record IsStandIn (L : LaidSchema) (unknown : Bool) (brackets : ℕ) (text : 
   pub alike : AreAlike L unknown shape tree d
 
 -- A tree for the text of a field's member is put under the field's name. A field without a member gets none.
-abbrev pub IsFieldPut : LaidSchema → Bool → DeclaredField → Option Excerpt → Members → Members → Type 0
+abbrev pub IsFieldPut : LaidSchema → Bool → DeclaredField → Option JsonExcerpt → Members → Members → Type 0
 IsFieldPut L unknown f None before now = now ≡ before
 IsFieldPut L unknown f (Some e) before now =
     (d : Data) × IsStandIn L unknown e.brackets e.text.now f.shape d × (now ≡ put f.name d before)

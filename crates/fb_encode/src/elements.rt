@@ -10,7 +10,7 @@ ghost use Rattle.fb_build.specs.Fields.{IsElement, is_reference};
 ghost use Rattle.fb_encode.specs.TreesNoted.{AddsInline, AreElementsAdded, IsElementAdded, IsNoted, vector_given};
 
 use crate::excerpts::Wanted;
-use fb_json::{JsonFault, Place, Room, Source, number_of, struct_parts};
+use fb_json::{JsonContext, JsonFault, Place, Room, number_of, struct_parts};
 use fb_schema::{Kind, Shape};
 use fb_tape::Tape;
 use fb_value::Value;
@@ -61,7 +61,7 @@ impl Elements {
 
 /// Notes a vector of numbers or structs, and returns the cells that are left.
 pub(crate) fn note_elements(
-    source: Source,
+    source: JsonContext,
     tape: &mut Tape<'_>,
     elements: &[Json],
     kind: Kind,
@@ -89,7 +89,7 @@ pub(crate) fn note_elements(
 
 /// Adds numbers or structs to the vector that was begun, and returns the cells that are left.
 pub(crate) fn push_elements(
-    source: Source,
+    source: JsonContext,
     tape: &mut Tape<'_>,
     elements: &[Json],
     kind: Kind,
@@ -128,7 +128,7 @@ pub(crate) fn drop_number(_value: Value) {}
 /// of a struct are kept meanwhile.
 #[inline(always)]
 fn push_next(
-    source: Source,
+    source: JsonContext,
     tape: &mut Tape<'_>,
     element: &Json,
     vector: Elements,

@@ -20,7 +20,7 @@ use crate::elements::drop_number;
 use crate::parts::{note_object, note_part};
 use fb_build::{Noting, is_default};
 use fb_json::{
-    JsonFault, Place, Room, Source, entry_without_member, is_null, number_of, struct_parts,
+    JsonContext, JsonFault, Place, Room, entry_without_member, is_null, number_of, struct_parts,
 };
 use fb_layout::layout_is_well_made;
 use fb_schema::{FieldInfo, Kind, Shape, TypeId};
@@ -81,7 +81,7 @@ fn stored_as(shape: Shape) -> StoredForm
 /// Notes the table of a union's member, after its code in the slot before, and returns the cells that are left.
 #[cycle(notes)]
 fn note_member(
-    source: Source,
+    source: JsonContext,
     noting: &mut Noting<'_>,
     slot: SlotRead<'_>,
     union: TypeId,
@@ -113,7 +113,7 @@ fn note_member(
 /// Notes what a slot's reference names, and returns the cells that are left.
 #[cycle(notes)]
 fn note_reference(
-    source: Source,
+    source: JsonContext,
     noting: &mut Noting<'_>,
     slot: SlotRead<'_>,
     tree: &Json,
@@ -137,7 +137,7 @@ fn note_reference(
 
 /// Notes a struct, and returns the cells that are left.
 fn note_struct(
-    source: Source,
+    source: JsonContext,
     opened: &mut OpenFields,
     slot: SlotRead<'_>,
     structure: TypeId,
@@ -166,7 +166,7 @@ fn note_struct(
 
 /// Notes a number or a struct, unless it is the slot's default, and returns the cells that are left.
 fn note_inline(
-    source: Source,
+    source: JsonContext,
     opened: &mut OpenFields,
     slot: SlotRead<'_>,
     kind: Kind,
@@ -206,7 +206,7 @@ fn note_inline(
 /// Notes what a slot in use stores of its member, which isn't `null`, and returns the cells that are left.
 #[cycle(notes)]
 fn note_present(
-    source: Source,
+    source: JsonContext,
     noting: &mut Noting<'_>,
     slot: SlotRead<'_>,
     tree: &Json,
@@ -247,7 +247,7 @@ fn left_of(read: Result<(Option<Value>, u32), JsonFault>) -> Result<u32, JsonFau
 /// Notes what a slot stores, and returns the cells that are left.
 #[cycle(notes)]
 pub(crate) fn note_slot(
-    source: Source,
+    source: JsonContext,
     noting: &mut Noting<'_>,
     slot: SlotRead<'_>,
     tree: Option<&Json>,

@@ -12,12 +12,12 @@ use crate::elements::Elements;
 use crate::numbers::note_number_runs;
 use crate::objects::note_members;
 use crate::parts::note_part;
-use crate::reader::{Excerpt, Reader, Unread, innermost};
+use crate::reader::{JsonExcerpt, Reader, Unread, innermost};
 use crate::steps::trace_tree;
 use crate::unnoted::Unnoted;
 use crate::vectors::note_runs;
 use fb_build::{Noting, is_reference};
-use fb_json::{Place, Source, Step, Trail};
+use fb_json::{JsonContext, JsonStep, JsonTrail, Place};
 use fb_pieces::{MOST_BRACKETS, text_is_read_without_brackets};
 use fb_schema::{Kind, Shape};
 use fb_tape::Tape;
@@ -29,7 +29,7 @@ use serde_json::Value as Json;
 pub(crate) struct TextWalk<'l> {
     pub(crate) noting: Noting<'l>,
     pub(crate) reader: Reader,
-    pub(crate) trail: Trail,
+    pub(crate) trail: JsonTrail,
 }
 
 /// What is wanted of an excerpt: a value of a shape, for a declared place; and how many levels of tables and how many
@@ -44,7 +44,7 @@ pub(crate) struct Wanted {
 
 impl<'l> TextWalk<'l> {
     /// The steps from the root to what was refused, if they were kept.
-    pub(crate) fn into_steps(self) -> Option<Vec<Step>> {
+    pub(crate) fn into_steps(self) -> Option<Vec<JsonStep>> {
         self.trail.into_steps()
     }
 
@@ -61,9 +61,9 @@ impl<'l> TextWalk<'l> {
 /// Notes what a reference of this shape names, and returns the cells that are left.
 #[cycle(reads)]
 pub(crate) fn note_excerpt(
-    source: Source,
+    source: JsonContext,
     walk: &mut TextWalk<'_>,
-    excerpt: Excerpt<'_>,
+    excerpt: JsonExcerpt<'_>,
     wanted: Wanted,
 ) -> Result<u32, Unnoted>
     requires layout { walk.old.noting.tape.layout ≡ source.layout.now }
@@ -100,9 +100,9 @@ pub(crate) fn note_excerpt(
 
 /// The same where the excerpt is read at once.
 pub(crate) fn note_at_once(
-    source: Source,
+    source: JsonContext,
     walk: &mut TextWalk<'_>,
-    excerpt: Excerpt<'_>,
+    excerpt: JsonExcerpt<'_>,
     wanted: Wanted,
 ) -> Result<u32, Unnoted>
     requires layout { walk.old.noting.tape.layout ≡ source.layout.now }
@@ -127,9 +127,9 @@ pub(crate) fn note_at_once(
 
 /// The same where it is read in brackets.
 fn note_in_brackets(
-    source: Source,
+    source: JsonContext,
     walk: &mut TextWalk<'_>,
-    excerpt: Excerpt<'_>,
+    excerpt: JsonExcerpt<'_>,
     wanted: Wanted,
 ) -> Result<u32, Unnoted>
     requires layout { walk.old.noting.tape.layout ≡ source.layout.now }
@@ -156,7 +156,7 @@ fn note_in_brackets(
 
 /// Notes what a tree gives for a reference, and returns the cells that are left.
 fn note_wanted(
-    source: Source,
+    source: JsonContext,
     walk: &mut TextWalk<'_>,
     tree: &Json,
     wanted: Wanted,
@@ -184,7 +184,7 @@ fn note_wanted(
 
 /// Notes what a string gives for a reference of this shape, and returns the cells that are left.
 fn note_string(
-    source: Source,
+    source: JsonContext,
     noting: &mut Noting<'_>,
     text: &str,
     wanted: Wanted,

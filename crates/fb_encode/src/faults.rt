@@ -14,7 +14,7 @@ pub enum EncodeFault {
 
 /// Why a JSON text gives no buffer.
 #[derive(Clone, Copy, Debug, PartialEq, Eq, Drop, Error)]
-pub enum TextFault {
+pub enum JsonTextFault {
     /// It isn't JSON.
     #[error("bad JSON")]
     BadJson,

@@ -21,6 +21,6 @@ mod trees;
 mod unnoted;
 mod vectors;
 
-pub use faults::{EncodeFault, TextFault};
+pub use faults::{EncodeFault, JsonTextFault};
 pub use paths::text_fault_path;
 pub use texts::{PIECE, encode_text, plan_text};

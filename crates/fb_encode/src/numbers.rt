@@ -14,13 +14,13 @@ ghost use Rattle.fb_encode.specs.TreesNoted.{AddsInline};
 
 use crate::elements::{Elements, push_elements};
 use crate::excerpts::{TextWalk, note_at_once};
-use crate::reader::Excerpt;
+use crate::reader::JsonExcerpt;
 use crate::runs::{AfterElements, elements_of, elements_read, left_for, once_runs_read};
 use crate::slot_texts::piece_of;
 use crate::stand_ins::stand_in;
 use crate::steps::trace_elements;
 use crate::unnoted::Unnoted;
-use fb_json::Source;
+use fb_json::JsonContext;
 use fb_pieces::{
     MOST_BRACKETS, Run, cut_array, cut_array_is_read, cut_array_is_utf8, elements_make_the_array,
     text_is_read_without_brackets,
@@ -30,9 +30,9 @@ use serde_json::Value as Json;
 
 /// Notes a vector of numbers or structs, and returns the cells that are left.
 pub(crate) fn note_number_runs(
-    source: Source,
+    source: JsonContext,
     walk: &mut TextWalk<'_>,
-    excerpt: Excerpt<'_>,
+    excerpt: JsonExcerpt<'_>,
     elements: Elements,
     left: u32,
 ) -> Result<u32, Unnoted>
@@ -78,9 +78,9 @@ pub(crate) fn note_number_runs(
 
 /// Adds the elements of a run to the vector that was begun, and returns the cells that are left.
 fn push_run(
-    source: Source,
+    source: JsonContext,
     walk: &mut TextWalk<'_>,
-    array: Excerpt<'_>,
+    array: JsonExcerpt<'_>,
     run: Run,
     elements: Elements,
     after: AfterElements,
@@ -114,7 +114,7 @@ fn push_run(
 
 /// Adds elements that are trees to the vector that was begun, and returns the cells that are left.
 fn push_trees(
-    source: Source,
+    source: JsonContext,
     walk: &mut TextWalk<'_>,
     trees: &[Json],
     elements: Elements,

@@ -24,12 +24,12 @@ ghost use Rattle.fb_encode.specs.TreesNoted.{IsPart, IsSlot};
 use crate::entries::{SlotRead, note_slot};
 use crate::excerpts::{TextWalk, Wanted, note_at_once, note_excerpt};
 use crate::outlines::container_of;
-use crate::reader::{Excerpt, Reader, Unread, innermost};
+use crate::reader::{JsonExcerpt, Reader, Unread, innermost};
 use crate::slot_texts::{SlotTexts, members_of, pass_by_text, texts_by_slot};
 use crate::stand_ins::stand_in;
 use crate::steps::{after_step, trace_member};
 use crate::unnoted::Unnoted;
-use fb_json::{JsonFault, Room, Source, Step, code_of_slot, is_absent};
+use fb_json::{JsonContext, JsonFault, JsonStep, Room, code_of_slot, is_absent};
 use fb_layout::layout_is_well_made;
 use fb_pieces::{
     MOST_BRACKETS, cut_object_is_read, cut_object_is_utf8, text_is_read_without_brackets,
@@ -70,7 +70,7 @@ fn before_slots(known: Result<(), JsonFault>, wanted: Wanted) -> Result<AfterSlo
 }
 
 /// Checks texts of members, of which no trees are made.
-fn check_texts(reader: &mut Reader, texts: &[Option<Excerpt<'_>>]) -> Result<(), Unread>
+fn check_texts(reader: &mut Reader, texts: &[Option<JsonExcerpt<'_>>]) -> Result<(), Unread>
     ensures { OnOk result (AreTextsRead texts.now) }
 {
     for text in texts {
@@ -82,7 +82,7 @@ fn check_texts(reader: &mut Reader, texts: &[Option<Excerpt<'_>>]) -> Result<(),
 /// What was found before these texts. After a fault they are checked, since it is a fault only of a text that is JSON.
 fn once_texts_read(
     reader: &mut Reader,
-    texts: &[Option<Excerpt<'_>>],
+    texts: &[Option<JsonExcerpt<'_>>],
     found: Result<AfterSlot, Unnoted>,
 ) -> Result<AfterSlot, Unnoted>
     ensures same { IfFound result (λ now. found_of found ≡ Some now) }
@@ -97,9 +97,9 @@ fn once_texts_read(
 /// Notes a table, and returns the cells that are left.
 #[cycle(reads)]
 pub(crate) fn note_members(
-    source: Source,
+    source: JsonContext,
     walk: &mut TextWalk<'_>,
-    excerpt: Excerpt<'_>,
+    excerpt: JsonExcerpt<'_>,
     owner: TypeId,
     wanted: Wanted,
 ) -> Result<u32, Unnoted>
@@ -153,10 +153,10 @@ pub(crate) fn note_members(
 /// Notes the next slot of a table, whose member has this text, or which has none.
 #[cycle(reads)]
 fn note_next(
-    source: Source,
+    source: JsonContext,
     walk: &mut TextWalk<'_>,
     slot: SlotRead<'_>,
-    text: Option<Excerpt<'_>>,
+    text: Option<JsonExcerpt<'_>>,
     after: AfterSlot,
     levels: u8,
 ) -> Result<AfterSlot, Unnoted>
@@ -172,16 +172,20 @@ fn note_next(
         → IfFound result (IsSlotNotedOr L seen slot.entry levels after walk.old.noting walk.new.noting) }
 {
     let noted = note_slot_text(source, walk, slot, text, after, levels);
-    after_step(&mut walk.trail, Step::Slot(slot.owner, slot.number), noted)
+    after_step(
+        &mut walk.trail,
+        JsonStep::Slot(slot.owner, slot.number),
+        noted,
+    )
 }
 
 /// The same without the slot's step to a fault.
 #[cycle(reads)]
 fn note_slot_text(
-    source: Source,
+    source: JsonContext,
     walk: &mut TextWalk<'_>,
     slot: SlotRead<'_>,
-    text: Option<Excerpt<'_>>,
+    text: Option<JsonExcerpt<'_>>,
     after: AfterSlot,
     levels: u8,
 ) -> Result<AfterSlot, Unnoted>
@@ -238,7 +242,7 @@ fn is_enclosed(text: &[u8]) -> bool
 
 /// Notes a slot whose member is a tree, or which has none.
 fn note_tree(
-    source: Source,
+    source: JsonContext,
     walk: &mut TextWalk<'_>,
     slot: SlotRead<'_>,
     tree: Option<&Json>,
@@ -271,10 +275,10 @@ fn note_tree(
 /// Notes what the reference of a slot names, whose text is long, and returns the cells that are left.
 #[cycle(reads)]
 fn note_named(
-    source: Source,
+    source: JsonContext,
     walk: &mut TextWalk<'_>,
     number: u16,
-    text: Excerpt<'_>,
+    text: JsonExcerpt<'_>,
     wanted: Wanted,
 ) -> Result<u32, Unnoted>
     requires layout { walk.old.noting.tape.layout ≡ source.layout.now }
@@ -297,10 +301,10 @@ fn note_named(
 /// Notes a slot whose member is long, and is read in pieces.
 #[cycle(reads)]
 fn note_reference(
-    source: Source,
+    source: JsonContext,
     walk: &mut TextWalk<'_>,
     slot: SlotRead<'_>,
-    text: Excerpt<'_>,
+    text: JsonExcerpt<'_>,
     after: AfterSlot,
     levels: u8,
 ) -> Result<AfterSlot, Unnoted>
@@ -328,11 +332,11 @@ fn note_reference(
 /// Notes a union whose member is long, and is read in pieces under the table that its code names.
 #[cycle(reads)]
 fn note_union(
-    source: Source,
+    source: JsonContext,
     walk: &mut TextWalk<'_>,
     slot: SlotRead<'_>,
     union: TypeId,
-    text: Excerpt<'_>,
+    text: JsonExcerpt<'_>,
     after: AfterSlot,
     levels: u8,
 ) -> Result<AfterSlot, Unnoted>

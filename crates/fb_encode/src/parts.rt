@@ -15,7 +15,7 @@ ghost use Rattle.fb_encode.specs.TreesNoted.{AreElementsNoted, IsNoted, IsPart};
 use crate::elements::note_elements;
 use crate::tables::note_table;
 use fb_build::{Noting, is_reference};
-use fb_json::{JsonFault, Place, Source, text_of};
+use fb_json::{JsonContext, JsonFault, Place, text_of};
 use fb_schema::{Kind, Shape, TypeId};
 use serde_json::Value as Json;
 
@@ -41,7 +41,7 @@ fn note_text(
 /// Notes the table of an object, and returns the cells that are left.
 #[cycle(notes)]
 pub(crate) fn note_object(
-    source: Source,
+    source: JsonContext,
     noting: &mut Noting<'_>,
     tree: &Json,
     owner: TypeId,
@@ -70,7 +70,7 @@ pub(crate) fn note_object(
 #[inline(always)]
 #[cycle(notes)]
 fn note_target(
-    source: Source,
+    source: JsonContext,
     noting: &mut Noting<'_>,
     tree: &Json,
     kind: Kind,
@@ -99,7 +99,7 @@ fn note_target(
 /// Notes what the elements of a vector name, and returns the cells that are left.
 #[cycle(notes)]
 pub(crate) fn note_targets(
-    source: Source,
+    source: JsonContext,
     noting: &mut Noting<'_>,
     elements: &[Json],
     kind: Kind,
@@ -128,7 +128,7 @@ pub(crate) fn note_targets(
 /// Notes a vector, and returns the cells that are left.
 #[cycle(notes)]
 fn note_array(
-    source: Source,
+    source: JsonContext,
     noting: &mut Noting<'_>,
     tree: &Json,
     kind: Kind,
@@ -174,7 +174,7 @@ fn note_array(
 /// Notes what a reference of this shape names, and returns the cells that are left.
 #[cycle(notes)]
 pub(crate) fn note_part(
-    source: Source,
+    source: JsonContext,
     noting: &mut Noting<'_>,
     tree: &Json,
     shape: Shape,

@@ -32,7 +32,7 @@ impl From<AllocError> for Unread {
 
 /// A text within a JSON text, in which `brackets` arrays and objects may be open at once.
 #[derive(Clone, Copy)]
-pub(crate) struct Excerpt<'t> {
+pub(crate) struct JsonExcerpt<'t> {
     pub(crate) text: &'t [u8],
     pub(crate) brackets: u8,
     /// Where it begins in the whole text.
@@ -55,7 +55,7 @@ pub(crate) struct Reader {
 
 impl Reader {
     /// What reads excerpts of a JSON text.
-    pub(crate) fn over(alloc: Global, json: &[u8], most: usize) -> Result<Reader, Unread> {
+    pub(crate) fn new(alloc: Global, json: &[u8], most: usize) -> Result<Reader, Unread> {
         let Some(cuts) = Cuts::of(alloc, json, most)? else {
             return Err(Unread::Piece);
         };
@@ -77,7 +77,7 @@ impl Reader {
     }
 
     /// Whether an excerpt is cut, if it can be.
-    pub(crate) fn is_long(&self, excerpt: Excerpt<'_>) -> bool
+    pub(crate) fn is_long(&self, excerpt: JsonExcerpt<'_>) -> bool
         ensures { result ≡ true → 0 < excerpt.entry.brackets }
     {
         excerpt.text.len() > self.most && excerpt.brackets > 0
@@ -152,7 +152,7 @@ impl Reader {
     }
 
     /// The tree of an excerpt, in the brackets in which it is read.
-    pub(crate) fn read(&mut self, excerpt: Excerpt<'_>) -> Result<Json, Unread>
+    pub(crate) fn read(&mut self, excerpt: JsonExcerpt<'_>) -> Result<Json, Unread>
         requires { excerpt.brackets ≤ 127 }
         ensures utf8 { OnOk result (IsUtf8 excerpt.entry.text.now) }
         ensures tree { IfOk result (λ tree.
@@ -166,7 +166,7 @@ impl Reader {
     }
 
     /// Checks an excerpt whose tree has no meaning, so that none is made.
-    pub(crate) fn pass_by(&mut self, excerpt: Excerpt<'_>) -> Result<(), Unread>
+    pub(crate) fn pass_by(&mut self, excerpt: JsonExcerpt<'_>) -> Result<(), Unread>
         ensures { OnOk result (IsRead excerpt.entry.brackets excerpt.entry.text.now) }
     {
         let is_json = is_json_at(excerpt.text, excerpt.brackets, &mut *self.scratch)?;
@@ -181,7 +181,7 @@ impl Reader {
     /// wanted. None for another text.
     pub(crate) fn outline(
         &mut self,
-        excerpt: Excerpt<'_>,
+        excerpt: JsonExcerpt<'_>,
         shape: Shape,
     ) -> Result<Option<Json>, Unread>
         ensures { IfOk result (λ found. IfSome found (λ tree.
@@ -198,7 +198,7 @@ impl Reader {
     }
 
     /// An empty array in the place of a long one without elements, which isn't cut. None of another text.
-    fn empty_array(&mut self, excerpt: Excerpt<'_>) -> Result<Option<Json>, AllocError>
+    fn empty_array(&mut self, excerpt: JsonExcerpt<'_>) -> Result<Option<Json>, AllocError>
         ensures { IfOk result (λ found. IfSome found (λ tree. (tree_view tree ≡ array no_items)
             × IsReadAs excerpt.entry.brackets excerpt.entry.text.now (array no_items))) }
     {

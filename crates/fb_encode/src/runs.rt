@@ -9,7 +9,7 @@ ghost use Rattle.fb_encode.specs.Found.{IfFound, found_of};
 ghost use Rattle.fb_encode.specs.SlotTexts.{IsPieceOf};
 ghost use Rattle.fb_encode.specs.TextsRead.{AreRunsRead, elements_in};
 
-use crate::reader::{Excerpt, Reader, Unread, innermost_elements};
+use crate::reader::{JsonExcerpt, Reader, Unread, innermost_elements};
 use crate::slot_texts::piece_of;
 use crate::unnoted::Unnoted;
 use fb_json::{JsonFault, Place};
@@ -62,7 +62,7 @@ pub(crate) fn elements_read(tree: &Json, arrays: u8, run: Run) -> Result<&[Json]
 }
 
 /// Checks runs, of whose elements no trees are made.
-fn check_runs(reader: &mut Reader, array: Excerpt<'_>, runs: &[Run]) -> Result<(), Unread>
+fn check_runs(reader: &mut Reader, array: JsonExcerpt<'_>, runs: &[Run]) -> Result<(), Unread>
     requires within { All (λ run. IsPieceOf array.text.now run.elements) runs.now }
     requires some { 0 < array.brackets }
     requires brackets { array.brackets ≤ 127 }
@@ -80,7 +80,7 @@ fn check_runs(reader: &mut Reader, array: Excerpt<'_>, runs: &[Run]) -> Result<(
 /// What was found before these runs. After a fault they are checked, since it is a fault only of a text that is JSON.
 pub(crate) fn once_runs_read(
     reader: &mut Reader,
-    array: Excerpt<'_>,
+    array: JsonExcerpt<'_>,
     runs: &[Run],
     found: Result<u32, Unnoted>,
 ) -> Result<u32, Unnoted>

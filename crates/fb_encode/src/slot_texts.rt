@@ -14,8 +14,8 @@ ghost use Rattle.fb_encode.specs.MembersRead.{AreNamesRead, AreValuesRead, name_
 ghost use Rattle.fb_encode.specs.SlotTexts.{AreTextsOf, AreTextsRead, IsPieceOf, text_over, texts_with};
 ghost use Rattle.fb_encode.specs.TextsRead.{IsRead, IsReadAs};
 
-use crate::reader::{Excerpt, Reader, Unread};
-use fb_json::{JsonFault, Place, Source};
+use crate::reader::{JsonExcerpt, Reader, Unread};
+use fb_json::{JsonContext, JsonFault, Place};
 use fb_layout::layout_is_well_made;
 use fb_pieces::{Cuts, Member, Piece, cut_object};
 use fb_schema::{FieldInfo, TypeId};
@@ -25,14 +25,14 @@ use std::alloc::{AllocError, Global};
 /// use has.
 #[derive(Drop)]
 pub(crate) struct SlotTexts<'t> {
-    pub(crate) texts: Vec<Option<Excerpt<'t>>>,
+    pub(crate) texts: Vec<Option<JsonExcerpt<'t>>>,
     pub(crate) known: Result<(), JsonFault>,
 }
 
 /// The members of an object's text, if it can be cut and has some.
 pub(crate) fn members_of(
     alloc: Global,
-    excerpt: Excerpt<'_>,
+    excerpt: JsonExcerpt<'_>,
     cuts: &Cuts,
 ) -> Result<Option<Vec<Member>>, AllocError>
     ensures cut { IfOk result (λ cut. IfSome cut (λ members.
@@ -49,7 +49,7 @@ pub(crate) fn members_of(
 }
 
 /// No text for each of some slots.
-fn no_texts<'t>(alloc: Global, slots: usize) -> Result<Vec<Option<Excerpt<'t>>>, AllocError>
+fn no_texts<'t>(alloc: Global, slots: usize) -> Result<Vec<Option<JsonExcerpt<'t>>>, AllocError>
     ensures { IfOk result (λ texts. texts.items ≡ replicate slots None) }
 {
     vec![in alloc; None; slots]
@@ -58,9 +58,9 @@ fn no_texts<'t>(alloc: Global, slots: usize) -> Result<Vec<Option<Excerpt<'t>>>,
 /// The text of each slot's member. What no slot takes is read here: the value of a name that comes again, and one of
 /// a name that no slot in use has.
 pub(crate) fn texts_by_slot<'t>(
-    source: Source,
+    source: JsonContext,
     reader: &mut Reader,
-    excerpt: Excerpt<'t>,
+    excerpt: JsonExcerpt<'t>,
     owner: TypeId,
     slots: &[FieldInfo],
     members: &[Member],
@@ -94,13 +94,13 @@ pub(crate) fn texts_by_slot<'t>(
 }
 
 /// A piece of an excerpt, in one more bracket.
-pub(crate) fn piece_of<'t>(excerpt: Excerpt<'t>, piece: Piece) -> Excerpt<'t>
+pub(crate) fn piece_of<'t>(excerpt: JsonExcerpt<'t>, piece: Piece) -> JsonExcerpt<'t>
     requires within { IsPieceOf excerpt.text.now piece }
     requires some { 0 < excerpt.brackets }
     ensures text { result.text.now ≡ piece_text excerpt.entry.text.now piece }
     ensures brackets { result.brackets ≡ excerpt.entry.brackets - 1 }
 {
-    Excerpt {
+    JsonExcerpt {
         text: &excerpt.text[piece.start..piece.end],
         brackets: excerpt.brackets - 1,
         at: excerpt.at.saturating_add(piece.start),
@@ -109,10 +109,10 @@ pub(crate) fn piece_of<'t>(excerpt: Excerpt<'t>, piece: Piece) -> Excerpt<'t>
 
 /// The field that a name finds, which is read.
 fn field_read<'s>(
-    source: Source<'s>,
+    source: JsonContext<'s>,
     reader: &mut Reader,
     owner: TypeId,
-    name: Excerpt<'_>,
+    name: JsonExcerpt<'_>,
 ) -> Result<Option<&'s FieldInfo>, Unread>
     requires { name.brackets ≤ 127 }
     ensures name { OnOk result (IsReadAs name.entry.brackets name.entry.text.now
@@ -129,10 +129,10 @@ fn field_read<'s>(
 
 /// Puts a text at the slot of a field in use, and returns the one that no slot has then.
 fn put_text<'t>(
-    texts: &mut Vec<Option<Excerpt<'t>>>,
+    texts: &mut Vec<Option<JsonExcerpt<'t>>>,
     field: Option<&FieldInfo>,
-    text: Excerpt<'t>,
-) -> Option<Excerpt<'t>>
+    text: JsonExcerpt<'t>,
+) -> Option<JsonExcerpt<'t>>
     ensures texts { texts.new.items
         ≡ texts_with texts.old.items (option_map field_seen (option_copied field.entry)) text.entry }
     ensures over { result
@@ -151,7 +151,7 @@ fn put_text<'t>(
 }
 
 /// Checks a text, if there is one.
-pub(crate) fn pass_by_text(reader: &mut Reader, text: Option<Excerpt<'_>>) -> Result<(), Unread>
+pub(crate) fn pass_by_text(reader: &mut Reader, text: Option<JsonExcerpt<'_>>) -> Result<(), Unread>
     ensures { OnOk result (IfSome text.entry (λ e. IsRead e.brackets e.text.now)) }
 {
     match text {

@@ -10,9 +10,9 @@ ghost use Rattle.fb_schema.specs.declared.kinds.Shape.TheVariants.{One};
 ghost use Rattle.fb_json.specs.Meant.{names_known};
 ghost use Rattle.fb_encode.specs.StandIns.{IsFieldPut, IsStandIn};
 
-use crate::reader::{Excerpt, Reader, Unread, innermost};
+use crate::reader::{JsonExcerpt, Reader, Unread, innermost};
 use crate::slot_texts::{SlotTexts, members_of, texts_by_slot};
-use fb_json::Source;
+use fb_json::JsonContext;
 use fb_layout::layout_is_well_made;
 use fb_pieces::{
     MOST_BRACKETS, cut_object_is_read, cut_object_is_utf8, text_is_read_without_brackets,
@@ -25,9 +25,9 @@ use std::alloc::AllocError;
 /// value of this shape is wanted; or the tree of a string. None for another text, and for an object that can't be cut.
 #[cycle(stand_ins)]
 pub(crate) fn stand_in(
-    source: Source,
+    source: JsonContext,
     reader: &mut Reader,
-    excerpt: Excerpt<'_>,
+    excerpt: JsonExcerpt<'_>,
     shape: Shape,
 ) -> Result<Option<Json>, Unread>
     requires brackets { excerpt.brackets ≤ 127 }
@@ -51,9 +51,9 @@ pub(crate) fn stand_in(
 /// the text has one where that is a fault.
 #[cycle(stand_ins)]
 fn own_fields(
-    source: Source,
+    source: JsonContext,
     reader: &mut Reader,
-    excerpt: Excerpt<'_>,
+    excerpt: JsonExcerpt<'_>,
     structure: TypeId,
 ) -> Result<Option<Json>, Unread>
     requires some { 0 < excerpt.brackets }
@@ -91,10 +91,10 @@ fn own_fields(
 /// Puts a tree for the text of a field's member, if there is one, under the field's name.
 #[cycle(stand_ins)]
 fn put_field(
-    source: Source,
+    source: JsonContext,
     reader: &mut Reader,
     field: &FieldInfo,
-    text: Option<Excerpt<'_>>,
+    text: Option<JsonExcerpt<'_>>,
     object: &mut Map<String, Json>,
 ) -> Result<(), Unread>
     requires brackets { IfSome text (λ e. e.brackets ≤ 127) }
@@ -122,9 +122,9 @@ fn put_member(object: &mut Map<String, Json>, name: String, tree: Json) -> Resul
 /// A tree for the text of a field's member: its own, or one in its place.
 #[cycle(stand_ins)]
 fn field_tree(
-    source: Source,
+    source: JsonContext,
     reader: &mut Reader,
-    text: Excerpt<'_>,
+    text: JsonExcerpt<'_>,
     shape: Shape,
 ) -> Result<Json, Unread>
     requires brackets { text.brackets ≤ 127 }
@@ -143,7 +143,7 @@ fn field_tree(
 }
 
 /// An object with a member that no field of the type is named like: it has no name. None if a field has none either.
-fn unknown_member(source: Source, owner: TypeId) -> Result<Option<Json>, AllocError>
+fn unknown_member(source: JsonContext, owner: TypeId) -> Result<Option<Json>, AllocError>
     ensures { IfOk result (λ found. IfSome found (λ tree. (ms : Members) × (tree_view tree ≡ object ms)
         × (names_known (body_at source.entry.layout.now.schema owner.0) ms ≡ false))) }
 {

@@ -8,14 +8,14 @@ use crate::excerpts::Wanted;
 use crate::reader::Unread;
 use crate::runs::AfterElements;
 use crate::unnoted::Unnoted;
-use fb_json::{JsonFault, Room, Source, Step, TableSlot, Trail, trace, trace_slot};
+use fb_json::{JsonContext, JsonFault, JsonStep, JsonTrail, Room, TableSlot, trace, trace_slot};
 use fb_schema::Shape;
 use serde_json::Value as Json;
 
 /// What was found after a step, which is added to the trail if that is a fault.
 pub(crate) fn after_step<T>(
-    trail: &mut Trail,
-    step: Step,
+    trail: &mut JsonTrail,
+    step: JsonStep,
     found: Result<T, Unnoted>,
 ) -> Result<T, Unnoted>
     ensures { IfFound result (λ same. found_of found ≡ Some same) }
@@ -38,8 +38,8 @@ fn check_memory(walked: Result<u32, JsonFault>) -> Result<(), Unread> {
 
 /// Adds the steps from a tree to its fault.
 pub(crate) fn trace_tree(
-    source: Source,
-    trail: &mut Trail,
+    source: JsonContext,
+    trail: &mut JsonTrail,
     tree: &Json,
     wanted: Wanted,
 ) -> Result<(), Unread> {
@@ -57,8 +57,8 @@ pub(crate) fn trace_tree(
 
 /// Adds the steps from a slot's member to its fault.
 pub(crate) fn trace_member(
-    source: Source,
-    trail: &mut Trail,
+    source: JsonContext,
+    trail: &mut JsonTrail,
     slot: SlotRead<'_>,
     tree: Option<&Json>,
     room: Room,
@@ -77,8 +77,8 @@ pub(crate) fn trace_member(
 
 /// Adds the steps to the first fault of some elements of a vector, which come after others.
 pub(crate) fn trace_elements(
-    source: Source,
-    trail: &mut Trail,
+    source: JsonContext,
+    trail: &mut JsonTrail,
     trees: &[Json],
     elements: Elements,
     after: AfterElements,
@@ -97,7 +97,7 @@ pub(crate) fn trace_elements(
         match trace(source, trail, tree, Shape::One(kind), place, room) {
             Ok(rest) => left = rest,
             Err(fault) => {
-                let step = Step::Element(after.count.saturating_add(i));
+                let step = JsonStep::Element(after.count.saturating_add(i));
                 return check_memory(Err(trail.push_step(step, fault)));
             }
         }

@@ -9,7 +9,9 @@ ghost use Rattle.fb_encode.specs.TreesNoted.{IsNoted};
 
 use crate::entries::{SlotRead, note_slot};
 use fb_build::Noting;
-use fb_json::{JsonFault, Place, SlotMembers, Source, code_of_slot, is_absent, members_by_slot};
+use fb_json::{
+    JsonContext, JsonFault, Place, SlotMembers, code_of_slot, is_absent, members_by_slot,
+};
 use fb_layout::layout_is_well_made;
 use fb_schema::TypeId;
 use serde_json::{Map, Value as Json};
@@ -17,7 +19,7 @@ use serde_json::{Map, Value as Json};
 /// Notes a table, and returns the cells that are left. A slot without a member mostly costs a look at it.
 #[cycle(notes)]
 pub(crate) fn note_table(
-    source: Source,
+    source: JsonContext,
     noting: &mut Noting<'_>,
     members: &Map<String, Json>,
     owner: TypeId,

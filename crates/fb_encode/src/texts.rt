@@ -11,12 +11,12 @@ ghost use Rattle.fb_encode.specs.TextsEncoded.{IsUnread, TextRefused, first_faul
 ghost use Rattle.fb_encode.specs.TextsRead.{IsRead};
 
 use crate::excerpts::{TextWalk, Wanted, note_excerpt};
-use crate::faults::{EncodeFault, TextFault};
-use crate::reader::{Excerpt, Reader, Unread};
+use crate::faults::{EncodeFault, JsonTextFault};
+use crate::reader::{JsonExcerpt, Reader, Unread};
 use crate::trees::{note_root, plan_noted};
 use crate::unnoted::Unnoted;
 use fb_build::{Noting, TapePlan};
-use fb_json::{JsonFault, Place, Source, Trail, first_fault_refuses, only_what_is_meant};
+use fb_json::{JsonContext, JsonFault, JsonTrail, Place, first_fault_refuses, only_what_is_meant};
 use fb_pieces::{MOST_BRACKETS, is_json_at};
 use fb_schema::{Kind, Shape};
 use fb_tape::Tape;
@@ -30,18 +30,18 @@ use std::alloc::Global;
 pub const PIECE: usize = 16_384;
 
 /// The fault of a text whose first fault this is.
-fn first_fault(fault: JsonFault) -> TextFault
+fn first_fault(fault: JsonFault) -> JsonTextFault
     ensures { result ≡ first_fault fault }
 {
     match fault {
-        JsonFault::Memory => TextFault::Memory,
-        _ => TextFault::Encode(EncodeFault::Json(fault)),
+        JsonFault::Memory => JsonTextFault::Memory,
+        _ => JsonTextFault::Encode(EncodeFault::Json(fault)),
     }
 }
 
 /// Notes the value that a text means, which is read in pieces, on a tape of nothing.
 pub(crate) fn note_pieces(
-    source: Source,
+    source: JsonContext,
     walk: &mut TextWalk<'_>,
     json: &[u8],
     limits: Limits,
@@ -62,7 +62,7 @@ pub(crate) fn note_pieces(
         owner: root,
         slot: None,
     };
-    let excerpt = Excerpt {
+    let excerpt = JsonExcerpt {
         text: json,
         brackets: MOST_BRACKETS,
         at: 0,
@@ -79,10 +79,10 @@ pub(crate) fn note_pieces(
 
 /// A walk over a text that is read in pieces, which has noted nothing yet.
 pub(crate) fn walk_over<'l>(
-    source: Source<'l>,
+    source: JsonContext<'l>,
     json: &[u8],
     piece: usize,
-    trail: Trail,
+    trail: JsonTrail,
 ) -> Result<TextWalk<'l>, Unread>
     ensures layout { IfOk result (λ walk. walk.noting.tape.layout ≡ source.entry.layout.now) }
     ensures waits { IfOk result (λ walk. Waits walk.noting.tape []) }
@@ -90,7 +90,7 @@ pub(crate) fn walk_over<'l>(
     ensures room { IfOk result (λ walk. walk.noting.tape.room ≡ 0) }
 {
     Ok(TextWalk {
-        reader: Reader::over(source.alloc, json, piece)?,
+        reader: Reader::new(source.alloc, json, piece)?,
         noting: Noting::new(source.alloc, source.layout),
         trail,
     })
@@ -98,7 +98,7 @@ pub(crate) fn walk_over<'l>(
 
 /// A tape on which the value is noted that a text means, which is read in pieces.
 fn note_in_pieces<'l>(
-    source: Source<'l>,
+    source: JsonContext<'l>,
     json: &[u8],
     limits: Limits,
     piece: usize,
@@ -107,13 +107,17 @@ fn note_in_pieces<'l>(
     ensures refused { IfErr result (λ e. IfFault e (λ f.
         IsUnread source.entry.layout.now limits source.entry.unknown json.now (first_fault f))) }
 {
-    let mut walk = walk_over(source, json, piece, Trail::none())?;
+    let mut walk = walk_over(source, json, piece, JsonTrail::none())?;
     note_pieces(source, &mut walk, json, limits)?;
     Ok(walk.into_tape())
 }
 
 /// The same of a text that is read at once.
-fn note_at_once<'l>(source: Source<'l>, json: &[u8], limits: Limits) -> Result<Tape<'l>, TextFault>
+fn note_at_once<'l>(
+    source: JsonContext<'l>,
+    json: &[u8],
+    limits: Limits,
+) -> Result<Tape<'l>, JsonTextFault>
     ensures noted { IfOk result (IsTextNoted source.entry.layout.now limits source.entry.unknown json.now) }
     ensures refused { IfErr result (IsUnread source.entry.layout.now limits source.entry.unknown json.now) }
 {
@@ -122,43 +126,43 @@ fn note_at_once<'l>(source: Source<'l>, json: &[u8], limits: Limits) -> Result<T
         Ok(tree) => tree,
         Err(error) => {
             return Err(if error.is_memory() {
-                TextFault::Memory
+                JsonTextFault::Memory
             } else {
-                TextFault::BadJson
+                JsonTextFault::BadJson
             });
         }
     };
     let Ok(noting) = Noting::with_capacity(source.alloc, source.layout) else {
-        return Err(TextFault::Memory);
+        return Err(JsonTextFault::Memory);
     };
     match note_root(source, noting, &tree, limits) {
         Ok(tape) => Ok(tape),
-        Err(fault) => Err(TextFault::Encode(EncodeFault::Json(fault))),
+        Err(fault) => Err(JsonTextFault::Encode(EncodeFault::Json(fault))),
     }
 }
 
 /// Checks that a text is JSON, without a tree.
 // Its scratch is large, and no caller is to have it in its own frame.
 #[inline(never)]
-pub(crate) fn check_json(alloc: Global, json: &[u8]) -> Result<(), TextFault>
+pub(crate) fn check_json(alloc: Global, json: &[u8]) -> Result<(), JsonTextFault>
     ensures refused { IfErr result (λ f. (L : LaidSchema) (most : Bounds) (unknown : Bool)
         → IsUnread L most unknown json.now f) }
     ensures json { OnOk result (IsRead 127 json.now) }
 {
     match is_json_at(json, MOST_BRACKETS, &mut Scratch::new(alloc)) {
         Ok(true) => Ok(()),
-        Ok(false) => Err(TextFault::BadJson),
-        Err(_) => Err(TextFault::Memory),
+        Ok(false) => Err(JsonTextFault::BadJson),
+        Err(_) => Err(JsonTextFault::Memory),
     }
 }
 
 /// A tape on which the value is noted that a text means.
 fn note_text<'l>(
-    source: Source<'l>,
+    source: JsonContext<'l>,
     json: &[u8],
     limits: Limits,
     piece: usize,
-) -> Result<Tape<'l>, TextFault>
+) -> Result<Tape<'l>, JsonTextFault>
     ensures noted { IfOk result (IsTextNoted source.entry.layout.now limits source.entry.unknown json.now) }
     ensures refused { IfErr result (IsUnread source.entry.layout.now limits source.entry.unknown json.now) }
 {
@@ -166,7 +170,7 @@ fn note_text<'l>(
         match note_in_pieces(source, json, limits, piece) {
             Ok(tape) => return Ok(tape),
             Err(Unnoted::Fault(fault)) => return Err(first_fault(fault)),
-            Err(Unnoted::Unread(Unread::Memory)) => return Err(TextFault::Memory),
+            Err(Unnoted::Unread(Unread::Memory)) => return Err(JsonTextFault::Memory),
             // If the whole is JSON nevertheless, it was cut at a wrong place.
             Err(Unnoted::Unread(Unread::Piece)) => check_json(source.alloc, json)?,
         }
@@ -176,10 +180,10 @@ fn note_text<'l>(
 
 /// The plan of the buffer of a text whose value is noted.
 fn plan_tape<'l>(
-    source: Source<'l>,
+    source: JsonContext<'l>,
     tape: Tape<'l>,
     prefixed: bool,
-) -> Result<TapePlan<'l>, TextFault>
+) -> Result<TapePlan<'l>, JsonTextFault>
     requires { (d : Datum) × NotesRoot source.layout.now tape d }
     ensures planned { let L = source.entry.layout.now in (most : Bounds) (unknown : Bool) (json : List ℕ)
         → IsTextNoted L most unknown json tape.entry → IfOk result (IsTextPlanned prefixed L most unknown json) }
@@ -189,7 +193,7 @@ fn plan_tape<'l>(
 {
     match plan_noted(source, tape, prefixed) {
         Ok(plan) => Ok(plan),
-        Err(fault) => Err(TextFault::Encode(EncodeFault::Build(fault))),
+        Err(fault) => Err(JsonTextFault::Encode(EncodeFault::Build(fault))),
     }
 }
 
@@ -199,12 +203,12 @@ fn plan_tape<'l>(
 /// read. Which they are changes nothing of the result. The error is that of the text, then that of its first fault, and
 /// then that of the value's size. A `prefixed` buffer has a size prefix.
 pub fn encode_text(
-    source: Source,
+    source: JsonContext,
     json: &[u8],
     limits: Limits,
     piece: usize,
     prefixed: bool,
-) -> Result<Vec<u8>, TextFault>
+) -> Result<Vec<u8>, JsonTextFault>
     ensures encoded { IfOk result (λ b. IsTextEncoded prefixed source.entry.layout.now limits source.entry.unknown
         json.now b.items) }
     ensures refused { IfErr result (TextRefused prefixed source.entry.layout.now limits source.entry.unknown json.now) }
@@ -224,12 +228,12 @@ pub fn encode_text(
 /// The JSON text is freed once its value is noted, before memory for the buffer is taken. A text that is refused stays
 /// as it is: one that isn't JSON, or whose meaning breaks a rule.
 pub fn plan_text<'l>(
-    source: Source<'l>,
+    source: JsonContext<'l>,
     json: &mut Vec<u8>,
     limits: Limits,
     piece: usize,
     prefixed: bool,
-) -> Result<TapePlan<'l>, TextFault>
+) -> Result<TapePlan<'l>, JsonTextFault>
     ensures planned { IfOk result (IsTextPlanned prefixed source.entry.layout.now limits source.entry.unknown
         json.old.items) }
     ensures refused { IfErr result (TextRefused prefixed source.entry.layout.now limits source.entry.unknown

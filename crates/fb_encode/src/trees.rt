@@ -16,14 +16,14 @@ ghost use Rattle.fb_encode.specs.declared.faults.EncodeFault.TheVariants.{Build}
 
 use crate::parts::note_object;
 use fb_build::{BuildFault, Noting, TapePlan, plan_root};
-use fb_json::{JsonFault, Place, Source, only_what_is_meant};
+use fb_json::{JsonContext, JsonFault, Place, only_what_is_meant};
 use fb_tape::Tape;
 use fb_value::Limits;
 use serde_json::Value as Json;
 
 /// The tape with the value that a tree means under the root table, where nothing was noted yet.
 pub(crate) fn note_root<'l>(
-    source: Source<'l>,
+    source: JsonContext<'l>,
     noting: Noting<'l>,
     tree: &Json,
     limits: Limits,
@@ -55,10 +55,9 @@ pub(crate) fn note_root<'l>(
     }
 }
 
-/// The plan of the buffer of the value that is noted on a tape, as the root's. A `prefixed` buffer has the count of its
-/// bytes in front.
+/// The plan of the buffer of the value that is noted on a tape, as the root's. A `prefixed` buffer has a size prefix.
 pub(crate) fn plan_noted<'l>(
-    source: Source<'l>,
+    source: JsonContext<'l>,
     tape: Tape<'l>,
     prefixed: bool,
 ) -> Result<TapePlan<'l>, BuildFault>

@@ -15,12 +15,12 @@ ghost use Rattle.fb_encode.specs.TreesNoted.{AddsTargets};
 use crate::elements::Elements;
 use crate::excerpts::{TextWalk, note_at_once, note_excerpt};
 use crate::parts::note_targets;
-use crate::reader::Excerpt;
+use crate::reader::JsonExcerpt;
 use crate::runs::{AfterElements, elements_of, elements_read, left_for, once_runs_read};
 use crate::slot_texts::piece_of;
 use crate::steps::{after_step, trace_elements};
 use crate::unnoted::Unnoted;
-use fb_json::{Source, Step};
+use fb_json::{JsonContext, JsonStep};
 use fb_pieces::{
     MOST_BRACKETS, Run, cut_array, cut_array_is_read, cut_array_is_utf8, elements_make_the_array,
     text_is_read_without_brackets,
@@ -30,9 +30,9 @@ use serde_json::Value as Json;
 /// Notes a vector of texts or tables, and returns the cells that are left.
 #[cycle(reads)]
 pub(crate) fn note_runs(
-    source: Source,
+    source: JsonContext,
     walk: &mut TextWalk<'_>,
-    excerpt: Excerpt<'_>,
+    excerpt: JsonExcerpt<'_>,
     elements: Elements,
     left: u32,
 ) -> Result<u32, Unnoted>
@@ -77,9 +77,9 @@ pub(crate) fn note_runs(
 /// Notes what a run of a vector's elements names, and returns the cells that are left.
 #[cycle(reads)]
 fn note_run(
-    source: Source,
+    source: JsonContext,
     walk: &mut TextWalk<'_>,
-    array: Excerpt<'_>,
+    array: JsonExcerpt<'_>,
     run: Run,
     elements: Elements,
     after: AfterElements,
@@ -113,9 +113,9 @@ fn note_run(
 /// Notes a long element of a vector, and returns the cells that are left.
 #[cycle(reads)]
 fn note_element(
-    source: Source,
+    source: JsonContext,
     walk: &mut TextWalk<'_>,
-    excerpt: Excerpt<'_>,
+    excerpt: JsonExcerpt<'_>,
     elements: Elements,
     after: AfterElements,
 ) -> Result<u32, Unnoted>
@@ -132,12 +132,12 @@ fn note_element(
     ensures opened { OnOk result (walk.new.noting.opened ≡ walk.old.noting.opened) }
 {
     let noted = note_excerpt(source, walk, excerpt, elements.element(after.left));
-    after_step(&mut walk.trail, Step::Element(after.count), noted)
+    after_step(&mut walk.trail, JsonStep::Element(after.count), noted)
 }
 
 /// Notes elements of a vector that are trees, and returns the cells that are left.
 fn note_trees(
-    source: Source,
+    source: JsonContext,
     walk: &mut TextWalk<'_>,
     trees: &[Json],
     elements: Elements,

@@ -8,28 +8,28 @@ use crate::rules::{BrokenValue, push_rule};
 use fb_encode::{PIECE, text_fault_path};
 use fb_faults::ToolFault;
 use fb_findings::{Finding, Note, Sources};
-use fb_json::{JsonFault, Source as JsonSource, Step};
+use fb_json::{JsonContext, JsonFault, JsonStep};
 use fb_layout::Layout;
 use fb_schema::field_at;
 use std::alloc::{AllocError, Global};
 use std::str;
 
 /// The name of a step's field.
-fn field_name(layout: &Layout, step: Step) -> Option<&str> {
+fn field_name(layout: &Layout, step: JsonStep) -> Option<&str> {
     match step {
-        Step::Slot(owner, slot) | Step::Field(owner, slot) => {
+        JsonStep::Slot(owner, slot) | JsonStep::Field(owner, slot) => {
             Some(field_at(layout.schema(), owner, slot)?.name.as_str())
         }
-        Step::Element(_) => None,
+        JsonStep::Element(_) => None,
     }
 }
 
 /// Adds a path from the root, as `weapons[2].damage`.
-fn push_path(note: &mut Note, layout: &Layout, steps: &[Step]) {
+fn push_path(note: &mut Note, layout: &Layout, steps: &[JsonStep]) {
     let mut is_first = true;
     for step in steps {
         match step {
-            Step::Element(index) => {
+            JsonStep::Element(index) => {
                 note.push_str("[");
                 note.push_number(*index as u64);
                 note.push_str("]");
@@ -50,10 +50,10 @@ fn step_offset(
     alloc: Global,
     layout: &Layout,
     text: &str,
-    step: Step,
+    step: JsonStep,
 ) -> Result<Option<usize>, AllocError> {
     match step {
-        Step::Element(index) => element_offset(alloc, text, index),
+        JsonStep::Element(index) => element_offset(alloc, text, index),
         _ => match field_name(layout, step) {
             Some(name) => member_offset(alloc, text, name),
             None => Ok(None),
@@ -73,7 +73,7 @@ fn offset_of_path(
     alloc: Global,
     layout: &Layout,
     text: &str,
-    steps: &[Step],
+    steps: &[JsonStep],
 ) -> Result<Found, AllocError> {
     let mut offset = text.len().saturating_sub(text.trim_start().len());
     for step in steps {
@@ -97,7 +97,7 @@ fn found_at(
     layout: &Layout,
     text: &str,
     fault: JsonFault,
-    steps: &[Step],
+    steps: &[JsonStep],
 ) -> Result<(Option<Name>, Found), AllocError> {
     let found = offset_of_path(alloc, layout, text, steps)?;
     let unknown = match fault {
@@ -116,23 +116,23 @@ fn found_at(
 
 /// What is wrong at the end of a path.
 fn finding_at<'s>(
-    source: JsonSource<'_>,
+    source: JsonContext<'_>,
     sources: &Sources<'s>,
     text: &str,
     fault: JsonFault,
-    steps: &[Step],
+    steps: &[JsonStep],
 ) -> Result<Finding<'s>, AllocError>
     ensures fault { IfOk result (λ f. f.fault ≡ ToolFault.Json fault) }
     ensures line { IfOk result (λ f. IfSome f.place (IsLineOf sources.now.input.bytes.now)) }
 {
-    let JsonSource { alloc, layout, .. } = source;
+    let JsonContext { alloc, layout, .. } = source;
     let (unknown, found) = found_at(alloc, layout, text, fault, steps)?;
     let unknown_at = unknown.as_ref().map_or(0, |name| name.at);
     let unknown_name = unknown.as_ref().map(|name| name.text.as_str());
     let value = BrokenValue {
         text: rest_of(text, found.offset),
         is_there: found.is_there,
-        is_element: matches!(steps.last(), Some(Step::Element(_))),
+        is_element: matches!(steps.last(), Some(JsonStep::Element(_))),
     };
     let mut note = Note::new(alloc);
     push_rule(
@@ -162,7 +162,7 @@ pub fn json_finding<'s>(
     ensures fault { IfOk result (λ f. f.fault ≡ ToolFault.Json fault) }
     ensures line { IfOk result (λ f. IfSome f.place (IsLineOf sources.now.input.bytes.now)) }
 {
-    let source = JsonSource {
+    let source = JsonContext {
         alloc,
         layout,
         unknown: sources.unknown_json,

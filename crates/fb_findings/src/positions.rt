@@ -44,17 +44,17 @@ fn front(text: &[u8], offset: usize) -> &[u8]
     text.get(..offset).unwrap_or(text)
 }
 
-fn without(text: &[u8], len: usize) -> &[u8]
+fn skip(text: &[u8], len: usize) -> &[u8]
     ensures { result.now ≡ drop len text.now }
 {
     text.get(len..).unwrap_or(&[])
 }
 
 /// What is before an offset, without the mark.
-fn before(text: &[u8], offset: usize) -> &[u8]
+fn text_before(text: &[u8], offset: usize) -> &[u8]
     ensures { result.now ≡ before text.now offset }
 {
-    without(front(text, offset), mark_len(text))
+    skip(front(text, offset), mark_len(text))
 }
 
 fn feed_count(text: &[u8]) -> usize
@@ -84,8 +84,8 @@ pub fn line_start(text: &[u8]) -> usize
 pub(crate) fn column_of(text: &[u8], offset: usize) -> usize
     ensures { IsColumn text.now offset result }
 {
-    let before = before(text, offset);
-    1 + character_count(without(before, line_start(before)))
+    let before = text_before(text, offset);
+    1 + character_count(skip(before, line_start(before)))
 }
 
 impl Position {
@@ -98,7 +98,7 @@ impl Position {
         ensures column { IsColumn text.now offset result.column }
     {
         Position {
-            line: 1 + feed_count(before(text, offset)),
+            line: 1 + feed_count(text_before(text, offset)),
             column: column_of(text, offset),
         }
     }

@@ -1,14 +1,14 @@
 -- How far a listing is: which pieces are left, and what a call lists.
 use Rattle.std.specs.Prelude.{ℕ, ◌≡◌, ◌<◌, ◌⊎◌, List, drop}
 use Rattle.fb_inspect.specs.declared.listing.Listing.{Listing}
-use Rattle.fb_inspect.specs.declared.pieces.Piece.{Piece}
+use Rattle.fb_inspect.specs.declared.pieces.BufferPiece.{BufferPiece}
 
 -- all pieces of a listing, in order
-abbrev pub pieces_of : Listing → List Piece
+abbrev pub pieces_of : Listing → List BufferPiece
 pieces_of listing = listing.pieces.items
 
 -- the pieces with lines that weren't returned yet
-abbrev pub left_of : Listing → List Piece
+abbrev pub left_of : Listing → List BufferPiece
 left_of listing = drop listing.next listing.pieces.items
 
 -- How many details of the first piece left were returned. Its first line comes with the first of them, so 0 says that

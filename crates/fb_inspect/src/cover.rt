@@ -3,18 +3,18 @@ ghost use Rattle.std.specs.Prelude.{◌≡◌, ◌++◌, [], ◌∷◌, IfOk, On
 ghost use Rattle.fb_inspect.specs.Covers.{CoversBelow};
 ghost use Rattle.fb_inspect.specs.Listings.{BeginBy, IsInOrder, IsListedTo, head_of, noted_in};
 
-use crate::pieces::{Piece, What};
+use crate::pieces::{BufferPiece, What};
 use std::alloc::{AllocError, Global};
 
 /// Adds a piece for the bytes from one position up to another, if there are any.
-fn push_gap(pieces: &mut Vec<Piece>, start: u32, end: u32) -> Result<(), AllocError>
+fn push_gap(pieces: &mut Vec<BufferPiece>, start: u32, end: u32) -> Result<(), AllocError>
     requires before { IsListedTo pieces.old.items start }
     ensures listed { OnOk result (IsListedTo pieces.new.items (max start end)) }
     ensures kept { OnOk result (noted_in pieces.new.items ≡ noted_in pieces.old.items) }
     ensures begun { OnOk result (BeginBy end pieces.old.items → BeginBy end pieces.new.items) }
 {
     if start < end {
-        let gap = Piece {
+        let gap = BufferPiece {
             start,
             end,
             node: 0,
@@ -26,7 +26,11 @@ fn push_gap(pieces: &mut Vec<Piece>, start: u32, end: u32) -> Result<(), AllocEr
 }
 
 /// Adds a piece after others that have each byte before it; returns up to where they have each byte then.
-fn push_piece(pieces: &mut Vec<Piece>, covered: u32, piece: Piece) -> Result<u32, AllocError>
+fn push_piece(
+    pieces: &mut Vec<BufferPiece>,
+    covered: u32,
+    piece: BufferPiece,
+) -> Result<u32, AllocError>
     requires before { IsListedTo pieces.old.items covered }
     requires begun { BeginBy piece.start pieces.old.items }
     ensures listed { IfOk result (IsListedTo pieces.new.items) }
@@ -40,11 +44,11 @@ fn push_piece(pieces: &mut Vec<Piece>, covered: u32, piece: Piece) -> Result<u32
 }
 
 /// A piece before the next one. An unknown field ends where that begins, since how long it is isn't known.
-fn before_next(piece: Piece, next: Option<&Piece>) -> Piece
+fn before_next(piece: BufferPiece, next: Option<&BufferPiece>) -> BufferPiece
     ensures { head_of result ≡ head_of piece }
 {
     match (piece.what, next) {
-        (What::UnknownField(_), Some(next)) if piece.start < next.start => Piece {
+        (What::UnknownField(_), Some(next)) if piece.start < next.start => BufferPiece {
             end: piece.end.min(next.start),
             ..piece
         },
@@ -57,9 +61,9 @@ fn before_next(piece: Piece, next: Option<&Piece>) -> Piece
 /// They are in the order of their begins, as those that are given. It takes memory for all of them.
 pub(crate) fn without_gaps(
     alloc: Global,
-    pieces: &[Piece],
+    pieces: &[BufferPiece],
     len: u32,
-) -> Result<Vec<Piece>, AllocError>
+) -> Result<Vec<BufferPiece>, AllocError>
     requires ordered { IsInOrder pieces.now }
     ensures covers { IfOk result (λ all. CoversBelow all.items len) }
     ensures ordered { IfOk result (λ all. IsInOrder all.items) }

@@ -4,7 +4,7 @@ use crate::notes::{u16_within, u32_within};
 use crate::page_lines::begin_line;
 use crate::parts_shown::{push_target, slots_held};
 use crate::paths::{Scene, path_of, push_cut_path};
-use crate::pieces::{Piece, What};
+use crate::pieces::{BufferPiece, What};
 use crate::values_shown::push_number_at;
 use fb_explain_pages::Page;
 use fb_layout::kind_in;
@@ -13,7 +13,7 @@ use fb_schema::{FieldInfo, Kind, Shape, TypeId, field_at, kind_name};
 use std::alloc::AllocError;
 
 /// How many details a piece has.
-pub(crate) fn details_of(scene: Scene<'_>, piece: &Piece) -> u32 {
+pub(crate) fn details_of(scene: Scene<'_>, piece: &BufferPiece) -> u32 {
     let Some(node) = scene.nodes.get(piece.node) else {
         return 0;
     };
@@ -50,7 +50,13 @@ fn begin_detail(page: &mut Page, scene: Scene<'_>, start: usize, len: usize) {
 }
 
 /// Adds the line of a number of a vtable: its size, the table's, or a slot's.
-fn push_vtable_number(page: &mut Page, scene: Scene<'_>, piece: &Piece, table: TypeId, i: u32) {
+fn push_vtable_number(
+    page: &mut Page,
+    scene: Scene<'_>,
+    piece: &BufferPiece,
+    table: TypeId,
+    i: u32,
+) {
     let at = (piece.start as usize).saturating_add((i as usize).saturating_mul(2));
     let number = u64::from(u16_within(scene.bytes, at));
     begin_detail(page, scene, at, 2);
@@ -184,7 +190,7 @@ fn push_value(page: &mut Page, scene: Scene<'_>, kind: Kind, at: usize, path: &s
 }
 
 /// Adds a detail of a piece.
-pub(crate) fn push_detail(page: &mut Page, scene: Scene<'_>, piece: &Piece, i: u32) {
+pub(crate) fn push_detail(page: &mut Page, scene: Scene<'_>, piece: &BufferPiece, i: u32) {
     let Some(node) = scene.nodes.get(piece.node) else {
         return;
     };

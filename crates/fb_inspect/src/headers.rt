@@ -40,7 +40,7 @@ fn looks_prefixed(bytes: &[u8]) -> bool {
 /// identifier, and whether the buffer looks size-prefixed.
 ///
 /// An identifier is optional, so four bytes that look like one may be another part of the buffer. The offset
-/// and the identifier are those after the count where the buffer looks size-prefixed.
+/// and the identifier are those after the prefix where the buffer looks size-prefixed.
 pub fn header_lines(alloc: Global, bytes: &[u8]) -> Result<String, AllocError>
     ensures plain { IfOk result (λ text. IsPage (chars (string_bytes text))) }
 {

@@ -14,7 +14,7 @@ use crate::notes::Notes;
 use crate::page_lines::begin_piece;
 use crate::parts_shown::push_head;
 use crate::paths::{Scene, path_back, push_cut_path};
-use crate::pieces::{Piece, What};
+use crate::pieces::{BufferPiece, What};
 use fb_explain_pages::Page;
 use fb_layout::Layout;
 use fb_read::{Buffer, Entries, ReadFault, Step, visit_buffer};
@@ -35,7 +35,7 @@ pub struct Listing<'a> {
     layout: &'a Layout,
     bytes: &'a [u8],
     nodes: Nodes,
-    pieces: Vec<Piece>,
+    pieces: Vec<BufferPiece>,
     fault: Option<ReadFault>,
     /// The steps back from the fault, the last one first, and whether it has a path, since it isn't of the front.
     way_back: Vec<Step>,
@@ -53,7 +53,7 @@ pub struct Listing<'a> {
 /// What a call of `next_lines` lists of a piece: some of its details, after its first line if they are the first.
 #[derive(Clone, Copy, Drop)]
 struct Turn {
-    piece: Piece,
+    piece: BufferPiece,
     /// The details that are listed, from this one up to the other.
     start: u32,
     end: u32,
@@ -63,7 +63,7 @@ struct Turn {
 
 /// Notes the pieces of a buffer's front: a count, the reference to the root, and the identifier.
 fn note_front(notes: &mut Notes<'_>, front: usize) {
-    notes.note(0, 0, front, What::Count);
+    notes.note(0, 0, front, What::SizePrefix);
     notes.note(0, front, 4, What::Root);
     if notes.layout.schema().identifier().is_some() {
         notes.note(0, front.saturating_add(4), 4, What::Identifier);
@@ -98,12 +98,12 @@ fn collect<'a>(
 }
 
 /// Where a fault is listed: at its offset if it has one, and at most where the bytes end.
-fn fault_piece(fault: ReadFault, bytes: &[u8]) -> Piece
+fn fault_piece(fault: ReadFault, bytes: &[u8]) -> BufferPiece
     ensures { result ≡ fault_piece (length bytes.now) fault }
 {
     let len = bytes.len().min(u32::MAX as usize) as u64;
     let at = fault.offset().unwrap_or(0).min(len) as u32;
-    Piece {
+    BufferPiece {
         start: at,
         end: at,
         node: 0,
@@ -113,7 +113,7 @@ fn fault_piece(fault: ReadFault, bytes: &[u8]) -> Piece
 
 /// Adds the piece of a fault, if there is one.
 fn push_fault(
-    pieces: &mut Vec<Piece>,
+    pieces: &mut Vec<BufferPiece>,
     fault: Option<ReadFault>,
     bytes: &[u8],
 ) -> Result<(), AllocError>
@@ -128,10 +128,10 @@ fn push_fault(
 /// The pieces of a buffer and of its fault in their order, with the gaps between them.
 fn in_order(
     alloc: Global,
-    pieces: Vec<Piece>,
+    pieces: Vec<BufferPiece>,
     fault: Option<ReadFault>,
     bytes: &[u8],
-) -> Result<Vec<Piece>, AllocError>
+) -> Result<Vec<BufferPiece>, AllocError>
     ensures covers { IfOk result (λ all. CoversBelow all.items (min (length bytes.now) 4294967295)) }
     ensures ordered { IfOk result (λ all. IsInOrder all.items) }
     ensures kept { IfOk result (λ all. IsKeptIn (with_fault (length bytes.now) fault pieces.items) all.items) }
@@ -266,7 +266,7 @@ impl<'a> Listing<'a> {
     }
 
     /// Adds a piece's first line.
-    fn push_first(&self, page: &mut Page, piece: &Piece) {
+    fn push_first(&self, page: &mut Page, piece: &BufferPiece) {
         match piece.what {
             What::Fault => self.push_fault_line(page, piece),
             _ => self.push_piece(page, piece),
@@ -274,13 +274,13 @@ impl<'a> Listing<'a> {
     }
 
     /// Whether a piece begins before one above it ends. Tables of several types may have one vtable.
-    fn overlaps(&self, piece: &Piece) -> bool {
+    fn overlaps(&self, piece: &BufferPiece) -> bool {
         let is_again = matches!(piece.what, What::Vtable) && self.vtable == Some(piece.start);
         piece.start < self.covered && !is_again
     }
 
     /// Adds the line of a piece that isn't the fault.
-    fn push_piece(&self, page: &mut Page, piece: &Piece) {
+    fn push_piece(&self, page: &mut Page, piece: &BufferPiece) {
         let is_whole = self.fault.is_none();
         let overlaps = self.overlaps(piece);
         push_head(page, self.scene(), piece, is_whole, overlaps);
@@ -306,7 +306,7 @@ impl<'a> Listing<'a> {
     }
 
     /// Adds the line of the fault.
-    fn push_fault_line(&self, page: &mut Page, piece: &Piece) {
+    fn push_fault_line(&self, page: &mut Page, piece: &BufferPiece) {
         begin_piece(page, self.bytes, piece);
         let Some(fault) = self.fault else {
             page.end_line();

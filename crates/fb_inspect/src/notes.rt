@@ -2,7 +2,7 @@
 ghost use Rattle.std.specs.Prelude.{◌<◌, ◌^◌};
 
 use crate::nodes::{Lead, Reached};
-use crate::pieces::{Piece, What};
+use crate::pieces::{BufferPiece, What};
 use fb_index::HashKey;
 use fb_layout::Layout;
 use fb_read::{
@@ -13,7 +13,7 @@ use std::alloc::Global;
 
 /// A part that the walk is at.
 #[derive(Clone, Copy)]
-struct Open<'a> {
+struct WalkedPart<'a> {
     node: u32,
     /// The table, where the walk is at it for the first time and its own rules hold.
     table: Option<EnteredTable<'a>>,
@@ -30,20 +30,20 @@ pub(crate) struct Notes<'a> {
     pub layout: &'a Layout,
     pub bytes: &'a [u8],
     pub reached: Reached,
-    pub pieces: Vec<Piece>,
+    pub pieces: Vec<BufferPiece>,
     /// The steps back from the fault that a walk has found, the last one first.
     pub way_back: Vec<Step>,
     /// Whether a walk was made, since the front keeps its rules.
     pub is_walked: bool,
     /// Whether something is missing since memory ran out.
     pub is_cut: bool,
-    open: Vec<Open<'a>>,
+    open: Vec<WalkedPart<'a>>,
     /// How many fields were noted that the tables' types don't have.
     unknown: usize,
 }
 
 /// A position as it is noted. Only the target of a last reference, past the bytes, may be beyond it.
-fn noted(at: usize) -> u32 {
+fn position_of(at: usize) -> u32 {
     u32::try_from(at).unwrap_or(u32::MAX)
 }
 
@@ -69,9 +69,9 @@ impl<'a> Notes<'a> {
         if start >= end {
             return;
         }
-        let piece = Piece {
-            start: noted(start),
-            end: noted(end),
+        let piece = BufferPiece {
+            start: position_of(start),
+            end: position_of(end),
             node,
             what,
         };
@@ -92,7 +92,7 @@ impl<'a> Notes<'a> {
         let lead = Lead::of(part);
         let Ok((node, is_new)) = self
             .reached
-            .reach(lead, noted(at), (parent, number), counts)
+            .reach(lead, position_of(at), (parent, number), counts)
         else {
             self.is_cut = true;
             return None;
@@ -106,7 +106,7 @@ impl<'a> Notes<'a> {
             Some(table) => self.count_of(table),
             None => 0,
         };
-        let open = Open {
+        let open = WalkedPart {
             node,
             table,
             next: 0,
@@ -181,13 +181,18 @@ impl<'a> Notes<'a> {
     /// Which element of a vector of references is at a position.
     fn element_at(&self, node: u32, at: usize) -> u32 {
         match self.reached.nodes.get(node) {
-            Some(vector) => { noted(at).saturating_sub(vector.at).saturating_sub(4) / 4 }
+            Some(vector) => { position_of(at).saturating_sub(vector.at).saturating_sub(4) / 4 }
             None => 0,
         }
     }
 
     /// The next slot of a table that has the reference at a position. What is in the slots up to it is noted.
-    fn slot_with(&mut self, open: Open<'a>, table: EnteredTable<'a>, reference_at: usize) -> u32 {
+    fn slot_with(
+        &mut self,
+        open: WalkedPart<'a>,
+        table: EnteredTable<'a>,
+        reference_at: usize,
+    ) -> u32 {
         for slot in open.next..open.count {
             let found = self.note_slot(open.node, table, slot.min(65535) as u16);
             if found == Some(reference_at) {
@@ -200,7 +205,7 @@ impl<'a> Notes<'a> {
     }
 
     /// Notes what a table has in its slots before one of this number, as far as they aren't noted yet.
-    fn note_slots(&mut self, open: Open<'a>, end: u32) {
+    fn note_slots(&mut self, open: WalkedPart<'a>, end: u32) {
         let Some(table) = open.table else {
             return;
         };
@@ -267,7 +272,7 @@ impl<'a> Notes<'a> {
     fn note_vtable(&mut self, node: u32, table: EnteredTable<'a>) {
         let at = table.vtable_at();
         let lead = Lead::Vtable(table.table);
-        match self.reached.reach(lead, noted(at), (node, 0), true) {
+        match self.reached.reach(lead, position_of(at), (node, 0), true) {
             Ok((vtable, true)) => {
                 let size = usize::from(u16_within(self.bytes, at));
                 self.note(vtable, at, size, What::Vtable);

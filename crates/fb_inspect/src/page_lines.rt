@@ -1,5 +1,5 @@
 //! What each line begins with: a range and its bytes.
-use crate::pieces::Piece;
+use crate::pieces::BufferPiece;
 use fb_explain_pages::Page;
 
 // How many bytes of a range are shown, and how many columns each takes with the space after it.
@@ -71,6 +71,6 @@ pub(crate) fn begin_line(page: &mut Page, bytes: &[u8], start: usize, end: usize
 }
 
 /// Begins the line of a piece.
-pub(crate) fn begin_piece(page: &mut Page, bytes: &[u8], piece: &Piece) {
+pub(crate) fn begin_piece(page: &mut Page, bytes: &[u8], piece: &BufferPiece) {
     begin_line(page, bytes, piece.start as usize, piece.end as usize);
 }

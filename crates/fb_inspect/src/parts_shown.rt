@@ -3,7 +3,7 @@ use crate::nodes::{Lead, Node};
 use crate::notes::{u16_within, u32_within};
 use crate::page_lines::begin_piece;
 use crate::paths::{Scene, push_path};
-use crate::pieces::{Piece, What};
+use crate::pieces::{BufferPiece, What};
 use crate::values_shown::{push_code, push_number_at, push_numbers, push_text};
 use fb_explain_pages::Page;
 use fb_findings::push_shape;
@@ -85,7 +85,7 @@ fn push_length(page: &mut Page, scene: Scene<'_>, node: &Node) {
 }
 
 /// Adds what a string or a vector has.
-fn push_content(page: &mut Page, scene: Scene<'_>, node: &Node, piece: &Piece) {
+fn push_content(page: &mut Page, scene: Scene<'_>, node: &Node, piece: &BufferPiece) {
     let at = piece.start as usize;
     match node.lead {
         Lead::Vector(kind) => {
@@ -112,14 +112,13 @@ fn step_to(what: What, table: TypeId) -> Option<Step> {
             Some(Step::Slot(table, slot))
         }
         What::Table | What::UnknownField(_) | What::Length | What::Content => Some(Step::Reference),
-        What::Vtable | What::Count | What::Root | What::Identifier | What::Gap | What::Fault => {
-            None
-        }
+        What::Vtable | What::SizePrefix | What::Root | What::Identifier | What::Gap | What::Fault =>
+            { None }
     }
 }
 
 /// Adds what a piece of a part is.
-fn push_part(page: &mut Page, scene: Scene<'_>, piece: &Piece, node: &Node) {
+fn push_part(page: &mut Page, scene: Scene<'_>, piece: &BufferPiece, node: &Node) {
     let schema = scene.layout.schema();
     let at = piece.start as usize;
     let table = match node.lead {
@@ -162,7 +161,7 @@ fn push_part(page: &mut Page, scene: Scene<'_>, piece: &Piece, node: &Node) {
         }
         What::Length => push_length(page, scene, node),
         What::Content => push_content(page, scene, node, piece),
-        What::Count | What::Root | What::Identifier | What::Gap | What::Fault => {}
+        What::SizePrefix | What::Root | What::Identifier | What::Gap | What::Fault => {}
     }
 }
 
@@ -180,10 +179,10 @@ fn push_member(page: &mut Page, scene: Scene<'_>, table: TypeId, slot: u16, code
 }
 
 /// Adds what the header of a buffer has.
-fn push_front(page: &mut Page, scene: Scene<'_>, piece: &Piece) {
+fn push_front(page: &mut Page, scene: Scene<'_>, piece: &BufferPiece) {
     let at = piece.start as usize;
     match piece.what {
-        What::Count => {
+        What::SizePrefix => {
             page.line.push_str("count of the bytes after it: ");
             page.line
                 .push_number(u64::from(u32_within(scene.bytes, at)));
@@ -206,7 +205,7 @@ fn push_front(page: &mut Page, scene: Scene<'_>, piece: &Piece) {
 }
 
 /// What is said of bytes that nothing refers to.
-fn gap_words(scene: Scene<'_>, piece: &Piece, is_whole: bool) -> &'static str {
+fn gap_words(scene: Scene<'_>, piece: &BufferPiece, is_whole: bool) -> &'static str {
     let bytes = scene
         .bytes
         .get(piece.start as usize..piece.end as usize)
@@ -224,14 +223,14 @@ fn gap_words(scene: Scene<'_>, piece: &Piece, is_whole: bool) -> &'static str {
 pub(crate) fn push_head(
     page: &mut Page,
     scene: Scene<'_>,
-    piece: &Piece,
+    piece: &BufferPiece,
     is_whole: bool,
     overlaps: bool,
 ) {
     begin_piece(page, scene.bytes, piece);
     match piece.what {
         What::Gap => page.line.push_str(gap_words(scene, piece, is_whole)),
-        What::Count | What::Root | What::Identifier => push_front(page, scene, piece),
+        What::SizePrefix | What::Root | What::Identifier => push_front(page, scene, piece),
         _ => {
             if let Some(node) = scene.nodes.get(piece.node) {
                 push_part(page, scene, piece, &node);

@@ -3,8 +3,7 @@
 /// What a range of bytes is, of the part that it belongs to.
 #[derive(Clone, Copy, Drop)]
 pub(crate) enum What {
-    /// The count before a size-prefixed buffer.
-    Count,
+    SizePrefix,
     /// The reference to the root.
     Root,
     Identifier,
@@ -31,7 +30,7 @@ pub(crate) enum What {
 
 /// A range of a buffer's bytes from `start` up to `end`, and what it is.
 #[derive(Clone, Copy, Drop)]
-pub(crate) struct Piece {
+pub(crate) struct BufferPiece {
     pub start: u32,
     pub end: u32,
     /// The number of the part that it belongs to, as `Nodes` has it.

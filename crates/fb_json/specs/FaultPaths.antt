@@ -15,8 +15,8 @@ use Rattle.fb_value.specs.Bounds.{Bounds}
 use Rattle.fb_json.specs.declared.faults.Place.{Place}
 use Rattle.fb_json.specs.declared.faults.JsonFault.{JsonFault}
 use Rattle.fb_json.specs.declared.faults.JsonFault.TheVariants.{WrongShape, MissingMember, TooDeep, Memory}
-use Rattle.fb_json.specs.declared.step.Step.{Step}
-use Rattle.fb_json.specs.declared.step.Step.TheVariants.{Slot, Field, Element}
+use Rattle.fb_json.specs.declared.step.JsonStep.{JsonStep}
+use Rattle.fb_json.specs.declared.step.JsonStep.TheVariants.{Slot, Field, Element}
 use Rattle.fb_json.specs.Outcome.{◌>>=◌, Counted, spent}
 use Rattle.fb_json.specs.Meant.{Meaner, Look, type_place, slot_place, names_known, if_known, is_null, code_after}
 use Rattle.fb_json.specs.Meant.{entry_meant, part_meant, count, meant, look}
@@ -108,7 +108,7 @@ abbrev pub slot_spot : LaidSchema → Look → DeclaredField → Place → ℕ �
 slot_spot L look f at code levels left =
     told_spot (code_after L.schema look at code f.deprecated f.name f.shape) (λ c. entry_spot L look f at c levels left)
 
-abbrev pub ToSlot : LaidSchema → Look → TypeId → List DeclaredField → ℕ → ℕ → Step → Spot → Type 0
+abbrev pub ToSlot : LaidSchema → Look → TypeId → List DeclaredField → ℕ → ℕ → JsonStep → Spot → Type 0
 ToSlot L look t fs levels cells (Slot owner k) y =
     (owner ≡ t) × Reaches (slot_reader L look t.0 levels) fs (0, cells) k
     (λ f s. slot_spot L look f (slot_place t.0 k) s.0 levels s.1) y
@@ -123,7 +123,7 @@ abbrev pub field_spot : Option (Data × Meaner) → Shape → Place → ℕ → 
 field_spot None shape at levels left = bare_spot (Err (MissingMember at))
 field_spot (Some x) shape at levels left = tree_spot x.0 shape at levels left
 
-abbrev pub ToField : Look → TypeId → List DeclaredField → ℕ → ℕ → Step → Spot → Type 0
+abbrev pub ToField : Look → TypeId → List DeclaredField → ℕ → ℕ → JsonStep → Spot → Type 0
 ToField look s fs levels left (Field owner k) y =
     (owner ≡ s) × Reaches (field_reader look s.0 levels) fs left k
     (λ f rest. field_spot (look f.name) f.shape (slot_place s.0 k) levels rest) y
@@ -138,7 +138,7 @@ elements_of (item d ds) = d ∷ elements_of ds
 abbrev pub element_reader : LaidSchema → Bool → Kind → Place → ℕ → ℕ → Data → ℕ → Result ℕ JsonFault
 element_reader L unknown kind at levels i d left = rest_of (meant L unknown d (One kind) at levels left)
 
-abbrev pub ToElement : LaidSchema → Bool → Kind → Place → List Data → ℕ → ℕ → Step → Spot → Type 0
+abbrev pub ToElement : LaidSchema → Bool → Kind → Place → List Data → ℕ → ℕ → JsonStep → Spot → Type 0
 ToElement L unknown kind at ds levels left (Element i) y =
     Reaches (element_reader L unknown kind at levels) ds left i (λ d rest. tree_spot d (One kind) at levels rest) y
 ToElement L unknown kind at ds levels left _ y = ⊥
@@ -146,7 +146,7 @@ ToElement L unknown kind at ds levels left _ y = ⊥
 -- ---- paths
 
 -- the step from a place that breaks nothing itself, and leaves these cells for its parts
-abbrev pub StepsTo : LaidSchema → Bool → Spot → ℕ → Step → Spot → Type 0
+abbrev pub StepsTo : LaidSchema → Bool → Spot → ℕ → JsonStep → Spot → Type 0
 StepsTo L unknown (tree_spot (object ms) (One (Table t)) at levels left) cells step y =
     ToSlot L (look L unknown ms) t (slots_in (body_at L.schema t.0)) (levels - 1) cells step y
 StepsTo L unknown (tree_spot (object ms) (One (Struct s)) at levels left) cells step y =
@@ -157,7 +157,7 @@ StepsTo L unknown _ cells step y = ⊥
 
 -- The first fault from x is at the end of these steps: what the last leads to breaks a rule or a limit itself, and
 -- nothing that is read before it on the way has a fault.
-abbrev pub IsFirstAt : LaidSchema → Bool → Spot → List Step → JsonFault → Type 0
+abbrev pub IsFirstAt : LaidSchema → Bool → Spot → List JsonStep → JsonFault → Type 0
 IsFirstAt L unknown x [] f = front_of L unknown x ≡ Err f
 IsFirstAt L unknown x (step ∷ steps) f =
     (cells : ℕ) × (front_of L unknown x ≡ Ok cells) × (y : Spot) × StepsTo L unknown x cells step y
@@ -167,20 +167,20 @@ abbrev pub root_spot : LaidSchema → Bounds → Data → Spot
 root_spot L most t = tree_spot t (root_shape L.schema.root) (type_place L.schema.root) most.depth most.cells
 
 -- These are the steps from the root to the tree's first fault.
-abbrev pub LeadsToFirst : LaidSchema → Bounds → Bool → Data → List Step → Type 0
+abbrev pub LeadsToFirst : LaidSchema → Bounds → Bool → Data → List JsonStep → Type 0
 LeadsToFirst L most unknown t steps =
     (f : JsonFault) × IsFirst L most unknown t f × IsFirstAt L unknown (root_spot L most t) steps f
 
 -- ---- the walk
 
 -- The same after a first step to one of some parts.
-abbrev pub IsFirstIn : LaidSchema → Bool → (Step → Spot → Type 0) → List Step → JsonFault → Type 0
+abbrev pub IsFirstIn : LaidSchema → Bool → (JsonStep → Spot → Type 0) → List JsonStep → JsonFault → Type 0
 IsFirstIn L unknown To [] f = ⊥
 IsFirstIn L unknown To (step ∷ steps) f = (y : Spot) × To step y × IsFirstAt L unknown y steps f
 
 -- A walk that was refused put the steps to the fault in front of what its trail had, if that keeps steps.
-abbrev pub Trails : {A : Type 0} → Result A JsonFault → Option (List Step) → Option (List Step)
-    → (List Step → JsonFault → Type 0) → Type 0
+abbrev pub Trails : {A : Type 0} → Result A JsonFault → Option (List JsonStep) → Option (List JsonStep)
+    → (List JsonStep → JsonFault → Type 0) → Type 0
 Trails (Ok x) old new IsPath = new ≡ old
 Trails (Err f) old new IsPath =
-    f ≢ Memory → (steps : List Step) × (new ≡ option_map (λ rest. steps ++ rest) old) × IsPath steps f
+    f ≢ Memory → (steps : List JsonStep) × (new ≡ option_map (λ rest. steps ++ rest) old) × IsPath steps f

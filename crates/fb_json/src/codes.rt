@@ -6,8 +6,8 @@ ghost use Rattle.serde_json.specs.View.{view as tree_view};
 ghost use Rattle.fb_json.specs.Leaves.{code_numbered, code_told};
 ghost use Rattle.fb_json.specs.SlotMembers.{looked_up};
 
+use crate::context::JsonContext;
 use crate::faults::{JsonFault, Place};
-use crate::source::Source;
 use fb_layout::Layout;
 use fb_schema::{FieldInfo, Kind, Shape, TypeId};
 use serde_json::Value as Json;
@@ -50,7 +50,7 @@ fn code_told(layout: &Layout, union: TypeId, tree: &Json, place: Place) -> Resul
 
 /// The code that the member of a union's code has, and 0 where there is none.
 fn code_in(
-    source: Source,
+    source: JsonContext,
     union: TypeId,
     tree: Option<&Json>,
     place: Place,
@@ -68,7 +68,7 @@ fn code_in(
 #[inline(always)]
 #[tactic(auto, unfolding(crate::specs::Meant::code_after))]
 pub fn code_of_slot(
-    source: Source,
+    source: JsonContext,
     slot: &FieldInfo,
     tree: Option<&Json>,
     place: Place,

@@ -13,12 +13,12 @@ ghost use Rattle.fb_json.specs.FaultPaths.{front_of, rest_of, tree_spot};
 ghost use Rattle.fb_json.specs.Meant.{meant};
 ghost use Rattle.fb_json.specs.Outcome.{Gives};
 
+use crate::context::JsonContext;
 use crate::faults::{JsonFault, Place};
 use crate::room::Room;
 use crate::scalars::{enum_of, scalar_of};
-use crate::source::Source;
 use crate::structs::struct_of;
-use crate::trail::Trail;
+use crate::trail::JsonTrail;
 use fb_layout::layout_is_well_made;
 use fb_schema::{Kind, TypeId};
 use fb_value::Value;
@@ -26,7 +26,7 @@ use serde_json::Value as Json;
 
 /// The parts of the struct that a tree means are left in `parts`, and the cells that are left are returned.
 pub fn struct_parts(
-    source: Source,
+    source: JsonContext,
     tree: &Json,
     owner: TypeId,
     place: Place,
@@ -45,14 +45,14 @@ pub fn struct_parts(
     let Some(members) = tree.as_object() else {
         return Err(JsonFault::WrongShape(place));
     };
-    let left = struct_of(source, &mut Trail::none(), members, owner, room, parts)?;
+    let left = struct_of(source, &mut JsonTrail::none(), members, owner, room, parts)?;
     Ok(left)
 }
 
 /// The number that a tree means as an element of a vector of numbers: `None` where the kind isn't one of numbers.
 #[inline(always)]
 pub fn number_of(
-    source: Source,
+    source: JsonContext,
     tree: &Json,
     kind: Kind,
     place: Place,

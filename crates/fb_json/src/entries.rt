@@ -13,10 +13,10 @@ ghost use Rattle.fb_json.specs.Meant.{Look, as_member, entry_meant, meant, unles
 ghost use Rattle.fb_json.specs.SlotMembers.{looked_up};
 
 use crate::absent::{entry_without_member, is_null};
+use crate::context::JsonContext;
 use crate::faults::{JsonFault, Place};
 use crate::room::Room;
-use crate::source::Source;
-use crate::trail::Trail;
+use crate::trail::JsonTrail;
 use crate::tree::value;
 use fb_schema::{FieldInfo, Kind, Shape, TypeId};
 use fb_value::Value;
@@ -35,8 +35,8 @@ pub struct TableSlot<'s> {
 #[cycle(tree)]
 #[tactic(auto, unfolding(crate::specs::Meant::entry_meant))]
 pub(crate) fn entry(
-    source: Source,
-    trail: &mut Trail,
+    source: JsonContext,
+    trail: &mut JsonTrail,
     slot: TableSlot<'_>,
     tree: Option<&Json>,
     room: Room,
@@ -64,8 +64,8 @@ pub(crate) fn entry(
 #[cycle(tree)]
 #[tactic(auto, unfolding(crate::specs::Meant::union_meant, crate::specs::Meant::plain_meant))]
 fn with_tree(
-    source: Source,
-    trail: &mut Trail,
+    source: JsonContext,
+    trail: &mut JsonTrail,
     slot: TableSlot<'_>,
     tree: &Json,
     room: Room,
@@ -93,8 +93,8 @@ fn with_tree(
 /// The member of a union that a code names.
 #[cycle(tree)]
 fn member(
-    source: Source,
-    trail: &mut Trail,
+    source: JsonContext,
+    trail: &mut JsonTrail,
     union: TypeId,
     slot: TableSlot<'_>,
     tree: &Json,

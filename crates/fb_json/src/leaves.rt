@@ -6,9 +6,9 @@ ghost use Rattle.fb_value.specs.View.{view};
 ghost use Rattle.fb_json.specs.Outcome.{Gives};
 ghost use Rattle.fb_json.specs.Leaves.{text_meant, leaf_meant};
 
+use crate::context::JsonContext;
 use crate::faults::{JsonFault, Place};
 use crate::scalars::{enum_of, scalar_of};
-use crate::source::Source;
 use fb_schema::{Kind, Shape};
 use fb_value::Value;
 use serde_json::Value as Json;
@@ -41,7 +41,7 @@ fn text(alloc: Global, tree: &Json, place: Place, left: u32) -> Result<(Value, u
 /// What a tree without members and elements gives.
 #[tactic(auto, unfolding(crate::specs::Leaves::leaf_meant))]
 pub(crate) fn leaf(
-    source: Source,
+    source: JsonContext,
     tree: &Json,
     shape: Shape,
     place: Place,

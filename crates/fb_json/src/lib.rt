@@ -3,6 +3,7 @@
 
 mod absent;
 mod codes;
+mod context;
 mod elements;
 mod entries;
 mod faults;
@@ -16,7 +17,6 @@ mod room;
 mod root;
 mod scalars;
 mod slot_members;
-mod source;
 mod step;
 mod structs;
 mod tables;
@@ -25,6 +25,7 @@ mod tree;
 
 pub use absent::{entry_without_member, is_absent, is_null};
 pub use codes::code_of_slot;
+pub use context::JsonContext;
 pub use elements::{number_of, struct_parts};
 pub use entries::TableSlot;
 pub use faults::{JsonFault, Place};
@@ -38,6 +39,5 @@ pub use paths::{fault_path, trace, trace_slot};
 pub use room::Room;
 pub use root::value_of;
 pub use slot_members::{SlotMembers, members_by_slot};
-pub use source::Source;
-pub use step::Step;
-pub use trail::Trail;
+pub use step::JsonStep;
+pub use trail::JsonTrail;

@@ -9,12 +9,12 @@ ghost use Rattle.fb_json.specs.Outcome.{Gives};
 ghost use Rattle.fb_json.specs.SlotMembers.{looked_up};
 ghost use Rattle.fb_value.specs.Datum.{Datum};
 
+use crate::context::JsonContext;
 use crate::entries::{TableSlot, entry};
 use crate::faults::{JsonFault, Place};
 use crate::room::Room;
-use crate::source::Source;
-use crate::step::Step;
-use crate::trail::Trail;
+use crate::step::JsonStep;
+use crate::trail::JsonTrail;
 use crate::tree::value;
 use fb_layout::Layout;
 use fb_schema::{Kind, Shape};
@@ -25,8 +25,8 @@ use std::alloc::{AllocError, Global};
 /// The cells that are left after a tree that is read under a shape, or its first fault. A trail that is kept has the
 /// steps from the tree to that fault then, before those that it had.
 pub fn trace(
-    source: Source,
-    trail: &mut Trail,
+    source: JsonContext,
+    trail: &mut JsonTrail,
     tree: &Json,
     shape: Shape,
     place: Place,
@@ -46,8 +46,8 @@ pub fn trace(
 /// The cells that are left after a slot whose member is this tree, or which has none; or the first fault of what it is
 /// given. A trail that is kept has the steps from the member to that fault then, before those that it had.
 pub fn trace_slot(
-    source: Source,
-    trail: &mut Trail,
+    source: JsonContext,
+    trail: &mut JsonTrail,
     slot: TableSlot<'_>,
     tree: Option<&Json>,
     room: Room,
@@ -75,12 +75,12 @@ pub fn fault_path(
     tree: &Json,
     unknown: bool,
     limits: Limits,
-) -> Result<Option<Vec<Step>>, AllocError>
+) -> Result<Option<Vec<JsonStep>>, AllocError>
     ensures { IfOk result (λ found. MatchOption found
         ((d : Datum) × Means layout.now limits unknown (tree_view tree.now) d)
         (λ steps. LeadsToFirst layout.now limits unknown (tree_view tree.now) steps.items)) }
 {
-    let source = Source {
+    let source = JsonContext {
         alloc,
         layout,
         unknown,
@@ -92,7 +92,7 @@ pub fn fault_path(
         levels: limits.most_depth(),
         left: limits.most_cells(),
     };
-    let mut trail = Trail::new(alloc);
+    let mut trail = JsonTrail::new(alloc);
     let Err(fault) = value(source, &mut trail, tree, shape, place, room) else {
         return Ok(None);
     };

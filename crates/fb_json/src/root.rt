@@ -8,11 +8,11 @@ ghost use Rattle.fb_value.specs.View.{view};
 ghost use Rattle.fb_json.specs.Means.{Means};
 ghost use Rattle.fb_json.specs.Refuses.{IsFirst, MayLackMemory, Refuses};
 
+use crate::context::JsonContext;
 use crate::faults::{JsonFault, Place};
 use crate::room::Room;
-use crate::source::Source;
 use crate::tables::table;
-use crate::trail::Trail;
+use crate::trail::JsonTrail;
 use fb_layout::Layout;
 use fb_value::{Limits, Value};
 use serde_json::Value as Json;
@@ -37,7 +37,7 @@ pub fn value_of(
         ⊎ ((d : Datum) → ¬ Means layout.now limits unknown (tree_view tree.now) d)) }
     ensures memory { IfErr result (MayLackMemory limits (tree_view tree.now)) }
 {
-    let source = Source {
+    let source = JsonContext {
         alloc,
         layout,
         unknown,
@@ -54,7 +54,7 @@ pub fn value_of(
     let Some(members) = tree.as_object() else {
         return Err(JsonFault::WrongShape(place));
     };
-    let read = table(source, &mut Trail::none(), members, root, place, room);
+    let read = table(source, &mut JsonTrail::none(), members, root, place, room);
     match read {
         Ok((value, _)) => Ok(value),
         Err(fault) => Err(fault),

@@ -9,10 +9,10 @@ ghost use Rattle.fb_json.specs.Meant.{if_known, names_known, type_place};
 ghost use Rattle.fb_json.specs.Outcome.{Gives};
 ghost use Rattle.fb_json.specs.SlotMembers.{AreFieldsOf, AreMembersOf};
 
+use crate::context::JsonContext;
 use crate::faults::{JsonFault, Place};
 use crate::members::is_allowed;
 use crate::numbered_members::NumberedMembers;
-use crate::source::Source;
 use fb_schema::{FEW_NAMES, FieldInfo, Schema, TypeId, field_among};
 use serde_json::{Map, Value as Json};
 use std::alloc::{AllocError, Global};
@@ -122,7 +122,7 @@ fn field_of<'s>(
 /// Puts each member of a table or struct at its slot, where each has the name of a field in use or any name is let
 /// through.
 fn put_members<'t>(
-    source: Source,
+    source: JsonContext,
     owner: TypeId,
     slots: &[FieldInfo],
     members: &'t Map<String, Json>,
@@ -155,7 +155,7 @@ fn put_members<'t>(
 /// use or any name is let through. Each member's name is looked up once, so that a slot without a member costs no
 /// search. What was found before is forgotten.
 pub fn members_by_slot<'t>(
-    source: Source,
+    source: JsonContext,
     owner: TypeId,
     slots: &[FieldInfo],
     members: &'t Map<String, Json>,

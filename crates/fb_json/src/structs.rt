@@ -12,13 +12,13 @@ ghost use Rattle.fb_json.specs.Outcome.{Gives};
 ghost use Rattle.fb_json.specs.Meant.{look, part_meant, parts_meant, struct_meant};
 ghost use Rattle.fb_json.specs.SlotMembers.{AreMembersOf, looked_up};
 
+use crate::context::JsonContext;
 use crate::elements::number_of;
 use crate::faults::{JsonFault, Place};
 use crate::room::Room;
 use crate::slot_members::{SlotMembers, members_by_slot};
-use crate::source::Source;
-use crate::step::Step;
-use crate::trail::Trail;
+use crate::step::JsonStep;
+use crate::trail::JsonTrail;
 use crate::tree::value;
 use fb_schema::{FieldInfo, Shape, TypeId};
 use fb_value::Value;
@@ -27,8 +27,8 @@ use serde_json::{Map, Value as Json};
 #[cycle(tree)]
 #[tactic(auto, unfolding(crate::specs::Meant::struct_meant, crate::specs::FaultPaths::object_front))]
 pub(crate) fn structure(
-    source: Source,
-    trail: &mut Trail,
+    source: JsonContext,
+    trail: &mut JsonTrail,
     members: &Map<String, Json>,
     owner: TypeId,
     place: Place,
@@ -51,8 +51,8 @@ pub(crate) fn structure(
 #[cycle(tree)]
 #[tactic(auto, unfolding(crate::specs::Meant::struct_meant, crate::specs::FaultPaths::object_front))]
 pub(crate) fn struct_of(
-    source: Source,
-    trail: &mut Trail,
+    source: JsonContext,
+    trail: &mut JsonTrail,
     members: &Map<String, Json>,
     owner: TypeId,
     room: Room,
@@ -84,8 +84,8 @@ struct StructType<'s> {
 /// The parts of a struct whose fields have these members.
 #[cycle(tree)]
 fn parts(
-    source: Source,
-    trail: &mut Trail,
+    source: JsonContext,
+    trail: &mut JsonTrail,
     trees: &SlotMembers<'_>,
     structure: StructType<'_>,
     room: Room,
@@ -118,7 +118,7 @@ fn parts(
                 found.push_reserved(part);
                 left = rest;
             }
-            Err(fault) => return Err(trail.push_step(Step::Field(owner, k as u16), fault)),
+            Err(fault) => return Err(trail.push_step(JsonStep::Field(owner, k as u16), fault)),
         }
     }
     Ok(left)
@@ -128,8 +128,8 @@ fn parts(
 #[inline(always)]
 #[cycle(tree)]
 fn part(
-    source: Source,
-    trail: &mut Trail,
+    source: JsonContext,
+    trail: &mut JsonTrail,
     tree: Option<&Json>,
     field: &FieldInfo,
     place: Place,

@@ -14,13 +14,13 @@ ghost use Rattle.fb_json.specs.SlotMembers.{AreMembersOf};
 
 use crate::absent::{default_of, is_absent};
 use crate::codes::code_of_slot;
+use crate::context::JsonContext;
 use crate::entries::{TableSlot, entry};
 use crate::faults::{JsonFault, Place};
 use crate::room::Room;
 use crate::slot_members::{SlotMembers, members_by_slot};
-use crate::source::Source;
-use crate::step::Step;
-use crate::trail::Trail;
+use crate::step::JsonStep;
+use crate::trail::JsonTrail;
 use fb_schema::{FieldInfo, TypeId};
 use fb_value::Value;
 use serde_json::{Map, Value as Json};
@@ -28,8 +28,8 @@ use serde_json::{Map, Value as Json};
 #[cycle(tree)]
 #[tactic(auto, unfolding(crate::specs::Meant::table_meant))]
 pub(crate) fn table(
-    source: Source,
-    trail: &mut Trail,
+    source: JsonContext,
+    trail: &mut JsonTrail,
     members: &Map<String, Json>,
     owner: TypeId,
     place: Place,
@@ -64,8 +64,8 @@ pub(crate) fn table(
 /// What the slots of a table are given that have these members.
 #[cycle(tree)]
 fn entries(
-    source: Source,
-    trail: &mut Trail,
+    source: JsonContext,
+    trail: &mut JsonTrail,
     owner: TypeId,
     slots: &[FieldInfo],
     trees: &SlotMembers<'_>,
@@ -98,7 +98,7 @@ fn entries(
         }
         match code_of_slot(source, slot, tree, place, code) {
             Ok(told) => code = told,
-            Err(fault) => return Err(trail.push_step(Step::Slot(owner, k as u16), fault)),
+            Err(fault) => return Err(trail.push_step(JsonStep::Slot(owner, k as u16), fault)),
         }
         let room = Room { left, ..room };
         let slot = TableSlot {
@@ -111,7 +111,7 @@ fn entries(
                 found.push_reserved(entry);
                 left = rest;
             }
-            Err(fault) => return Err(trail.push_step(Step::Slot(owner, k as u16), fault)),
+            Err(fault) => return Err(trail.push_step(JsonStep::Slot(owner, k as u16), fault)),
         }
     }
     Ok((found, left))

@@ -1,42 +1,42 @@
 //! The way back from a refusal.
 use crate::faults::JsonFault;
-use crate::step::Step;
+use crate::step::JsonStep;
 use std::alloc::Global;
 use std::marker::Model;
 
 /// The steps from where a walk is to what was refused. Each level adds its step on the way out of a refusal. A trail
 /// that isn't kept takes no memory.
 #[derive(Drop)]
-pub struct Trail {
+pub struct JsonTrail {
     // the last step first
-    steps: Option<Vec<Step>>,
+    steps: Option<Vec<JsonStep>>,
 }
 
-impl Model for Trail {
+impl Model for JsonTrail {
     ghost use Rattle.std.specs.Prelude.{List, Option, option_map, reverse};
-    ghost use Rattle.fb_json.specs.declared.step.Step.{Step};
+    ghost use Rattle.fb_json.specs.declared.step.JsonStep.{JsonStep};
 
-    ghost Value = { Option (List Step) };
+    ghost Value = { Option (List JsonStep) };
 
     ghost view = { λ t. option_map (λ steps. reverse steps.items) t.steps };
 }
 
-impl Trail {
+impl JsonTrail {
     ghost use Rattle.std.specs.Prelude.{◌≡◌, ◌⊎◌, [], ◌∷◌, Some, None, option_map};
     ghost use Rattle.fb_json.specs.declared.faults.JsonFault.TheVariants.{Memory};
 
     /// A trail that is not kept.
-    pub fn none() -> Trail
+    pub fn none() -> JsonTrail
         ensures { result ≡ None }
     {
-        Trail { steps: None }
+        JsonTrail { steps: None }
     }
 
     /// A trail without steps.
-    pub fn new(alloc: Global) -> Trail
+    pub fn new(alloc: Global) -> JsonTrail
         ensures { result ≡ Some [] }
     {
-        Trail {
+        JsonTrail {
             steps: Some(Vec::new(alloc)),
         }
     }
@@ -47,7 +47,7 @@ impl Trail {
     }
 
     /// The fault after this step, which is added before the others; `Memory` where that is refused.
-    pub fn push_step(&mut self, step: Step, fault: JsonFault) -> JsonFault
+    pub fn push_step(&mut self, step: JsonStep, fault: JsonFault) -> JsonFault
         ensures step { (result ≡ Memory)
             ⊎ ((result ≡ fault) × (self.new ≡ option_map (λ steps. step ∷ steps) self.old)) }
         ensures unkept { self.old ≡ None → result ≡ fault }
@@ -62,7 +62,7 @@ impl Trail {
     }
 
     /// The steps from the first, where they were kept.
-    pub fn into_steps(self) -> Option<Vec<Step>>
+    pub fn into_steps(self) -> Option<Vec<JsonStep>>
         ensures { option_map (λ steps. steps.items) result ≡ self }
     {
         let mut steps = self.steps?;

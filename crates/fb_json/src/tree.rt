@@ -8,14 +8,14 @@ ghost use Rattle.fb_json.specs.FaultPaths.{IsFirstAt, IsFirstIn, ToElement, Trai
 ghost use Rattle.fb_json.specs.Outcome.{Gives};
 ghost use Rattle.fb_json.specs.Meant.{meant, items_meant, vector_meant, object_meant, look};
 
+use crate::context::JsonContext;
 use crate::faults::{JsonFault, Place};
 use crate::leaves::leaf;
 use crate::room::Room;
-use crate::source::Source;
-use crate::step::Step;
+use crate::step::JsonStep;
 use crate::structs::structure;
 use crate::tables::table;
-use crate::trail::Trail;
+use crate::trail::JsonTrail;
 use fb_schema::{Kind, Shape};
 use fb_value::Value;
 use serde_json::{Map, Value as Json};
@@ -23,8 +23,8 @@ use serde_json::{Map, Value as Json};
 /// What a tree gives under a shape, and the cells that are left.
 #[cycle(tree)]
 pub(crate) fn value(
-    source: Source,
-    trail: &mut Trail,
+    source: JsonContext,
+    trail: &mut JsonTrail,
     tree: &Json,
     shape: Shape,
     place: Place,
@@ -47,8 +47,8 @@ pub(crate) fn value(
 #[cycle(tree)]
 #[tactic(auto, unfolding(crate::specs::Meant::vector_meant, crate::specs::FaultPaths::vector_front))]
 fn vector(
-    source: Source,
-    trail: &mut Trail,
+    source: JsonContext,
+    trail: &mut JsonTrail,
     elements: &[Json],
     shape: Shape,
     place: Place,
@@ -78,8 +78,8 @@ fn vector(
 
 #[cycle(tree)]
 fn items(
-    source: Source,
-    trail: &mut Trail,
+    source: JsonContext,
+    trail: &mut JsonTrail,
     elements: &[Json],
     kind: Kind,
     place: Place,
@@ -101,7 +101,7 @@ fn items(
                 found.push_reserved(item);
                 left = rest;
             }
-            Err(fault) => return Err(trail.push_step(Step::Element(i), fault)),
+            Err(fault) => return Err(trail.push_step(JsonStep::Element(i), fault)),
         }
     }
     Ok((found, left))
@@ -110,8 +110,8 @@ fn items(
 #[cycle(tree)]
 #[tactic(auto, unfolding(crate::specs::Meant::object_meant, crate::specs::FaultPaths::object_front))]
 fn object(
-    source: Source,
-    trail: &mut Trail,
+    source: JsonContext,
+    trail: &mut JsonTrail,
     members: &Map<String, Json>,
     shape: Shape,
     place: Place,

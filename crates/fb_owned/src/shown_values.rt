@@ -8,22 +8,22 @@ ghost use Rattle.fb_text.specs.Shown.{IsTop, HasWeight};
 ghost use Rattle.fb_owned.specs.ShownValues.{size, size_in, count_in};
 
 use fb_read::{NumberItems, TextItems};
-use fb_text::{Found, Shown};
+use fb_text::{Shown, ValueHead};
 use fb_value::Value;
 
 /// What a value is.
-fn top_of(value: &Value) -> Found<'_>
+fn top_of(value: &Value) -> ValueHead<'_>
     ensures top { IsTop result (Some (view value.now)) }
     ensures heavy { HasWeight result (size (view value.now)) }
 {
     match value {
-        Value::Number(number) => Found::Number(*number),
-        Value::Text(text) => Found::Text(text.as_str()),
-        Value::Items(_) => Found::Vector,
-        Value::Fixed(_) => Found::Struct,
-        Value::Fields(owner, _) => Found::Table(*owner),
-        Value::Member(code, _) => Found::Member(*code),
-        Value::Other(_) => Found::Unknown,
+        Value::Number(number) => ValueHead::Number(*number),
+        Value::Text(text) => ValueHead::Text(text.as_str()),
+        Value::Items(_) => ValueHead::Vector,
+        Value::Fixed(_) => ValueHead::Struct,
+        Value::Fields(owner, _) => ValueHead::Table(*owner),
+        Value::Member(code, _) => ValueHead::Member(*code),
+        Value::Other(_) => ValueHead::Unknown,
     }
 }
 
@@ -93,10 +93,10 @@ impl Shown for ValueEntry<'_> {
     ghost width = { λ _. 2 ^ 64 };
 
     #[inline]
-    fn find(&self) -> Found<'_> {
+    fn head(&self) -> ValueHead<'_> {
         match self.0 {
             Some(value) => top_of(value),
-            None => Found::Absent,
+            None => ValueHead::Absent,
         }
     }
 

@@ -8,7 +8,7 @@ ghost use Rattle.fb_pieces.specs.ReadByPieces.{IsCutIntoMembers, IsCutIntoRuns, 
 
 use crate::blanks::{are_blanks, leading_blanks};
 use crate::cuts::Cuts;
-use crate::walk::{BLOCK, Walk, block_at};
+use crate::walk::{BLOCK, BlockWalk, block_at};
 use std::alloc::{AllocError, Global};
 
 /// A range of a text's bytes.
@@ -193,7 +193,7 @@ fn value_end(text: &[u8], from: usize, at: usize, cuts: &Cuts) -> Option<usize>
 fn separator(text: &[u8], from: usize, wanted: u8) -> Option<usize>
     ensures { IfSome result (λ at. (from ≤ at) × (at < length text.now)) }
 {
-    let mut walk = Walk::START;
+    let mut walk = BlockWalk::START;
     for at in (from..text.len()).step_by(BLOCK) {
         let outside = walk.outside(block_at(text, at), wanted);
         if let Some(bit) = outside.first() {

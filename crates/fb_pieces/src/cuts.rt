@@ -1,6 +1,6 @@
 //! Where a long JSON text may be cut.
-use crate::cutter::{Cutter, Next};
-use crate::walk::{BLOCK, Walk, last_block};
+use crate::cutter::{AfterBlock, Cutter};
+use crate::walk::{BLOCK, BlockWalk, last_block};
 use std::alloc::{AllocError, Global};
 use std::collections::BTreeMap;
 use std::simd::prelude::*;
@@ -14,7 +14,7 @@ pub(crate) struct RunEnd {
 
 /// An array or object: its closing bracket, and the range of the noted runs that are its own.
 #[derive(Clone, Copy)]
-struct Noted {
+struct PartCuts {
     closing: usize,
     first: usize,
     end: usize,
@@ -24,7 +24,7 @@ struct Noted {
 /// that length is noted without runs, so that it can be passed over.
 #[derive(Drop)]
 pub struct Cuts {
-    parts: BTreeMap<usize, Noted>,
+    parts: BTreeMap<usize, PartCuts>,
     runs: Vec<RunEnd>,
 }
 
@@ -34,7 +34,7 @@ impl Cuts {
     /// these are strings that aren't short. None where brackets nest too deep for JSON, or close nothing.
     pub fn of(alloc: Global, text: &[u8], most: usize) -> Result<Option<Cuts>, AllocError> {
         let mut cutter = Cutter::new(alloc, most);
-        let mut walk = Walk::START;
+        let mut walk = BlockWalk::START;
         let mut at = 0;
         // Within a long array the walk goes over some `most` bytes again, once for each that is open.
         for _ in 0..text.len().saturating_mul(4) {
@@ -52,12 +52,12 @@ impl Cuts {
                 continue;
             }
             match cutter.pass(text, at, block, outside)? {
-                Next::Block => at = at.wrapping_add(BLOCK),
-                Next::Back(start) => {
+                AfterBlock::Block => at = at.wrapping_add(BLOCK),
+                AfterBlock::Back(start) => {
                     at = start;
-                    walk = Walk::START;
+                    walk = BlockWalk::START;
                 }
-                Next::Nothing => return Ok(None),
+                AfterBlock::Nothing => return Ok(None),
             }
         }
         Ok(Some(cutter.into_cuts()))
@@ -80,7 +80,7 @@ impl Cuts {
     ) -> Result<(), AllocError> {
         let first = self.runs.len();
         self.runs.extend_from_slice(runs)?;
-        let noted = Noted {
+        let noted = PartCuts {
             closing,
             first,
             end: self.runs.len(),

@@ -17,7 +17,7 @@ const LONG_STRING: usize = 16;
 
 /// How a walk goes on after a block.
 #[derive(Clone, Copy)]
-pub(crate) enum Next {
+pub(crate) enum AfterBlock {
     /// With the next block.
     Block,
     /// From here: the byte after the bracket of an array that turned out to be long. Its commas weren't looked at.
@@ -28,7 +28,7 @@ pub(crate) enum Next {
 
 /// A long array or object that isn't closed yet.
 #[derive(Clone, Copy)]
-struct Open {
+struct OpenPart {
     is_array: bool,
     /// The most bytes of a run: more where no element has brackets, since the tree of such elements is small.
     most: usize,
@@ -53,7 +53,7 @@ pub(crate) struct Cutter {
     depth: usize,
     starts: [usize; MOST_OPEN],
     /// Those of them that are known to be long, which are the outermost.
-    open: Vec<Open>,
+    open: Vec<OpenPart>,
     waiting: Vec<RunEnd>,
     cuts: Cuts,
 }
@@ -84,11 +84,11 @@ impl Cutter {
         at: usize,
         block: u8x64,
         outside: u64,
-    ) -> Result<Next, AllocError> {
+    ) -> Result<AfterBlock, AllocError> {
         let own = self.open.len();
         if self.depth > own && self.is_long(own, at) {
             if let Some(back) = self.open_long(text, at)? {
-                return Ok(Next::Back(back));
+                return Ok(AfterBlock::Back(back));
             }
         }
         let brackets = brackets(block) & outside;
@@ -103,7 +103,7 @@ impl Cutter {
                 }
             }
         }
-        Ok(Next::Block)
+        Ok(AfterBlock::Block)
     }
 
     /// Goes over a block that has brackets.
@@ -115,7 +115,7 @@ impl Cutter {
         block: u8x64,
         outside: u64,
         brackets: u64,
-    ) -> Result<Next, AllocError> {
+    ) -> Result<AfterBlock, AllocError> {
         let opening = opening(block);
         let mut rest = brackets;
         let mut depth = self.depth;
@@ -129,7 +129,7 @@ impl Cutter {
             let place = at.wrapping_add(rest.trailing_zeros() as usize);
             if opening & bracket != 0 {
                 let Some(start) = self.starts.get_mut(depth) else {
-                    return Ok(Next::Nothing);
+                    return Ok(AfterBlock::Nothing);
                 };
                 *start = place;
                 depth = depth.wrapping_add(1);
@@ -138,7 +138,7 @@ impl Cutter {
                 after = 0;
             } else {
                 let Some(start) = self.starts.get(depth.wrapping_sub(1)).copied() else {
-                    return Ok(Next::Nothing);
+                    return Ok(AfterBlock::Nothing);
                 };
                 if place.wrapping_sub(start) >= self.noted {
                     direct |= after & bracket.wrapping_sub(1);
@@ -147,7 +147,7 @@ impl Cutter {
                     nests = 0;
                     self.depth = depth;
                     if let Some(back) = self.leave(text, start, place)? {
-                        return Ok(Next::Back(back));
+                        return Ok(AfterBlock::Back(back));
                     }
                     own = self.open.len();
                 }
@@ -166,7 +166,7 @@ impl Cutter {
         if direct | nests != 0 {
             self.pass_direct(at, block, direct, nests != 0)?;
         }
-        Ok(Next::Block)
+        Ok(AfterBlock::Block)
     }
 
     /// Goes over the commas of a block that are among these bytes. `nests` says that an element has brackets.
@@ -229,7 +229,7 @@ impl Cutter {
             }
             let from = start.saturating_add(1);
             let is_array = text.get(start) == Some(&b'[');
-            self.open.push(Open {
+            self.open.push(OpenPart {
                 is_array,
                 most: self.most.saturating_mul(WITHOUT_BRACKETS),
                 start,
@@ -304,7 +304,7 @@ fn most_without_brackets(most: usize, from: usize, run: RunEnd) -> usize {
     most.saturating_mul(WITHOUT_BRACKETS)
 }
 
-impl Open {
+impl OpenPart {
     /// Passes all commas of a block, if the run may end at each.
     #[inline(always)]
     fn pass_all(&mut self, at: usize, commas: u64) -> bool {

@@ -10,7 +10,7 @@ const EVEN: u64 = 0x5555_5555_5555_5555;
 
 /// What one block tells the next, and how many brackets are open.
 #[derive(Clone, Copy)]
-pub(crate) struct Walk {
+pub(crate) struct BlockWalk {
     pub(crate) is_escaped: bool,
     pub(crate) in_string: bool,
     pub(crate) open: usize,
@@ -77,9 +77,9 @@ fn prefix_xor(bits: u64) -> u64 {
     e ^ (e << 32)
 }
 
-impl Walk {
+impl BlockWalk {
     /// Where the walk begins.
-    pub(crate) const START: Walk = Walk {
+    pub(crate) const START: BlockWalk = BlockWalk {
         is_escaped: false,
         in_string: false,
         open: 0,
@@ -153,12 +153,12 @@ impl Walk {
                 end: None,
             };
         }
-        self.between(opening, closing, equal_to(block, wanted) & !inside)
+        self.scan_brackets(opening, closing, equal_to(block, wanted) & !inside)
     }
 
-    /// Goes over the brackets of a block.
+    /// Scans the brackets of a block for those outside the brackets that are opened from here on.
     #[inline(always)]
-    fn between(&mut self, opening: u64, closing: u64, wanted: u64) -> Outside {
+    fn scan_brackets(&mut self, opening: u64, closing: u64, wanted: u64) -> Outside {
         let mut found = 0;
         let mut live = if self.open == 0 { u64::MAX } else { 0 };
         let mut rest = opening | closing;

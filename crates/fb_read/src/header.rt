@@ -2,7 +2,7 @@
 ghost use Rattle.std.specs.Prelude.{◌≡◌, ◌≤◌, ◌<◌, ◌+◌, ◌^◌, List, length, MatchResult, OnOk};
 ghost use Rattle.std.specs.Prelude.{IfOk, None, Some, Err};
 ghost use Rattle.fb_value.specs.Rules.{Rule, first_failing};
-ghost use Rattle.fb_value.specs.Holds.{header_rules, count_rules, front_of, front_fault, checked_identifier};
+ghost use Rattle.fb_value.specs.Holds.{header_rules, prefix_rules, front_of, front_fault, checked_identifier};
 ghost use Rattle.fb_read.specs.Walks.{IsBufferOf};
 
 use crate::buffer::Buffer;
@@ -52,12 +52,12 @@ fn check_header(bytes: &[u8], front: usize, identifier: Option<[u8; 4]>) -> Resu
     }
 }
 
-/// Checks that a count in front is the length of what follows it, before other rules are.
+/// Checks that a size prefix is the length of what follows it, before other rules are.
 #[tactic(auto, unfolding(fb_value::specs::Rules::first_failing))]
-fn check_count(bytes: &[u8]) -> Result<(), ReadFault>
+fn check_prefix(bytes: &[u8]) -> Result<(), ReadFault>
     ensures rules { MatchResult result
-        (λ _. (others : List Rule) → first_failing (count_rules bytes.now others) ≡ first_failing others)
-        (λ f. (others : List Rule) → first_failing (count_rules bytes.now others) ≡ Some f) }
+        (λ _. (others : List Rule) → first_failing (prefix_rules bytes.now others) ≡ first_failing others)
+        (λ f. (others : List Rule) → first_failing (prefix_rules bytes.now others) ≡ Some f) }
     ensures rule { result ≡ Err ReadFault.Memory → ⊥ }
 {
     if bytes.len() < 4 {
@@ -90,7 +90,7 @@ pub fn check_front(
     if !prefixed {
         return check_header(bytes, 0, identifier);
     }
-    check_count(bytes)?;
+    check_prefix(bytes)?;
     check_header(bytes, 4, identifier)
 }
 
@@ -106,7 +106,7 @@ pub fn identifier_of(layout: &Layout, raw: bool) -> Option<[u8; 4]>
 }
 
 impl<'a> Buffer<'a> {
-    /// A buffer with a front that keeps its rules: the header, and the count before it where it is `prefixed`.
+    /// A buffer with a front that keeps its rules: the header, and the size prefix before it where it is `prefixed`.
     ///
     /// `raw` skips the file identifier check.
     #[inline(always)]

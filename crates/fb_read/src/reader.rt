@@ -45,8 +45,7 @@ pub fn verify<'a>(
     verify_framed(layout, bytes, limits, raw, false, entries)
 }
 
-/// The same of a buffer that may be `prefixed`: with the count of its bytes in front, from which positions and
-/// alignment count.
+/// The same of a buffer that may be `prefixed`: with a size prefix, from which positions and alignment count.
 pub fn verify_framed<'a>(
     layout: &'a Layout,
     bytes: &'a [u8],

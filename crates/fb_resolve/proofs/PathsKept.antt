@@ -17,7 +17,7 @@ use Rattle.fb_resolve.specs.Meaning.{words_of_scope, paths_of_types}
 use Rattle.fb_resolve.specs.Paths.{IsPath, IsPlaced, names_used, IsNoted, AreUses, AreNoted, AreNotesOf}
 use Rattle.fb_resolve.specs.declared.outline.TypeUse.{TypeUse}
 use Rattle.fb_resolve.specs.declared.outline.TypeUse.TheVariants.{Basic, Named}
-use Rattle.fb_resolve.specs.declared.walk.Walk.{Walk}
+use Rattle.fb_resolve.specs.declared.walk.DeclarationWalk.{DeclarationWalk}
 
 -- what is noted of used names stays right
 pub use_kept : (old new : PathTree) (u : TypeUse) (name : Name) → KeepsPaths old new → IsNoted old u name
@@ -51,7 +51,7 @@ one_noted use_in first old new us xs i u x l e is kept one h = record {
 }
 
 -- what is noted stays right while more paths and names are noted, in a namespace that has its path
-pub placed_grown : (w : Walk) (tree used : PathTree) (scope : Option (Bor Name)) (path : ℕ) → IsTree tree
+pub placed_grown : (w : DeclarationWalk) (tree used : PathTree) (scope : Option (Bor Name)) (path : ℕ) → IsTree tree
     → KeepsPaths w.tree tree → IsTree used → KeepsPaths w.used used
     → IsPath tree path (words_of_scope (option_copied scope)) → IsPlaced w
     → IsPlaced (record w { tree = tree; used = used; scope = scope; path = path })

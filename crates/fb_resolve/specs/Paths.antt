@@ -10,9 +10,9 @@ use Rattle.fb_resolve.specs.declared.namespaces.path_tree.PathTree.{PathTree}
 use Rattle.fb_resolve.specs.Outline.{TypeRead, RootRead, WalkRead, name_of_type}
 use Rattle.fb_resolve.specs.RepeatedNames.{repeated_names}
 use Rattle.fb_resolve.specs.EnumValues.{enum_values_of}
-use Rattle.fb_resolve.specs.declared.outline.Names.{Names}
+use Rattle.fb_resolve.specs.declared.outline.OutlineNames.{OutlineNames}
 use Rattle.fb_resolve.specs.declared.outline.TypeNotes.{TypeNotes}
-use Rattle.fb_resolve.specs.declared.walk.Walk.{Walk}
+use Rattle.fb_resolve.specs.declared.walk.DeclarationWalk.{DeclarationWalk}
 use Rattle.fb_syntax.specs.FieldRead.{FieldRead}
 use Rattle.fb_syntax.specs.declared.declarations.UnionMember.{UnionMember}
 use Rattle.fb_syntax.specs.declared.declarations.TypeDecl.{TypeDecl}
@@ -66,7 +66,7 @@ IsRootPlaced tree used n named root = ForSome root
     (λ r. IsPath tree n (words_of_scope r.scope) × IsNoted used named r.name.bytes)
 
 -- what is read so far
-abbrev pub walk_read : Walk → WalkRead
+abbrev pub walk_read : DeclarationWalk → WalkRead
 walk_read w = record {
   types = w.types.items;
   attributes = map (λ a. a.now) w.attributes.items;
@@ -76,7 +76,7 @@ walk_read w = record {
 }
 
 -- The namespace in force has its path, each type its full name's and its values, and each type and the root are noted.
-pub record IsPlaced (w : Walk) : Type 0 where
+pub record IsPlaced (w : DeclarationWalk) : Type 0 where
   pub tree : IsTree w.tree
   pub used : IsTree w.used
   pub scope : IsPath w.tree w.path (words_of_scope (option_copied w.scope))
@@ -87,7 +87,7 @@ pub record IsPlaced (w : Walk) : Type 0 where
 
 -- Each name has its meaning in each namespace, this is noted of each type, each enum has its values, and repeated
 -- names are marked.
-pub record AreNames (n : Names) (types : List TypeRead) : Type 0 where
+pub record AreNames (n : OutlineNames) (types : List TypeRead) : Type 0 where
   pub scopes : AreScopes n.scopes (paths_of_types types)
   pub notes : AllZip (AreNotesOf (tree_of n.scopes) (names_of n.scopes)) n.notes.items types
   pub values : n.values.items ≡ map (enum_values_of types) types

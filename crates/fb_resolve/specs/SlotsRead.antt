@@ -17,7 +17,7 @@ use Rattle.fb_resolve.specs.declared.meanings.Meaning.{Meaning}
 use Rattle.fb_resolve.specs.declared.meanings.Meaning.TheVariants.{Known}
 use Rattle.fb_resolve.specs.declared.defaults.Given.{Given}
 use Rattle.fb_resolve.specs.declared.defaults.Given.TheVariants.{Number, Null}
-use Rattle.fb_resolve.specs.declared.resolved.UnionCode.{UnionCode}
+use Rattle.fb_resolve.specs.declared.resolved.UnionCodeSlot.{UnionCodeSlot}
 
 -- the union of a union's use
 abbrev pub union_of : FieldType → Meaning → Option TypeId
@@ -73,7 +73,7 @@ code_slot r u slot = record {
 }
 
 -- of a union's field the union, and the name of its code's slot; nothing of another field
-pub record IsCodeOf (f : FieldRead) (m : Meaning) (code : Option UnionCode) : Type 0 where
+pub record IsCodeOf (f : FieldRead) (m : Meaning) (code : Option UnionCodeSlot) : Type 0 where
   pub union : option_map (λ c. c.union) code ≡ union_of f.kind m
   pub name : IfSome code (λ c. string_bytes c.name ≡ name_of_code f.name.bytes)
 

@@ -29,7 +29,7 @@ pub use outline::{Outline, RootRead, TypeRead, name_of_type, word_of};
 pub use resolve::Resolved;
 pub use resolved::{
     ResolvedDecl, ResolvedEnum, ResolvedField, ResolvedMember, ResolvedStruct, ResolvedTable,
-    ResolvedType, ResolvedUnion, ResolvedValue, UnionCode,
+    ResolvedType, ResolvedUnion, ResolvedValue, UnionCodeSlot,
 };
 pub use slots::union_in;
 pub use structs::{align_of_type, forced_align, natural_of_type, parts_read};

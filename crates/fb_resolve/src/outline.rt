@@ -6,7 +6,7 @@ ghost use Rattle.fb_resolve.specs.EnumValues.{enum_values_of, underlying_at};
 use crate::basic_types::BasicType;
 use crate::enum_values::EnumValues;
 use crate::namespaces::Scopes;
-use crate::walk::Walk;
+use crate::walk::DeclarationWalk;
 use fb_index::HashKey;
 use fb_schema::Base;
 use fb_syntax::{Decls, DottedName, Text, TypeDecl};
@@ -63,7 +63,7 @@ pub(crate) struct TypeNotes {
 
 /// What the names of types and of enums' values mean, and where the types and the root of a text stand.
 #[derive(Drop)]
-pub(crate) struct Names<'d, 's> {
+pub(crate) struct OutlineNames<'d, 's> {
     pub scopes: Scopes<'d>,
     /// What is noted of each type, in order.
     pub notes: Vec<TypeNotes>,
@@ -87,7 +87,7 @@ pub struct Outline<'d, 's> {
     pub text_len: u64,
     /// The key of the text, for a hash of names in it.
     pub key: HashKey,
-    pub(crate) names: Names<'d, 's>,
+    pub(crate) names: OutlineNames<'d, 's>,
 }
 
 impl<'d, 's> Model for Outline<'d, 's> {
@@ -118,13 +118,13 @@ impl<'d, 's> Outline<'d, 's> {
     pub fn of(alloc: Global, decls: &'d Decls<'s>) -> Result<Outline<'d, 's>, AllocError>
         ensures { IfOk result (λ o. o ≡ outline_of decls.now) }
     {
-        let mut walk = Walk::new(alloc, decls.key());
+        let mut walk = DeclarationWalk::new(alloc, decls.key());
         let repeats = walk.pass_all(alloc, decls.declarations())?;
         walk.outline(alloc, repeats, decls.text_len())
     }
 }
 
-impl Names<'_, '_> {
+impl OutlineNames<'_, '_> {
     /// The underlying type of the enum of a number.
     pub(crate) fn underlying_at(&self, number: usize) -> Option<Base>
         ensures { (types : List Read) → self.now.values.items ≡ map (enum_values_of types) types

@@ -17,7 +17,7 @@ use crate::enum_values::EnumValues;
 use crate::ids::Slots;
 use crate::meanings::Meaning;
 use crate::members::member_name;
-use crate::outline::{Names, Outline, RootRead, TypeNotes, TypeRead, TypeUse};
+use crate::outline::{Outline, OutlineNames, RootRead, TypeNotes, TypeRead, TypeUse};
 use crate::resolved::{
     ResolvedDecl, ResolvedEnum, ResolvedField, ResolvedMember, ResolvedStruct, ResolvedTable,
     ResolvedType, ResolvedUnion,
@@ -150,7 +150,7 @@ impl<'t, 'd, 's> Scope<'t, 'd, 's> {
 fn resolved_types<'t, 'd, 's>(
     alloc: Global,
     types: &'t [TypeRead<'d, 's>],
-    names: &'t Names<'d, 's>,
+    names: &'t OutlineNames<'d, 's>,
 ) -> Result<Vec<ResolvedType<'t, 'd, 's>>, AllocError>
     requires { AreNames names.now types.now }
     ensures { IfOk result (λ v. v.items ≡ resolved_types types.now) }
@@ -174,7 +174,7 @@ fn resolved_types<'t, 'd, 's>(
 /// What the root's name means; nothing that is known where there is no root.
 fn meaning_of_root<'t, 'd, 's>(
     types: &'t [TypeRead<'d, 's>],
-    names: &'t Names<'d, 's>,
+    names: &'t OutlineNames<'d, 's>,
     root: Option<&RootRead<'d, 's>>,
 ) -> Meaning
     requires names { AreNames names.now types.now }

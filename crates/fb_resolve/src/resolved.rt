@@ -12,7 +12,7 @@ use std::marker::Model;
 
 /// The code of a union's field: the union, and the name of the slot that holds the code.
 #[derive(Drop)]
-pub struct UnionCode {
+pub struct UnionCodeSlot {
     pub union: TypeId,
     pub name: String,
 }
@@ -25,7 +25,7 @@ pub struct ResolvedField<'d, 's> {
     pub meaning: Meaning,
     pub attributes: FieldAttributes,
     pub given: Given,
-    pub code: Option<UnionCode>,
+    pub code: Option<UnionCodeSlot>,
 }
 
 impl<'d, 's> Model for ResolvedField<'d, 's> {

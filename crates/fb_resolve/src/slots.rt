@@ -7,7 +7,7 @@ ghost use Rattle.fb_resolve.specs.SlotsRead.{IsCodeOf, slots_of_field, slots_in_
 
 use crate::defaults::Given;
 use crate::meanings::Meaning;
-use crate::resolved::{ResolvedField, UnionCode};
+use crate::resolved::{ResolvedField, UnionCodeSlot};
 use crate::structs::shape_of;
 use fb_schema::{FieldInfo, Kind, Shape, TypeId};
 use fb_syntax::{Field, FieldType};
@@ -50,13 +50,13 @@ pub(crate) fn code_of(
     alloc: Global,
     field: &Field<'_>,
     meaning: Meaning,
-) -> Result<Option<UnionCode>, AllocError>
+) -> Result<Option<UnionCodeSlot>, AllocError>
     ensures { IfOk result (IsCodeOf field.now meaning) }
 {
     match (&field.kind, meaning) {
         (FieldType::One(_), Meaning::Known(Kind::Union(union))) => {
             let name = name_of_code(alloc, field.name.text)?;
-            Ok(Some(UnionCode { union, name }))
+            Ok(Some(UnionCodeSlot { union, name }))
         }
         _ => Ok(None),
     }

@@ -8,7 +8,7 @@ ghost use Rattle.fb_resolve.specs.Paths.{IsPath, IsNoted};
 ghost use Rattle.fb_resolve.specs.EnumValues.{enum_values_of};
 
 use crate::meanings::Meaning;
-use crate::outline::{Names, TypeRead, TypeUse};
+use crate::outline::{OutlineNames, TypeRead, TypeUse};
 use fb_schema::{Kind, TypeId};
 use fb_syntax::TypeDecl;
 
@@ -16,7 +16,7 @@ use fb_syntax::TypeDecl;
 #[derive(Clone, Copy)]
 pub(crate) struct Scope<'t, 'd, 's> {
     pub types: &'t [TypeRead<'d, 's>],
-    pub names: &'t Names<'d, 's>,
+    pub names: &'t OutlineNames<'d, 's>,
     pub path: usize,
     pub name: Option<&'d str>,
     ghost valued: { names.now.values.items ≡ map (enum_values_of types.now) types.now },

@@ -9,7 +9,7 @@ use fb_syntax::TypeDecl;
 
 /// What follows a name and a dot.
 #[tactic(auto, unfolding(crate::specs::EnumValues::behind))]
-fn behind<'n>(prefix: &str, name: &'n str) -> Option<&'n str>
+fn strip_dotted<'n>(prefix: &str, name: &'n str) -> Option<&'n str>
     ensures { option_copied result ≡ behind prefix.now name.now }
 {
     name.strip_prefix(prefix)?.strip_prefix('.')
@@ -22,8 +22,8 @@ fn behind_full_name<'n>(scope: Option<&str>, declared: &str, name: &'n str) -> O
         ≡ behind (full_name (option_copied scope.entry) declared.now) name.now }
 {
     match scope {
-        Some(scope) => behind(declared, behind(scope, name)?),
-        None => behind(declared, name),
+        Some(scope) => strip_dotted(declared, strip_dotted(scope, name)?),
+        None => strip_dotted(declared, name),
     }
 }
 
@@ -38,7 +38,7 @@ pub(crate) fn value_at(scope: Scope<'_, '_, '_>, number: usize, name: &str) -> O
     };
     let values = &scope.names.values[number];
     let declared = declaration.name.text;
-    let behind_name = values.number(behind(declared, name));
+    let behind_name = values.number(strip_dotted(declared, name));
     let full_name = behind_full_name(read.scope, declared, name);
     let number = values.number(Some(name));
     number.or(behind_name.or(values.number(full_name)))

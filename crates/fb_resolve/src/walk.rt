@@ -13,7 +13,7 @@ use crate::basic_types::{BasicType, basic_type};
 use crate::enum_values::EnumValues;
 use crate::meanings::type_name;
 use crate::namespaces::{PathTree, Scopes};
-use crate::outline::{Names, Outline, RootRead, TypeNotes, TypeRead, TypeUse, word_of};
+use crate::outline::{Outline, OutlineNames, RootRead, TypeNotes, TypeRead, TypeUse, word_of};
 use fb_index::HashKey;
 use fb_syntax::{Declaration, Directive, DottedName, Field, Text, TypeDecl, UnionMember};
 use std::alloc::{AllocError, Global};
@@ -21,7 +21,7 @@ use std::alloc::{AllocError, Global};
 /// What is declared so far, the paths of the namespaces and full names, and the names that are used for
 /// types.
 #[derive(Drop)]
-pub(crate) struct Walk<'d, 's> {
+pub(crate) struct DeclarationWalk<'d, 's> {
     types: Vec<TypeRead<'d, 's>>,
     attributes: Vec<&'s str>,
     root: Option<RootRead<'d, 's>>,
@@ -46,13 +46,13 @@ pub(crate) struct Walk<'d, 's> {
     key: HashKey,
 }
 
-impl<'d, 's> Walk<'d, 's> {
+impl<'d, 's> DeclarationWalk<'d, 's> {
     /// Nothing is declared in the text of a key, and no namespace is in force.
-    pub(crate) fn new(alloc: Global, key: HashKey) -> Walk<'d, 's>
+    pub(crate) fn new(alloc: Global, key: HashKey) -> DeclarationWalk<'d, 's>
         ensures placed { IsPlaced result }
         ensures empty { walk_read result ≡ nothing_read }
     {
-        Walk {
+        DeclarationWalk {
             types: Vec::new(alloc),
             attributes: Vec::new(alloc),
             root: None,
@@ -177,7 +177,7 @@ impl<'d, 's> Walk<'d, 's> {
             (λ o. o ≡ outline_behind (walk_read self.entry) [] text_len) }
     {
         let full_names = self.full_names;
-        let names = Names {
+        let names = OutlineNames {
             scopes: Scopes::of(alloc, self.tree, self.used, full_names.as_slice())?,
             notes: self.notes,
             values: self.values,

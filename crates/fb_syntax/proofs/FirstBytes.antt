@@ -6,8 +6,8 @@ use Rattle.std.proofs.lemmas.Bool.{and_parts}
 use Rattle.std.specs.List.{list_all}
 use Rattle.fb_syntax.specs.declared.tokens.TokenKind.{TokenKind}
 use Rattle.fb_syntax.specs.declared.tokens.TokenKind.TheVariants.{Word, Integer, Quoted, Punct}
-use Rattle.fb_syntax.specs.declared.scan.Piece.{Piece}
-use Rattle.fb_syntax.specs.declared.scan.Piece.TheVariants as pieces
+use Rattle.fb_syntax.specs.declared.scan.GapOrToken.{GapOrToken}
+use Rattle.fb_syntax.specs.declared.scan.GapOrToken.TheVariants as pieces
 use Rattle.fb_syntax.specs.Bytes.{is_letter, is_digit, is_sign, is_punct, is_blank, is_word_byte}
 use Rattle.fb_syntax.specs.Integers.{is_unsigned}
 use Rattle.fb_syntax.specs.TokenBytes.{is_token, starts, is_closed_by_quote, IsLongest, IsSmall}
@@ -62,7 +62,7 @@ gap_or_token {c = c} m k g s = let a = gap_starts g in let b = (started_kind k c
 
 -- Where a byte begins tokens of a kind, nothing else stands.
 pub only_kind : (kind : TokenKind) (c : ℕ) (cs : List ℕ) → starts kind c ≡ true
-    → ((n : ℕ) → IsLongest kind n (c ∷ cs) → IsSmall kind (take n (c ∷ cs)) → ⊥) → (piece : Piece)
+    → ((n : ℕ) → IsLongest kind n (c ∷ cs) → IsSmall kind (take n (c ∷ cs)) → ⊥) → (piece : GapOrToken)
     → IsAtFront (c ∷ cs) piece → ⊥
 only_kind kind c cs s none (pieces.Gap n) g = gap_or_token n kind g s
 only_kind kind c cs s none (pieces.Token k n) h =
@@ -70,18 +70,18 @@ only_kind kind c cs s none (pieces.Token k n) h =
     none n (rw same at h.0) (rw same at h.1)
 
 pub only_gaps : (c : ℕ) (cs : List ℕ) → (is_blank c || c == 47) ≡ true → ((n : ℕ) → IsGap n (c ∷ cs) → ⊥)
-    → (piece : Piece) → IsAtFront (c ∷ cs) piece → ⊥
+    → (piece : GapOrToken) → IsAtFront (c ∷ cs) piece → ⊥
 only_gaps c cs s none (pieces.Gap n) g = none n g
 only_gaps c cs s none (pieces.Token k n) h = let a = (started_kind k c (longest_starts k n c cs h.0)).1 in cc
 
 pub ruleset comments = (line_gap, block_gap, no_comment, only_gaps, behind_first)
 
-pub nowhere : (text : List ℕ) (piece : Piece) → length text ≡ 0 → IsAtFront text piece → ⊥
+pub nowhere : (text : List ℕ) (piece : GapOrToken) → length text ≡ 0 → IsAtFront text piece → ⊥
 nowhere text (pieces.Gap n) e g = let w = gap_within g in omega (arith, w.0, w.1)
 nowhere text (pieces.Token k n) e h = let w = (h.0).within in omega (arith, token_some k n text h.0)
 
 -- One piece at most stands at the front.
-pub one_piece : (text : List ℕ) (p q : Piece) → IsAtFront text p → IsAtFront text q → p ≡ q
+pub one_piece : (text : List ℕ) (p q : GapOrToken) → IsAtFront text p → IsAtFront text q → p ≡ q
 one_piece [] p q h i = absurd (nowhere [] p refl h)
 one_piece (c ∷ cs) (pieces.Gap m) (pieces.Gap n) h i = ap pieces.Gap (same_gap h i)
 one_piece (c ∷ cs) (pieces.Gap m) (pieces.Token k n) h i = absurd (gap_or_token m k h (longest_starts k n c cs i.0))
@@ -97,7 +97,7 @@ one_piece (c ∷ cs) (pieces.Token j m) (pieces.Token k n) h i =
 -- Nothing begins with any other byte.
 pub no_start : (text : List ℕ) → is_blank (get_or text 0 0) ≡ false → get_or text 0 0 ≢ 47
     → is_letter (get_or text 0 0) ≡ false → is_digit (get_or text 0 0) ≡ false → is_sign (get_or text 0 0) ≡ false
-    → get_or text 0 0 ≢ 34 → is_punct (get_or text 0 0) ≡ false → (piece : Piece) → IsAtFront text piece → ⊥
+    → get_or text 0 0 ≢ 34 → is_punct (get_or text 0 0) ≡ false → (piece : GapOrToken) → IsAtFront text piece → ⊥
 no_start [] blank slash letter digit sign quote mark piece h = nowhere [] piece refl h
 no_start (c ∷ cs) blank slash letter digit sign quote mark (pieces.Gap n) g = let e = gap_starts g in
     grind (arith, nat_tests)

@@ -3,7 +3,7 @@ use Rattle.std.proofs.Common.{◌≡◌, ℕ, ◌+◌, ◌<◌, List, [], ◌++�
 use Rattle.std.proofs.Common.{append_assoc, length-drop, Some, None, Ok, Err, ◌∷◌}
 use Rattle.std.proofs.lemmas.List.{append-nil, drop-drop}
 use Rattle.fb_syntax.specs.declared.tokens.Token.{Token}
-use Rattle.fb_syntax.specs.declared.scan.Piece.{Piece}
+use Rattle.fb_syntax.specs.declared.scan.GapOrToken.{GapOrToken}
 use Rattle.fb_syntax.specs.Spells.{Spells, finished, piece, mark_len, OneSpelling, IsAtFront, len_of, tokens_of}
 use Rattle.fb_syntax.specs.Gaps.{IsGap}
 use Rattle.fb_syntax.specs.NextToken.{ComesNext, ended, after_gap, longest, refused}
@@ -11,21 +11,21 @@ use Rattle.fb_syntax.specs.declared.tokens.BadToken.{BadToken}
 use Rattle.fb_syntax.proofs.Gaps.{gap_within}
 use Rattle.fb_syntax.proofs.FirstBytes.{nowhere, one_piece, token_some}
 use Rattle.std.proofs.lemmas.Grind.{common_steps}
-use Rattle.fb_syntax.specs.declared.scan.Piece.TheVariants as pieces
+use Rattle.fb_syntax.specs.declared.scan.GapOrToken.TheVariants as pieces
 
-pub piece_within : (piece : Piece) (text : List ℕ) → IsAtFront text piece
+pub piece_within : (piece : GapOrToken) (text : List ℕ) → IsAtFront text piece
     → (0 < len_of piece) × (len_of piece ≤ length text)
 piece_within (pieces.Gap n) text g = gap_within g
 piece_within (pieces.Token kind n) text h = (token_some kind n text h.0, (h.0).within)
 
 -- Where a piece stands, the tokens are its own and those behind it.
-pub behind : (at : ℕ) (text : List ℕ) (p : Piece) (tokens : List Token) → IsAtFront text p → Spells at text tokens
+pub behind : (at : ℕ) (text : List ℕ) (p : GapOrToken) (tokens : List Token) → IsAtFront text p → Spells at text tokens
     → (rest : List Token) × (tokens ≡ tokens_of at p ++ rest) × Spells (at + len_of p) (drop (len_of p) text) rest
 behind at text p tokens h finished = absurd (nowhere [] p refl h)
 behind at text p tokens h (piece {rest = rest} q g s) = rw (one_piece text p q h g) (rest, refl, s)
 
 -- Where nothing stands, only the end of the text is spelled.
-pub nothing : (at : ℕ) (text : List ℕ) (tokens : List Token) → ((p : Piece) → IsAtFront text p → ⊥)
+pub nothing : (at : ℕ) (text : List ℕ) (tokens : List Token) → ((p : GapOrToken) → IsAtFront text p → ⊥)
     → Spells at text tokens → (length text ≡ 0) × (tokens ≡ [])
 nothing at text tokens none finished = (refl, refl)
 nothing at text tokens none (piece p h s) = absurd (none p h)
@@ -53,12 +53,12 @@ pub record Scanned (start : ℕ) (text : List ℕ) (at : ℕ) (found : List Toke
 pub begun : (start : ℕ) (text : List ℕ) → start ≤ length text → Scanned start text start []
 begun start text h = record { within = h; sound = λ rest s. s; only = λ every s. (every, refl, s) }
 
-abbrev pub Passed : (start : ℕ) (text : List ℕ) (at : ℕ) (found : List Token) (p : Piece) → Type 0
+abbrev pub Passed : (start : ℕ) (text : List ℕ) (at : ℕ) (found : List Token) (p : GapOrToken) → Type 0
 Passed start text at found p = (at + len_of p ≤ length text) × (0 < len_of p)
     × Scanned start text (at + len_of p) (found ++ tokens_of at p)
 
-pub over_piece : (start : ℕ) (text : List ℕ) (at : ℕ) (found : List Token) (p : Piece) → Scanned start text at found
-    → IsAtFront (drop at text) p → Passed start text at found p
+pub over_piece : (start : ℕ) (text : List ℕ) (at : ℕ) (found : List Token) (p : GapOrToken)
+    → Scanned start text at found → IsAtFront (drop at text) p → Passed start text at found p
 over_piece start text at found p s here =
     let w = piece_within p (drop at text) here in
     let room : at + len_of p ≤ length text = omega (arith, w.1, s.within, length-drop at text) in
@@ -76,7 +76,7 @@ over_piece start text at found p s here =
     )
 
 pub over_fault : (start : ℕ) (text : List ℕ) (at : ℕ) (found : List Token) → Scanned start text at found
-    → at < length text → ((p : Piece) → IsAtFront (drop at text) p → ⊥) → (every : List Token)
+    → at < length text → ((p : GapOrToken) → IsAtFront (drop at text) p → ⊥) → (every : List Token)
     → Spells start (drop start text) every → ⊥
 over_fault start text at found s h none every spelled =
     let split = s.only every spelled in
@@ -102,8 +102,9 @@ gap_passed start text at found n s gap = rw append-nil at (over_piece start text
 pub over_token : (start : ℕ) (text : List ℕ) (at : ℕ) (rest : List ℕ) (found : List Token) (token : Token)
     → rest ≡ drop at text → Scanned start text at found → ComesNext at rest (Some (Ok token))
     → Scanned start text (token.at + token.len) (found ++ token ∷ [])
-over_token start text at rest found token is s (after_gap n gap next) = over_token start text (at + n) (drop n rest) found
-    token (rw is (drop-drop n at text)) (gap_passed start text at found n s (rw is at gap)) next
+over_token start text at rest found token is s (after_gap n gap next) =
+  over_token start text (at + n) (drop n rest) found token (rw is (drop-drop n at text))
+    (gap_passed start text at found n s (rw is at gap)) next
 over_token start text at rest found token is s (longest kind n l small) =
     (over_piece start text at found (pieces.Token kind n) s (rw is at l, rw is at small)).2
 

@@ -8,7 +8,7 @@ use Rattle.std.proofs.lemmas.List.{get_or-take}
 use Rattle.std.proofs.Math.Numerals.{one-add}
 use Rattle.std.specs.List.{prefix_len, list_all}
 use Rattle.fb_syntax.specs.declared.tokens.TokenKind.TheVariants.{Word, Quoted, Punct, Integer}
-use Rattle.fb_syntax.specs.declared.scan.Piece.{Piece}
+use Rattle.fb_syntax.specs.declared.scan.GapOrToken.{GapOrToken}
 use Rattle.fb_syntax.specs.Bytes.{is_letter, is_word_byte, is_quotable, is_punct, is_digit, is_hex, is_sign}
 use Rattle.fb_syntax.specs.TokenBytes.{is_closed_by_quote, is_token, IsLongest, starts}
 use Rattle.fb_syntax.specs.Spells.{IsAtFront}
@@ -83,7 +83,7 @@ quoted_longest cs p run q =
     longest_of Quoted (p + 2) 34 cs refl (omega (arith, found.1)) (rw two found.0)
     (λ m w t. omega (arith, (closed-complete cs m w t).0))
 
-pub no_quoted : (cs : List ℕ) (p : ℕ) → p ≡ prefix_len is_quotable cs → (get_or cs p 0 ≡ 34 → ⊥) → (piece : Piece)
+pub no_quoted : (cs : List ℕ) (p : ℕ) → p ≡ prefix_len is_quotable cs → (get_or cs p 0 ≡ 34 → ⊥) → (piece : GapOrToken)
     → IsAtFront (34 ∷ cs) piece → ⊥
 unfolding is_token
 no_quoted cs p run other = only_kind Quoted 34 cs refl (λ n h small. never n h) where
@@ -174,8 +174,8 @@ integer_longest (c ∷ cs) sign n s signed count some =
 
 -- No integer stands there, or one that is too great.
 pub no_integer : (text : List ℕ) (sign n : ℕ) → starts Integer (get_or text 0 0) ≡ true → sign ≡ sign_len text
-    → IsNumberLen n (drop sign text) → (0 < n → greatest_magnitude < magnitude (take (sign + n) text)) → (piece : Piece)
-    → IsAtFront text piece → ⊥
+    → IsNumberLen n (drop sign text) → (0 < n → greatest_magnitude < magnitude (take (sign + n) text))
+    → (piece : GapOrToken) → IsAtFront text piece → ⊥
 unfolding is_token
 no_integer [] sign n s signed number great = absurd cc
 no_integer (c ∷ cs) sign n s signed count great = only_kind Integer c cs s (λ m h small.

@@ -11,8 +11,8 @@ use Rattle.std.specs.Str.{IsCharBoundary}
 use Rattle.fb_syntax.specs.declared.tokens.TokenKind.{TokenKind}
 use Rattle.fb_syntax.specs.declared.tokens.TokenKind.TheVariants.{Integer, Quoted, Punct}
 use Rattle.fb_syntax.specs.declared.tokens.Token.{Token}
-use Rattle.fb_syntax.specs.declared.scan.Piece.{Piece}
-use Rattle.fb_syntax.specs.declared.scan.Piece.TheVariants as pieces
+use Rattle.fb_syntax.specs.declared.scan.GapOrToken.{GapOrToken}
+use Rattle.fb_syntax.specs.declared.scan.GapOrToken.TheVariants as pieces
 use Rattle.fb_syntax.specs.Bytes.{is_quotable}
 use Rattle.fb_syntax.specs.TokenBytes.{is_token, is_closed_by_quote, starts, IsLongest, IsSmall}
 use Rattle.fb_syntax.specs.Spells.{IsAtFront, len_of, tokens_of, Spells, finished, piece, SpellsText, mark_len}
@@ -22,7 +22,7 @@ use Rattle.fb_syntax.proofs.FirstBytes.{longest_starts}
 use Rattle.fb_syntax.proofs.FrontPieces.{piece_within}
 use Rattle.fb_syntax.proofs.LongestTokens.{closed-complete}
 
-ascii_first : (text : List ℕ) (p : Piece) → IsAtFront text p → get_or text 0 0 < 128
+ascii_first : (text : List ℕ) (p : GapOrToken) → IsAtFront text p → get_or text 0 0 < 128
 ascii_first [] p h = omega arith
 ascii_first (c ∷ cs) (pieces.Gap n) g = let e = gap_starts g in grind (arith, nat_tests)
 ascii_first (c ∷ cs) (pieces.Token k n) h = by_kind k (longest_starts k n c cs h.0) where
@@ -31,7 +31,7 @@ ascii_first (c ∷ cs) (pieces.Token k n) h = by_kind k (longest_starts k n c cs
   by_kind _ e = grind (arith, nat_tests)
 
 -- A text may be cut before a gap or a token: it begins with a byte of ASCII.
-cut_before : (text : List ℕ) (at : ℕ) (p : Piece) → IsAtFront (drop at text) p → IsCharBoundary text at
+cut_before : (text : List ℕ) (at : ℕ) (p : GapOrToken) → IsAtFront (drop at text) p → IsCharBoundary text at
 cut_before text at p h =
     let w = piece_within p (drop at text) h in
     let here : at + 0 ≡ at = omega arith in
@@ -100,7 +100,7 @@ from_place whole at text tokens u e w (piece {rest = rest} p h s) =
     (sym (drop-drop (len_of p) at whole) ∙ ap (drop (len_of p)) e)
     (omega (arith, room.0, room.1, length-drop at whole)) s in
     (with_piece p here others, cut_before whole at p here) where
-      with_piece : (p : Piece) → IsAtFront (drop at whole) p
+      with_piece : (p : GapOrToken) → IsAtFront (drop at whole) p
           → AreReadable whole rest × IsCharBoundary whole (at + len_of p) → AreReadable whole (tokens_of at p ++ rest)
       with_piece (pieces.Gap n) here others = others.0
       with_piece (pieces.Token kind n) here others =

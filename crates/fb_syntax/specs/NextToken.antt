@@ -4,7 +4,7 @@ use Rattle.std.specs.Prelude.{Option, None, Some, Result, Ok, Err, IfSome, Match
 use Rattle.fb_syntax.specs.declared.tokens.Token.{Token}
 use Rattle.fb_syntax.specs.declared.tokens.BadToken.{BadToken}
 use Rattle.fb_syntax.specs.declared.tokens.TokenKind.{TokenKind}
-use Rattle.fb_syntax.specs.declared.scan.Piece.{Piece}
+use Rattle.fb_syntax.specs.declared.scan.GapOrToken.{GapOrToken}
 use Rattle.fb_syntax.specs.declared.scan.Tokens.{Tokens}
 use Rattle.fb_syntax.specs.BadTokens.{bad_token}
 use Rattle.fb_syntax.specs.Gaps.{IsGap}
@@ -19,7 +19,7 @@ pub data ComesNext : ℕ → List ℕ → Option (Result Token BadToken) → Typ
       → ComesNext (at + n) (drop n text) found → ComesNext at text found
   longest : {at : ℕ} {text : List ℕ} (kind : TokenKind) (n : ℕ) → IsLongest kind n text → IsSmall kind (take n text)
       → ComesNext at text (Some (Ok (record { kind = kind; at = at; len = n })))
-  refused : {at : ℕ} {text : List ℕ} → 0 < length text → ((piece : Piece) → ¬ (IsAtFront text piece))
+  refused : {at : ℕ} {text : List ℕ} → 0 < length text → ((piece : GapOrToken) → ¬ (IsAtFront text piece))
       → ComesNext at text (Some (Err (bad_token at text)))
 
 abbrev pub start_of : Result Token BadToken → ℕ

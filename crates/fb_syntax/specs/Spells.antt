@@ -1,8 +1,8 @@
 -- What stands at a text's front, and which tokens spell a whole text (Writing a schema; Grammar).
 use Rattle.std.specs.Prelude.{ℕ, List, [], ◌∷◌, take, Result, Ok, Err, ◌≡◌, ◌+◌, ◌++◌, drop, IsUtf8, nat_eq}
 use Rattle.std.specs.Prelude.{if◌then◌else◌}
-use Rattle.fb_syntax.specs.declared.scan.Piece.{Piece}
-use Rattle.fb_syntax.specs.declared.scan.Piece.TheVariants as pieces
+use Rattle.fb_syntax.specs.declared.scan.GapOrToken.{GapOrToken}
+use Rattle.fb_syntax.specs.declared.scan.GapOrToken.TheVariants as pieces
 use Rattle.fb_syntax.specs.declared.faults.SyntaxFault.{SyntaxFault}
 use Rattle.fb_syntax.specs.Gaps.{IsGap}
 use Rattle.fb_syntax.specs.TokenBytes.{IsLongest, IsSmall}
@@ -10,29 +10,29 @@ use Rattle.std.specs.List.{starts_with}
 use Rattle.fb_syntax.specs.declared.tokens.Token.{Token}
 
 -- a blank or comment, or the longest token
-abbrev pub IsAtFront : List ℕ → Piece → Type 0
+abbrev pub IsAtFront : List ℕ → GapOrToken → Type 0
 IsAtFront text (pieces.Gap n) = IsGap n text
 IsAtFront text (pieces.Token kind n) = IsLongest kind n text × IsSmall kind (take n text)
 
-abbrev pub len_of : Piece → ℕ
+abbrev pub len_of : GapOrToken → ℕ
 len_of (pieces.Gap n) = n
 len_of (pieces.Token kind n) = n
 
 -- the token that a piece is, if it is one
-abbrev pub tokens_of : ℕ → Piece → List Token
+abbrev pub tokens_of : ℕ → GapOrToken → List Token
 tokens_of at (pieces.Gap n) = []
 tokens_of at (pieces.Token kind n) = record { kind = kind; at = at; len = n } ∷ []
 
 -- what stands at the front; a fault where nothing does
-abbrev pub IsFront : List ℕ → Result Piece SyntaxFault → Type 0
+abbrev pub IsFront : List ℕ → Result GapOrToken SyntaxFault → Type 0
 IsFront text (Ok piece) = IsAtFront text piece
-IsFront text (Err fault) = (piece : Piece) → ¬ (IsAtFront text piece)
+IsFront text (Err fault) = (piece : GapOrToken) → ¬ (IsAtFront text piece)
 
 -- These tokens, with blanks and comments between, are the text that begins at the place `at`. Each is the longest
 -- there.
 pub data Spells : ℕ → List ℕ → List Token → Type 0 where
   finished : {at : ℕ} → Spells at [] []
-  piece : {at : ℕ} {text : List ℕ} {rest : List Token} (p : Piece) → IsAtFront text p
+  piece : {at : ℕ} {text : List ℕ} {rest : List Token} (p : GapOrToken) → IsAtFront text p
       → Spells (at + len_of p) (drop (len_of p) text) rest → Spells at text (tokens_of at p ++ rest)
 
 abbrev pub byte_order_mark : List ℕ

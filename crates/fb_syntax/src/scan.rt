@@ -19,7 +19,7 @@ use std::alloc::Global;
 
 // What stands at a text's front, with its length. What spells a text is defined by it.
 #[derive(Clone, Copy)]
-enum Piece {
+enum GapOrToken {
     Gap(usize),
     Token(TokenKind, usize),
 }
@@ -47,14 +47,14 @@ fn before_close(text: &[u8]) -> Option<usize>
 
 // The comment after a slash at `at`.
 #[tactic(auto, using(crate::proofs::FirstBytes::comments))]
-fn comment(at: u64, text: &[u8]) -> Result<Piece, SyntaxFault>
+fn comment(at: u64, text: &[u8]) -> Result<GapOrToken, SyntaxFault>
     ensures piece { IsFront (47 ∷ text.now) result }
     ensures fault { IfErr result (λ e. e ≡ fault_of at (47 ∷ text.now)) }
 {
     match text {
-        [b'/', rest @ ..] => Ok(Piece::Gap(2 + ByteClass::Line.run(rest))),
+        [b'/', rest @ ..] => Ok(GapOrToken::Gap(2 + ByteClass::Line.run(rest))),
         [b'*', rest @ ..] => match before_close(rest) {
-            Some(len) => Ok(Piece::Gap(len + 4)),
+            Some(len) => Ok(GapOrToken::Gap(len + 4)),
             None => Err(SyntaxFault::Unterminated(at)),
         },
         _ => Err(SyntaxFault::BadByte(at)),
@@ -63,7 +63,7 @@ fn comment(at: u64, text: &[u8]) -> Result<Piece, SyntaxFault>
 
 // The quoted text after a quote at `at`.
 #[tactic(auto, using(crate::proofs::LongestTokens::no_quoted))]
-fn quoted(at: u64, text: &[u8]) -> Result<Piece, SyntaxFault>
+fn quoted(at: u64, text: &[u8]) -> Result<GapOrToken, SyntaxFault>
     requires { at + length text.now < 2 ^ 64 }
     ensures piece { IsFront (34 ∷ text.now) result }
     ensures fault { IfErr result (λ e. e ≡ fault_of at (34 ∷ text.now)) }
@@ -71,13 +71,13 @@ fn quoted(at: u64, text: &[u8]) -> Result<Piece, SyntaxFault>
     let len = ByteClass::Quotable.run(text);
     match text.get(len) {
         None => Err(SyntaxFault::Unterminated(at)),
-        Some(b'"') => Ok(Piece::Token(TokenKind::Quoted, len + 2)),
+        Some(b'"') => Ok(GapOrToken::Token(TokenKind::Quoted, len + 2)),
         Some(_) => Err(SyntaxFault::BadByte(at + len as u64 + 1)),
     }
 }
 
 // The integer at `at`.
-fn integer(at: u64, text: &[u8]) -> Result<Piece, SyntaxFault>
+fn integer(at: u64, text: &[u8]) -> Result<GapOrToken, SyntaxFault>
     requires { IsTrue (starts Integer (get_or text.now 0 0)) }
     ensures piece { IsFront text.now result }
     ensures fault { IfErr result (λ e. e ≡ fault_of at text.now) }
@@ -88,13 +88,13 @@ fn integer(at: u64, text: &[u8]) -> Result<Piece, SyntaxFault>
         return Err(SyntaxFault::BadByte(at));
     }
     match magnitude(&text[..sign + len]) {
-        Some(_) => Ok(Piece::Token(TokenKind::Integer, sign + len)),
+        Some(_) => Ok(GapOrToken::Token(TokenKind::Integer, sign + len)),
         None => Err(SyntaxFault::NumberTooBig(at)),
     }
 }
 
 // What stands at `at`, where `text` begins.
-fn next_piece(at: u64, text: &[u8]) -> Result<Piece, SyntaxFault>
+fn next_piece(at: u64, text: &[u8]) -> Result<GapOrToken, SyntaxFault>
     requires { at + length text.now < 2 ^ 64 }
     ensures piece { IsFront text.now result }
     ensures fault { IfErr result (λ e. e ≡ fault_of at text.now) }
@@ -104,15 +104,15 @@ fn next_piece(at: u64, text: &[u8]) -> Result<Piece, SyntaxFault>
     };
     let first = *first;
     if is_blank(first) {
-        Ok(Piece::Gap(1))
+        Ok(GapOrToken::Gap(1))
     } else if first == b'/' {
         comment(at, rest)
     } else if is_letter(first) {
-        Ok(Piece::Token(TokenKind::Word, 1 + ByteClass::Word.run(rest)))
+        Ok(GapOrToken::Token(TokenKind::Word, 1 + ByteClass::Word.run(rest)))
     } else if first == b'"' {
         quoted(at, rest)
     } else if is_punct(first) {
-        Ok(Piece::Token(TokenKind::Punct(first), 1))
+        Ok(GapOrToken::Token(TokenKind::Punct(first), 1))
     } else if is_digit(first) || is_sign(first) {
         integer(at, text)
     } else {
@@ -185,8 +185,8 @@ impl<'t> Iterator for Tokens<'t> {
             let at = self.at as u64;
             let rest = &self.text[self.at..];
             match next_piece(at, rest) {
-                Ok(Piece::Gap(len)) => self.at += len,
-                Ok(Piece::Token(kind, len)) => {
+                Ok(GapOrToken::Gap(len)) => self.at += len,
+                Ok(GapOrToken::Token(kind, len)) => {
                     self.at += len;
                     let len = len as u64;
                     return Some(Ok(Token { kind, at, len }));

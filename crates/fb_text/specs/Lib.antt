@@ -6,7 +6,7 @@ pub mod Escapes
 pub mod Indents
 pub mod Unnamed
 pub mod Noted
-pub mod Pages
+pub mod WriteBuffers
 pub mod Writes
 pub mod Printed
 pub mod Shown

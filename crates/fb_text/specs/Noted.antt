@@ -2,7 +2,7 @@
 use Rattle.std.specs.Prelude.{◌≡◌, ◌<◌, ℕ, Bool, true, false, List, length, take, Option, Result, Ok, Err, ⊤}
 use Rattle.std.specs.Io.KnownBytes.{Appends}
 use Rattle.fb_text.specs.declared.noted.Noted.{Noted}
-use Rattle.fb_text.specs.declared.pages.Page.{Page}
+use Rattle.fb_text.specs.declared.write_buffer.WriteBuffer.{WriteBuffer}
 
 abbrev pub write_failed : {W : Type 0} → Noted W → Bool
 write_failed n = n.failed
@@ -10,8 +10,8 @@ write_failed n = n.failed
 abbrev pub writer_of : {W : Type 0} → Noted W → W
 writer_of n = n.inner
 
-abbrev pub page_of : {W : Type 0} → Noted W → Page
-page_of n = n.page
+abbrev pub buffer_of : {W : Type 0} → Noted W → WriteBuffer
+buffer_of n = n.buffer
 
 -- a write failed, or took none of its bytes
 abbrev pub TookNone : {E : Type 0} → Result ℕ E → Type 0

@@ -1,14 +1,14 @@
--- What a piece of a text does to the page that it waits on and to the writer below.
+-- What a piece of a text does to the write buffer that it waits in and to the writer below.
 use Rattle.std.specs.Prelude.{ℕ, ◌≡◌, ◌++◌, ◌<◌, ◌-◌, ◌^◌, min, List, length, take, Bool, true, false, Option, Result}
 use Rattle.std.specs.Prelude.{Ok, Err}
 use Rattle.std.specs.Io.KnownBytes.{Appends}
 use Rattle.fb_text.specs.declared.faults.WriteFault.{WriteFault}
 use Rattle.fb_text.specs.declared.faults.WriteFault.TheVariants.{NoMemberName, WriteFailed}
 use Rattle.fb_text.specs.declared.noted.Noted.{Noted}
-use Rattle.fb_text.specs.Noted.{write_failed, writer_of, page_of}
-use Rattle.fb_text.specs.Pages.{pending, written_before}
+use Rattle.fb_text.specs.Noted.{write_failed, writer_of, buffer_of}
+use Rattle.fb_text.specs.WriteBuffers.{pending, written_before}
 
--- the bytes that a writer has, if they are known, whether its last write failed, what waits on the page, and how many
+-- the bytes that a writer has, if they are known, whether its last write failed, what waits in the buffer, and how many
 -- bytes of the text were written
 pub record State : Type 0 where
   pub known : Option (List ℕ)
@@ -21,8 +21,8 @@ state_of contents out =
     record {
       known = contents (writer_of out);
       failed = write_failed out;
-      waits = pending (page_of out);
-      written = written_before (page_of out);
+      waits = pending (buffer_of out);
+      written = written_before (buffer_of out);
     }
 
 -- a count of bytes, which stops at the greatest one

@@ -12,18 +12,18 @@ ghost use Rattle.fb_text.specs.Writes.{Prints};
 use crate::indents::Indent;
 use crate::lines::{put_member_line, put_name};
 use crate::noted::Noted;
-use crate::shown::Found;
+use crate::shown::ValueHead;
 use fb_schema::{FieldInfo, Kind, Schema, Shape, TypeId};
 use std::io::Write;
 
 /// Whether a slot is printed.
-pub(crate) fn is_printed(defaults: bool, slot: &FieldInfo, found: Found) -> bool
+pub(crate) fn is_printed(defaults: bool, slot: &FieldInfo, found: ValueHead) -> bool
     ensures { (o : Option Datum) → IsTop found.entry o
         → result ≡ is_entry_printed defaults (field_seen slot.now) o }
 {
     match found {
-        Found::Absent => false,
-        Found::Number(number) => defaults || slot.optional || number != slot.default,
+        ValueHead::Absent => false,
+        ValueHead::Number(number) => defaults || slot.optional || number != slot.default,
         _ => true,
     }
 }
@@ -59,13 +59,13 @@ pub(crate) fn put_code<W: Write>(
     indent: &Indent,
     some: bool,
     slot: &FieldInfo,
-    found: Found,
+    found: ValueHead,
 ) -> bool
     ensures text { (d : Datum) → IsTop found.entry (Some d) → Prints W.contents out.old out.new
         (code_text schema.now (blanks indent.now) some (field_seen slot.now).name slot.now.shape d) }
     ensures some { (d : Datum) → IsTop found.entry (Some d) → result ≡ (some || has_code slot.now.shape d) }
 {
-    let Found::Member(code) = found else {
+    let ValueHead::Member(code) = found else {
         return some;
     };
     let Shape::One(Kind::Union(union)) = slot.shape else {

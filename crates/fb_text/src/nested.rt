@@ -10,7 +10,7 @@ ghost use Rattle.fb_value.specs.Datum.{Datum, Parts, a_struct};
 ghost use Rattle.fb_text.specs.Shown.{IsTop, HasWeight};
 ghost use Rattle.fb_text.specs.Nested.{HasByte, HasStruct, IsStructAt, StandsIn, IsAt, left_text};
 
-use crate::shown::{Found, Shown};
+use crate::shown::{Shown, ValueHead};
 use fb_layout::{Layout, layout_is_well_made};
 use fb_schema::{Kind, Shape, TypeId};
 
@@ -87,7 +87,7 @@ pub(crate) fn enter<S: Shown>(
 }
 
 /// The type of the struct that was found in a field, if one was.
-pub(crate) fn struct_in(shape: Shape, found: Found) -> Option<TypeId>
+pub(crate) fn struct_in(shape: Shape, found: ValueHead) -> Option<TypeId>
     ensures known { (u : TypeId) (es : Parts) → shape ≡ One (Struct u) → IsTop found.entry (Some (a_struct es))
         → result ≡ Some u }
     ensures shape { IfSome result (λ u. shape ≡ One (Struct u)) }
@@ -96,7 +96,7 @@ pub(crate) fn struct_in(shape: Shape, found: Found) -> Option<TypeId>
     ensures heavy { IfSome result (λ _. (weight : ℕ) → HasWeight found.entry weight → 0 < weight) }
 {
     match found {
-        Found::Struct => match shape {
+        ValueHead::Struct => match shape {
             Shape::One(Kind::Struct(structure)) => Some(structure),
             _ => None,
         },
@@ -146,7 +146,7 @@ fn inner_at<S: Shown>(layout: &Layout, here: StructCursor<S>, byte: u32) -> Stru
         return here;
     }
     let part = here.shown.child(k);
-    match struct_in(fields[k].shape, part.find()) {
+    match struct_in(fields[k].shape, part.head()) {
         Some(structure) => StructCursor {
             structure,
             shown: part,

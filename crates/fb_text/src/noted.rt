@@ -1,11 +1,11 @@
-//! A writer that remembers whether its last write failed, and the page on which a text is collected for it.
+//! A writer that remembers whether its last write failed, and the write buffer in which a text is collected for it.
 ghost use Rattle.std.specs.Prelude.{◌≡◌, ◌↔◌, ◌<◌, ◌≤◌, [], ◌++◌, length, take, false, true, IsTrue};
 ghost use Rattle.std.specs.Io.{WritesAtMost};
 ghost use Rattle.std.specs.Io.KnownBytes.{Appends, WriteAppends, Keeps};
 ghost use Rattle.fb_text.specs.Noted.{TookNone};
 
 use crate::faults::WriteFault;
-use crate::pages::Page;
+use crate::write_buffer::WriteBuffer;
 use std::io;
 use std::io::Write;
 
@@ -43,18 +43,18 @@ fn write_bytes<W: Write>(inner: &mut W, failed: &mut bool, bytes: &[u8]) -> usiz
 
 /// A writer that remembers whether its last write failed or took none of its bytes.
 ///
-/// It has room for a page, so that a text that is printed to it is written in few large pieces.
+/// It has a write buffer, so that a text that is printed to it is written in few large pieces.
 #[derive(Drop)]
 pub struct Noted<W: Write> {
     inner: W,
     failed: bool,
-    page: Page,
+    buffer: WriteBuffer,
 }
 
 impl<W: Write> Noted<W> {
     ghost use Rattle.std.specs.Prelude.{ℕ, List, Option, IsErr};
-    ghost use Rattle.fb_text.specs.Noted.{write_failed, writer_of, page_of, IsWrittenUnlessFailed};
-    ghost use Rattle.fb_text.specs.Pages.{pending, written_before};
+    ghost use Rattle.fb_text.specs.Noted.{write_failed, writer_of, buffer_of, IsWrittenUnlessFailed};
+    ghost use Rattle.fb_text.specs.WriteBuffers.{pending, written_before};
     ghost use Rattle.fb_text.specs.Printed.{IfUnnamed};
     ghost use Rattle.fb_text.specs.Texts.{in_quotes};
     ghost use Rattle.fb_text.specs.Writes.{state_of, Stands, IsWritten, Prints};
@@ -67,7 +67,7 @@ impl<W: Write> Noted<W> {
         Noted {
             inner,
             failed: false,
-            page: Page::new(),
+            buffer: WriteBuffer::new(),
         }
     }
 
@@ -85,7 +85,7 @@ impl<W: Write> Noted<W> {
         self.failed
     }
 
-    /// Writes a text at once, without the page, until a write fails or takes none of its bytes.
+    /// Writes a text at once, without the write buffer, until a write fails or takes none of its bytes.
     pub fn write_whole(&mut self, text: &str)
         requires fresh { write_failed self.old ≡ false }
         ensures { IsWrittenUnlessFailed text.now (write_failed self.new)
@@ -96,47 +96,47 @@ impl<W: Write> Noted<W> {
 
     /// Begins a text: none of its bytes wait, and none were written.
     pub(crate) fn begin(&mut self)
-        ensures pending { pending (page_of self.new) ≡ [] }
-        ensures written { written_before (page_of self.new) ≡ 0 }
+        ensures pending { pending (buffer_of self.new) ≡ [] }
+        ensures written { written_before (buffer_of self.new) ≡ 0 }
         ensures same { writer_of self.new ≡ writer_of self.old }
         ensures still { write_failed self.new ≡ write_failed self.old }
     {
-        self.page.restart(0);
+        self.buffer.restart(0);
     }
 
-    /// Writes what waits on the page. After a failure nothing is written.
+    /// Writes what waits in the write buffer. After a failure nothing is written.
     #[cold]
     #[inline(never)]
-    fn write_page(&mut self)
+    fn write_pending(&mut self)
         ensures adds { Prints W.contents self.old self.new [] }
-        ensures empty { pending (page_of self.new) ≡ [] }
+        ensures empty { pending (buffer_of self.new) ≡ [] }
     {
-        let before = self.page.written();
+        let before = self.buffer.written();
         if self.failed {
-            self.page.restart(before);
+            self.buffer.restart(before);
             return;
         }
-        let written = write_bytes(&mut self.inner, &mut self.failed, self.page.pending());
-        self.page.restart(before.saturating_add(written as u64));
+        let written = write_bytes(&mut self.inner, &mut self.failed, self.buffer.pending());
+        self.buffer.restart(before.saturating_add(written as u64));
     }
 
-    /// Adds a piece where no bytes wait: to the page where it has room, and else to the writer.
+    /// Adds a piece where no bytes wait: to the write buffer where it has room, and else to the writer.
     #[cold]
     #[inline(never)]
     fn put_first(&mut self, piece: &[u8])
-        requires { pending (page_of self.old) ≡ [] }
+        requires { pending (buffer_of self.old) ≡ [] }
         ensures { Prints W.contents self.old self.new piece.now }
     {
-        if self.page.has_room(piece.len()) {
-            self.page.add(piece);
+        if self.buffer.has_room(piece.len()) {
+            self.buffer.add(piece);
             return;
         }
         if self.failed {
             return;
         }
-        let before = self.page.written();
+        let before = self.buffer.written();
         let written = write_bytes(&mut self.inner, &mut self.failed, piece);
-        self.page.restart(before.saturating_add(written as u64));
+        self.buffer.restart(before.saturating_add(written as u64));
     }
 
     /// Adds a piece of a text. What waits is written where the piece has no room after it.
@@ -145,11 +145,11 @@ impl<W: Write> Noted<W> {
     pub(crate) fn put(&mut self, piece: &[u8])
         ensures { Prints W.contents self.old self.new piece.now }
     {
-        if self.page.has_room(piece.len()) {
-            self.page.add(piece);
+        if self.buffer.has_room(piece.len()) {
+            self.buffer.add(piece);
             return;
         }
-        self.write_page();
+        self.write_pending();
         self.put_first(piece);
     }
 
@@ -167,10 +167,10 @@ impl<W: Write> Noted<W> {
         requires { len ≤ 16 }
         ensures { Prints W.contents self.old self.new (take len piece.now) }
     {
-        if !self.page.has_room(piece.len()) {
+        if !self.buffer.has_room(piece.len()) {
             return self.put(&piece[..len]);
         }
-        self.page.add_front(piece, len);
+        self.buffer.add_front(piece, len);
     }
 
     /// Adds three pieces, one after another.
@@ -184,18 +184,18 @@ impl<W: Write> Noted<W> {
         self.put_str(third);
     }
 
-    /// Adds three pieces, with one test for room where the page has it.
+    /// Adds three pieces, with one test for room where the write buffer has it.
     #[inline]
     pub(crate) fn put_three(&mut self, first: &str, second: &str, third: &str)
         ensures { Prints W.contents self.old self.new (first.now ++ (second.now ++ third.now)) }
     {
         let around = first.len().saturating_add(third.len());
-        if !self.page.has_room(second.len().saturating_add(around)) {
+        if !self.buffer.has_room(second.len().saturating_add(around)) {
             return self.put_each(first, second, third);
         }
-        self.page.add(first.as_bytes());
-        self.page.add(second.as_bytes());
-        self.page.add(third.as_bytes());
+        self.buffer.add(first.as_bytes());
+        self.buffer.add(second.as_bytes());
+        self.buffer.add(third.as_bytes());
     }
 
     /// Adds a piece in quotes.
@@ -214,9 +214,9 @@ impl<W: Write> Noted<W> {
         ensures failed { IsErr result ↔ IsTrue (write_failed self.new) }
         ensures named { IfUnnamed result ⊥ }
     {
-        self.write_page();
+        self.write_pending();
         if self.failed {
-            return Err(WriteFault::WriteFailed(self.page.written()));
+            return Err(WriteFault::WriteFailed(self.buffer.written()));
         }
         Ok(())
     }

@@ -13,9 +13,9 @@ ghost use Rattle.fb_text.specs.Unnamed.{nth_child, unnamed_from};
 use fb_read::{NumberItems, TextItems};
 use fb_schema::TypeId;
 
-/// What is found where a value is read.
+/// What a value is, without its parts; `Absent` where none is read.
 #[derive(Clone, Copy, Debug, PartialEq, Eq)]
-pub enum Found<'a> {
+pub enum ValueHead<'a> {
     Absent,
     Number(i128),
     Text(&'a str),
@@ -39,8 +39,8 @@ pub trait Shown: Copy {
     // Children are numbered below this or below 65,536.
     ghost width: { Self → ℕ };
 
-    /// What is there.
-    fn find(&self) -> Found<'_>
+    /// The head of the value that is there.
+    fn head(&self) -> ValueHead<'_>
         ensures top { (L : LaidSchema) (o : Option Datum) → shows self.now L o → IsTop result o }
         ensures heavy { HasWeight result (weight self.now) };
 

@@ -3,7 +3,7 @@
 ghost use Rattle.std.specs.Prelude.{◌≡◌};
 ghost use Rattle.fb_text.specs.Unnamed.{may_have_unions};
 
-use crate::shown::{Found, Shown};
+use crate::shown::{Shown, ValueHead};
 use fb_read::{Entry, NumberItems, TextItems};
 use fb_schema::{Kind, Shape};
 
@@ -28,16 +28,16 @@ impl Shown for Entry<'_> {
     ghost width = { len_in };
 
     #[inline]
-    fn find(&self) -> Found<'_> {
+    fn head(&self) -> ValueHead<'_> {
         match self {
-            Entry::Absent => Found::Absent,
-            Entry::Number(number) => Found::Number(*number),
-            Entry::Text(text) => Found::Text(text),
-            Entry::Fixed(_) => Found::Struct,
-            Entry::Table(view) => Found::Table(view.type_id()),
-            Entry::Member(code, _) => Found::Member(*code),
-            Entry::Unknown(_) => Found::Unknown,
-            Entry::Vector(_) => Found::Vector,
+            Entry::Absent => ValueHead::Absent,
+            Entry::Number(number) => ValueHead::Number(*number),
+            Entry::Text(text) => ValueHead::Text(text),
+            Entry::Fixed(_) => ValueHead::Struct,
+            Entry::Table(view) => ValueHead::Table(view.type_id()),
+            Entry::Member(code, _) => ValueHead::Member(*code),
+            Entry::Unknown(_) => ValueHead::Unknown,
+            Entry::Vector(_) => ValueHead::Vector,
         }
     }
 

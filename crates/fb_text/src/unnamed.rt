@@ -6,16 +6,16 @@ ghost use Rattle.fb_text.specs.Printed.{first_in_entry};
 ghost use Rattle.fb_text.specs.Shown.{IsTop};
 ghost use Rattle.fb_text.specs.Unnamed.{child_place};
 
-use crate::shown::{Found, Shown};
+use crate::shown::{Shown, ValueHead};
 use fb_json::Place;
 
 /// The place of an entry of a table, and of what is in anything else its own. A value that fits no
 /// type may have more entries than there are slots.
-fn place_in(place: Place, found: Found, i: usize) -> Place
+fn place_in(place: Place, found: ValueHead, i: usize) -> Place
     ensures { (o : Option Datum) → IsTop found.entry o → result ≡ child_place place o i }
 {
     match found {
-        Found::Table(owner) => Place {
+        ValueHead::Table(owner) => Place {
             owner,
             slot: Some(i.min(65535) as u16),
         },
@@ -27,8 +27,8 @@ fn place_in(place: Place, found: Found, i: usize) -> Place
 pub fn first_unnamed<S: Shown>(place: Place, shown: S) -> Option<Place>
     ensures { (L : LaidSchema) (o : Option Datum) → S.shows shown L o → result ≡ first_in_entry place o }
 {
-    let found = shown.find();
-    if let Found::Unknown = found {
+    let found = shown.head();
+    if let ValueHead::Unknown = found {
         return Some(place);
     }
     let end = shown.searched();

@@ -21,7 +21,7 @@ use crate::nested::{StructCursor, enter, outermost, parent_of, struct_in};
 use crate::noted::Noted;
 use crate::numbers::put_number;
 use crate::quotes::put_quoted;
-use crate::shown::{Found, Shown};
+use crate::shown::{Shown, ValueHead};
 use crate::vectors::{put_numbers, put_texts};
 use fb_layout::{Layout, layout_is_well_made};
 use fb_schema::{FieldInfo, Kind, Shape, TypeId};
@@ -38,7 +38,7 @@ pub struct Style<'a> {
 #[derive(Clone, Copy)]
 struct FoundValue<'f, S> {
     shown: S,
-    found: Found<'f>,
+    found: ValueHead<'f>,
 }
 
 /// Adds the text of a value of a shape. Lines that the value begins are indented.
@@ -56,7 +56,7 @@ pub(crate) fn put_value<W: Write, S: Shown>(
 {
     let value = FoundValue {
         shown,
-        found: shown.find(),
+        found: shown.head(),
     };
     put_found(out, style, indent, shape, value);
 }
@@ -79,21 +79,21 @@ fn put_found<W: Write, S: Shown>(
 {
     let FoundValue { shown, found } = value;
     match found {
-        Found::Absent | Found::Unknown => {}
-        Found::Number(number) => {
+        ValueHead::Absent | ValueHead::Unknown => {}
+        ValueHead::Number(number) => {
             if let Shape::One(kind) = shape {
                 put_number(out, style.layout.schema(), kind, number);
             }
         }
-        Found::Text(text) => put_quoted(out, text),
-        Found::Struct => {
+        ValueHead::Text(text) => put_quoted(out, text),
+        ValueHead::Struct => {
             if let Shape::One(Kind::Struct(structure)) = shape {
                 put_struct(out, style, indent, structure, shown);
             }
         }
-        Found::Table(owner) => put_table(out, style, indent, owner, shown),
-        Found::Member(_) => put_value(out, style, indent, shape, shown.child(0)),
-        Found::Vector => {
+        ValueHead::Table(owner) => put_table(out, style, indent, owner, shown),
+        ValueHead::Member(_) => put_value(out, style, indent, shape, shown.child(0)),
+        ValueHead::Vector => {
             if let Shape::Many(kind) = shape {
                 put_vector(out, style, indent, kind, shown);
             }
@@ -149,8 +149,8 @@ fn put_item<W: Write, S: Shown>(
         → Prints W.contents out.old out.new
         (value_text style.entry.layout.now style.entry.defaults (blanks indent.now) (One kind) d) }
 {
-    match shown.find() {
-        Found::Number(number) => put_number(out, style.layout.schema(), kind, number),
+    match shown.head() {
+        ValueHead::Number(number) => put_number(out, style.layout.schema(), kind, number),
         found => put_found(
             out,
             style,
@@ -209,7 +209,7 @@ fn put_member<W: Write, S: Shown>(
     ensures some { (o : Option Datum) → S.shows shown style.entry.layout.now o
         → result ≡ (some || is_entry_printed style.entry.defaults (field_seen slot.now) o) }
 {
-    let found = shown.find();
+    let found = shown.head();
     if !is_printed(style.defaults, slot, found) {
         return some;
     }
@@ -277,7 +277,7 @@ fn put_fields<W: Write, S: Shown>(
         let k = usize::from(here.next);
         let field = &fields[k];
         let part = here.shown.child(k);
-        let found = part.find();
+        let found = part.head();
         if here.left > 0
             && let Some(structure) = struct_in(field.shape, found)
         {
@@ -310,7 +310,7 @@ fn put_field<W: Write, S: Shown>(
         (blanks inner.now) some (field_seen field.now) o) }
     ensures some { (o : Option Datum) → IsTop value.entry.found o → result ≡ (some || is_some o) }
 {
-    if let Found::Absent = value.found {
+    if let ValueHead::Absent = value.found {
         return some;
     }
     put_member_line(out, inner, some, field.name.as_str(), false);

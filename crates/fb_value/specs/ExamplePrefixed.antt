@@ -11,14 +11,14 @@ use Rattle.fb_value.specs.ExampleLayouts.{usual, identified_int}
 use Rattle.fb_value.specs.ExampleTables.{one_number}
 use Rattle.fb_value.specs.ExampleIdentifier.{test_bytes}
 
--- 16 bytes after their count
-abbrev pub counted_bytes : Bytes
-counted_bytes = 16 ∷ 0 ∷ 0 ∷ 0 ∷ test_bytes
+-- 16 bytes after their size prefix
+abbrev pub prefixed_bytes : Bytes
+prefixed_bytes = 16 ∷ 0 ∷ 0 ∷ 0 ∷ test_bytes
 
--- They hold what the buffer after the count holds.
-pub counted_held : HoldsFramed true identified_int usual false counted_bytes (one_number 0)
+-- They hold what the buffer after the size prefix holds.
+pub prefixed_held : HoldsFramed true identified_int usual false prefixed_bytes (one_number 0)
 unfolding num slot_number named_slots first_failing fault_by prefixed_fault
-counted_held = record {
+prefixed_held = record {
   header = refl;
   lies = (refl, (refl, refl, ((pos 0, refl, refl), tt)));
   deep = lit≤ tt;
@@ -26,25 +26,25 @@ counted_held = record {
 }
 
 -- The computing program finds no fault there.
-pub counted_kept : framed_fault true identified_int usual false counted_bytes ≡ None
+pub prefixed_kept : framed_fault true identified_int usual false prefixed_bytes ≡ None
 unfolding num slot_number named_slots named_elements first_failing fault_by all_within all limited_fault first_fault
     fault_from prefixed_fault
-counted_kept = refl
+prefixed_kept = refl
 
--- A count of more than what follows is refused at the count.
-pub count_too_large : framed_fault true identified_int usual false (set counted_bytes 0 17) ≡ Some (OutOfBounds 0)
+-- A size prefix of more than what follows is refused at its position.
+pub prefix_too_large : framed_fault true identified_int usual false (set prefixed_bytes 0 17) ≡ Some (OutOfBounds 0)
 unfolding num first_failing fault_from prefixed_fault
-count_too_large = refl
+prefix_too_large = refl
 
 -- So is a byte after the message, where it stands.
-pub byte_behind : framed_fault true identified_int usual false (counted_bytes ++ (0 ∷ [])) ≡ Some (OutOfBounds 20)
+pub byte_behind : framed_fault true identified_int usual false (prefixed_bytes ++ (0 ∷ [])) ≡ Some (OutOfBounds 20)
 unfolding num first_failing fault_from prefixed_fault
 byte_behind = refl
 
--- Three bytes have no count.
-pub count_cut : framed_fault true identified_int usual false (take 3 counted_bytes) ≡ Some (Short 3)
+-- Three bytes have no size prefix.
+pub prefix_cut : framed_fault true identified_int usual false (take 3 prefixed_bytes) ≡ Some (Short 3)
 unfolding num first_failing fault_from prefixed_fault
-count_cut = refl
+prefix_cut = refl
 
 -- Eight bytes have no identifier.
 pub identifier_cut : framed_fault true identified_int usual false (4 ∷ 0 ∷ 0 ∷ 0 ∷ 4 ∷ 0 ∷ 0 ∷ 0 ∷ []) ≡ Some (Short 8)
@@ -52,7 +52,7 @@ unfolding num first_failing fault_from prefixed_fault
 identifier_cut = refl
 
 -- Another identifier is refused where it stands.
-pub other_identifier : framed_fault true identified_int usual false (set counted_bytes 8 0x55)
+pub other_identifier : framed_fault true identified_int usual false (set prefixed_bytes 8 0x55)
     ≡ Some (WrongIdentifier 8)
 unfolding num first_failing fault_from prefixed_fault
 other_identifier = refl

@@ -1,7 +1,7 @@
 -- The value that bytes hold, or the least of their faults.
 -- From the FlatBuffers documentation, "FlatBuffer Internals" and "File identification": the root's reference, and the
--- identifier after it. From "Storing multiple FlatBuffers" (C++ guide, size-prefixed buffers): a count of the bytes
--- that follow may be in front. Positions and alignment count from the count's first byte then.
+-- identifier after it. From "Storing multiple FlatBuffers" (C++ guide, size-prefixed buffers): a size
+-- prefix, the length of what follows it, may come first. Positions and alignment count from its first byte then.
 use Rattle.std.specs.Prelude.{ℕ, ◌+◌, ◌≡◌, ◌≤◌, ◌⊎◌, List, [], ◌∷◌, length, take, drop, nat_le, Bool, true, false}
 use Rattle.std.specs.Prelude.{Option, None, Some, if◌then◌else◌}
 use Rattle.std.specs.Str.{bytes_eq}
@@ -18,7 +18,7 @@ use Rattle.fb_value.specs.Lies.{LiesAt}
 use Rattle.fb_value.specs.Reached.{Path}
 use Rattle.fb_value.specs.Faults.{FaultFrom, LeastFrom, or_else, fault_from}
 
--- where a buffer begins: after the count, if it has one
+-- where a buffer begins: after the size prefix, if it has one
 abbrev pub front_of : Bool → ℕ
 front_of false = 0
 front_of true = 4
@@ -44,19 +44,19 @@ header_rules p b (Some id) =
     ∷ (WrongIdentifier (p + 4), bytes_eq (take 4 (drop (p + 4) b)) id) ∷ []
 
 -- The rules of a size prefix, before others: it is the length of what follows.
-abbrev pub count_rules : Bytes → List Rule → List Rule
-count_rules b others = (Short (length b), nat_le 4 (length b)) ∷ (OutOfBounds 0, nat_le (4 + num b 0 4) (length b))
+abbrev pub prefix_rules : Bytes → List Rule → List Rule
+prefix_rules b others = (Short (length b), nat_le 4 (length b)) ∷ (OutOfBounds 0, nat_le (4 + num b 0 4) (length b))
     ∷ (OutOfBounds (4 + num b 0 4), nat_le (length b) (4 + num b 0 4)) ∷ others
 
 -- the first fault of a header at the front
 unfoldable pub header_fault : Bytes → Option (List ℕ) → Option ReadFault
 header_fault b id = first_failing (header_rules 0 b id)
 
--- the same after a count
+-- the same after a size prefix
 unfoldable pub prefixed_fault : Bytes → Option (List ℕ) → Option ReadFault
-prefixed_fault b id = first_failing (count_rules b (header_rules 4 b id))
+prefixed_fault b id = first_failing (prefix_rules b (header_rules 4 b id))
 
--- with a count or without
+-- with a size prefix or without
 abbrev pub front_fault : Bool → Bytes → Option (List ℕ) → Option ReadFault
 front_fault false b id = header_fault b id
 front_fault true b id = prefixed_fault b id

@@ -1,6 +1,6 @@
 -- Size-prefixed buffers, one after the other.
 -- From the FlatBuffers documentation, "Storing multiple FlatBuffers" of the C++ guide: a stream of them is split by
--- their counts.
+-- their size prefixes.
 use Rattle.std.specs.Prelude.{◌+◌, ◌≡◌, ◌≤◌, ◌++◌, Bool, true, List, [], ◌∷◌, length, nat_le, None}
 use Rattle.fb_layout.specs.Laid.{LaidSchema}
 use Rattle.fb_value.specs.declared.faults.ReadFault.TheVariants.{Short, OutOfBounds}

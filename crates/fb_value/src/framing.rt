@@ -2,7 +2,7 @@
 ghost use Rattle.std.specs.Prelude.{◌≡◌, ◌≤◌};
 ghost use Rattle.fb_value.specs.Holds.{front_of};
 
-/// How many bytes come before a buffer: the count of its bytes where it is `prefixed`, else none.
+/// How many bytes come before a buffer: those of the size prefix where it is `prefixed`, else none.
 #[inline(always)]
 pub fn front_of(prefixed: bool) -> usize
     ensures exact { result ≡ front_of prefixed }

@@ -146,7 +146,7 @@ pub fn message_is_whole()
     ensures { MessageIsWhole }
 {}
 
-/// A size-prefixed buffer that holds a value is as long as its count says.
+/// A size-prefixed buffer that holds a value is as long as its prefix says.
 pub fn held_is_message()
     ensures { HeldIsMessage }
 {}

@@ -1,13 +1,13 @@
 //! A task over many files, each for itself, under one schema.
 use crate::explained::{Refusal, refuse};
-use crate::faults::{Buffer, read_fault, write_fault};
+use crate::faults::{BufferContent, read_fault, write_fault};
 use crate::{layout_of, tell};
 use clap::Error;
 use clap::error::ErrorKind;
 use fb_explain_records::push_escaped;
 use flatc_cli::{ErrorFormat, Task, Verb, usage_error};
 use flatc_files::{
-    Content, Misuse, Progress, Reasoned, RunStatus, Target, Texts, targets_of, write_file,
+    Content, Progress, Reasoned, RunStatus, Target, TargetMisuse, Texts, targets_of, write_file,
 };
 use flatc_jobs::{Flags, encoded, end_of, verified};
 use flatc_tool::{DecodeOptions, Layout, Noted, ToolFault, decode_to};
@@ -68,7 +68,7 @@ fn write_buffer<'j>(
     flags: Flags,
 ) -> Result<(), ToolFault> {
     let buffer = encoded(rt.alloc(), layout, &mut texts.input.bytes, flags)?;
-    match write_file(rt, target, &mut Buffer(buffer.as_slice())) {
+    match write_file(rt, target, &mut BufferContent(buffer.as_slice())) {
         Ok(()) => Ok(()),
         Err(error) => Err(write_fault(rt, texts, target.path.as_str(), &error)),
     }
@@ -225,7 +225,11 @@ fn do_all<'j>(
 }
 
 /// Where each output of a task goes; nothing where no file is written.
-fn targets_in(rt: &HostRuntime, task: &Task, files: &[String]) -> Result<Vec<Target>, Misuse> {
+fn targets_in(
+    rt: &HostRuntime,
+    task: &Task,
+    files: &[String],
+) -> Result<Vec<Target>, TargetMisuse> {
     match task.directory() {
         Some((dir, extension)) => targets_of(rt, dir, extension, task.schema.as_str(), files),
         None => Ok(Vec::new(rt.alloc())),
@@ -241,8 +245,8 @@ pub(crate) fn do_batch(
 ) -> Result<u8, Error> {
     match targets_in(rt, task, files) {
         Ok(targets) => Ok(do_all(rt, Batch { task, files }, targets.as_slice(), format)),
-        Err(Misuse::Memory) => Err(Error::from(AllocError)),
-        Err(Misuse::Said(said)) => Err(usage_error(
+        Err(TargetMisuse::Memory) => Err(Error::from(AllocError)),
+        Err(TargetMisuse::Said(said)) => Err(usage_error(
             rt.alloc(),
             job_name(task.verb),
             ErrorKind::ArgumentConflict,

@@ -5,9 +5,9 @@ use std::io::{self, ErrorKind, Write};
 
 /// A buffer, to be written.
 #[derive(Drop)]
-pub(crate) struct Buffer<'b>(pub(crate) &'b [u8]);
+pub(crate) struct BufferContent<'b>(pub(crate) &'b [u8]);
 
-impl Content for Buffer<'_> {
+impl Content for BufferContent<'_> {
     fn write_to<W: Write>(&mut self, out: &mut W) -> io::Result<()> {
         out.write_all(self.0)
     }

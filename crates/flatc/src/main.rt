@@ -2,7 +2,7 @@
 #![tactic(auto)]
 
 mod batches;
-mod counted;
+mod counting_writer;
 mod explained;
 mod faults;
 mod hints;
@@ -13,7 +13,7 @@ mod terminal;
 
 use crate::batches::do_batch;
 use crate::explained::{Refusal, explain_number, list_numbers, refuse, warn};
-use crate::faults::{Buffer, read_fault, write_fault};
+use crate::faults::{BufferContent, read_fault, write_fault};
 use crate::hints::hint_for;
 use crate::inspected::inspect;
 use crate::messages::do_stream;
@@ -82,7 +82,12 @@ fn write_buffer<'j>(
     let [schema, json, out] = paths;
     read_both(rt, texts, [schema, json])?;
     let buffer = buffer_of(rt, texts, flags)?;
-    match write_out(rt, out, &mut Buffer(buffer.as_slice()), [schema, json]) {
+    match write_out(
+        rt,
+        out,
+        &mut BufferContent(buffer.as_slice()),
+        [schema, json],
+    ) {
         Ok(()) => Ok(()),
         Err(error) => Err(write_fault(rt, texts, out, &error)),
     }

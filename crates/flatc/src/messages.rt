@@ -1,6 +1,6 @@
 //! A task over a stream of messages, which are read, done and written one by one.
 use crate::batches::tell_end;
-use crate::counted::Counted;
+use crate::counting_writer::CountingWriter;
 use crate::explained::{Refusal, refuse};
 use crate::faults::{read_fault, write_fault};
 use crate::{layout_of, out_path};
@@ -32,7 +32,7 @@ impl Stream<'_> {
 
 /// A stream, and how far its messages are done.
 #[derive(Drop)]
-struct Run<'s> {
+struct StreamRun<'s> {
     rt: &'s HostRuntime,
     stream: Stream<'s>,
     layout: Layout,
@@ -46,7 +46,7 @@ struct Run<'s> {
     is_stopped: bool,
 }
 
-impl Run<'_> {
+impl StreamRun<'_> {
     /// Prints the number of a message before the line of its refusal.
     fn print_number(&self, number: u64) {
         let noun = match self.stream.task.verb {
@@ -188,7 +188,7 @@ impl Run<'_> {
     }
 }
 
-impl Content for Run<'_> {
+impl Content for StreamRun<'_> {
     fn write_to<W: Write>(&mut self, out: &mut W) -> io::Result<()> {
         let mut out = BufWriter::new(self.rt.alloc(), out)?;
         self.do_messages(&mut out)?;
@@ -229,7 +229,7 @@ enum Unwritten {
 }
 
 /// Does all messages of a stream.
-fn write_messages(rt: &HostRuntime, run: &mut Run<'_>) -> Result<(), Unwritten> {
+fn write_messages(rt: &HostRuntime, run: &mut StreamRun<'_>) -> Result<(), Unwritten> {
     let stream = run.stream;
     match stream.task.verb {
         Verb::Binary { .. } => {
@@ -237,14 +237,14 @@ fn write_messages(rt: &HostRuntime, run: &mut Run<'_>) -> Result<(), Unwritten> 
             write_out(rt, out_path(&stream.task.output), run, inputs).map_err(Unwritten::File)
         }
         Verb::Json { .. } | Verb::Check { .. } => {
-            let mut out = Counted::over(rt.stdout());
+            let mut out = CountingWriter::new(rt.stdout());
             let done = run.write_to(&mut out);
             done.map_err(|error| Unwritten::Standard(error, out.written()))
         }
     }
 }
 
-impl Run<'_> {
+impl StreamRun<'_> {
     /// The fault of what couldn't be written.
     fn unwritten_fault(&mut self, unwritten: &Unwritten) -> ToolFault {
         match unwritten {
@@ -283,7 +283,7 @@ pub(crate) fn do_stream(
             return refuse(rt, format, refusal);
         }
     };
-    let mut run = Run {
+    let mut run = StreamRun {
         rt,
         stream,
         layout,

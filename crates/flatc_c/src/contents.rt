@@ -3,17 +3,17 @@ ghost use Rattle.std.specs.Prelude.{◌≡◌, Option, Some, None, option_map, I
 ghost use Rattle.std_alloc.specs.Vec.{vec_ptr};
 ghost use Rattle.flatc_c.specs.Handles.{HasBytes};
 
-use crate::handles::{Bytes, Schema};
+use crate::handles::{Bytes, SchemaHandle};
 use crate::held::Held;
 use crate::kept::Kept;
 use crate::loose::Loose;
 use std::alloc::Global;
 use std::mem::replace;
 
-fn empty_schema() -> Schema
+fn empty_schema() -> SchemaHandle
     ensures { result.held.value ≡ None }
 {
-    Schema {
+    SchemaHandle {
         held: Held::none(),
         full: false,
     }
@@ -31,7 +31,7 @@ fn empty_bytes() -> Bytes
 }
 
 /// Takes what a schema's handle holds.
-pub(crate) fn take(alloc: Global, schema: &mut Schema) -> Option<Box<Kept>>
+pub(crate) fn take(alloc: Global, schema: &mut SchemaHandle) -> Option<Box<Kept>>
     ensures value { option_map (λ kept. kept.value) result ≡ schema.old.held.value }
     ensures empty { schema.new.held.value ≡ None }
 {
@@ -44,10 +44,10 @@ pub(crate) fn take(alloc: Global, schema: &mut Schema) -> Option<Box<Kept>>
 }
 
 /// Puts it into a handle that is empty.
-pub(crate) fn put(schema: &mut Schema, kept: Box<Kept>)
+pub(crate) fn put(schema: &mut SchemaHandle, kept: Box<Kept>)
     ensures { schema.new.held.value ≡ Some kept.value }
 {
-    *schema = Schema {
+    *schema = SchemaHandle {
         held: Held::of(Loose::of(kept)),
         full: true,
     };

@@ -38,7 +38,7 @@ pub(crate) fn padded(name: &str) -> [u8; 32]
 }
 
 /// The fault as C reads it.
-pub(crate) fn told(fault: ToolFault) -> Fault
+pub(crate) fn c_fault(fault: ToolFault) -> Fault
     ensures { IsTold result fault }
 {
     let (offset, slot) = (fault.offset(), fault.slot());
@@ -61,6 +61,6 @@ impl Fault {
     pub(crate) fn tells(&self, fault: ToolFault) -> bool
         ensures { IsTrue result ↔ IsTold self.now fault }
     {
-        *self == told(fault)
+        *self == c_fault(fault)
     }
 }

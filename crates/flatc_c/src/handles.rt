@@ -6,7 +6,7 @@ use crate::held::Held;
 /// A schema, or none. All zeros is one that is empty.
 #[repr(C)]
 #[derive(Drop)]
-pub struct Schema {
+pub struct SchemaHandle {
     pub held: Held,
     pub(crate) full: bool,
     pub(crate) ghost agrees: { full ≡ is_some held.value },

@@ -15,5 +15,5 @@ mod schemas;
 mod status;
 
 pub use faults::{Fault, FaultName};
-pub use handles::{Bytes, Schema};
+pub use handles::{Bytes, SchemaHandle};
 pub use options::Options;

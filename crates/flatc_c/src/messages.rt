@@ -10,8 +10,8 @@ ghost use Rattle.flatc_c.specs.Faults.{Told, OnReadFault};
 ghost use Rattle.flatc_c.specs.Settings.{limits_of, unknown_of, raw_of, defaults_of, prefixed_of, compact_of, AreSet};
 
 use crate::contents::{clear, give, put, take};
-use crate::faults::{Fault, told};
-use crate::handles::{Bytes, Schema};
+use crate::faults::{Fault, c_fault};
+use crate::handles::{Bytes, SchemaHandle};
 use crate::options::Options;
 use crate::status::{BAD_OPTIONS, NO_MEMORY, NO_SCHEMA, OK, REFUSED, status_of};
 use flatc_tool::{DecodeOptions, EncodeOptions, Entries, ToolFault, decode, encode, verify_framed};
@@ -21,7 +21,7 @@ use std::alloc::Global;
 #[unsafe(no_mangle)]
 pub extern "C" fn flatc_encode(
     alloc: Global,
-    schema: &mut Schema,
+    schema: &mut SchemaHandle,
     json: &[u8],
     options: &Options,
     out: &mut Bytes,
@@ -64,7 +64,7 @@ pub extern "C" fn flatc_encode(
             NO_MEMORY
         },
         Some(Err(refusal)) => {
-            *fault = told(refusal);
+            *fault = c_fault(refusal);
             status_of(refusal)
         }
         None => NO_SCHEMA,
@@ -75,7 +75,7 @@ pub extern "C" fn flatc_encode(
 #[unsafe(no_mangle)]
 pub extern "C" fn flatc_decode(
     alloc: Global,
-    schema: &mut Schema,
+    schema: &mut SchemaHandle,
     buffer: &[u8],
     options: &Options,
     out: &mut Bytes,
@@ -121,7 +121,7 @@ pub extern "C" fn flatc_decode(
             NO_MEMORY
         },
         Some(Err(refusal)) => {
-            *fault = told(refusal);
+            *fault = c_fault(refusal);
             status_of(refusal)
         }
         None => NO_SCHEMA,
@@ -132,7 +132,7 @@ pub extern "C" fn flatc_decode(
 #[unsafe(no_mangle)]
 pub extern "C" fn flatc_verify(
     alloc: Global,
-    schema: &mut Schema,
+    schema: &mut SchemaHandle,
     buffer: &[u8],
     options: &Options,
     fault: &mut Fault,
@@ -168,7 +168,7 @@ pub extern "C" fn flatc_verify(
     match verified {
         Some(Ok(())) => OK,
         Some(Err(refusal)) => {
-            *fault = told(ToolFault::Read(refusal));
+            *fault = c_fault(ToolFault::Read(refusal));
             REFUSED
         }
         None => NO_SCHEMA,

@@ -9,8 +9,8 @@ ghost use Rattle.flatc_c.specs.Handles.{HasLayout, layout_of};
 ghost use Rattle.flatc_c.specs.Faults.{Told, OnSchemaFault, OnBreach};
 
 use crate::contents::{clear, put, take};
-use crate::faults::{Fault, told};
-use crate::handles::{Bytes, Schema};
+use crate::faults::{Fault, c_fault};
+use crate::handles::{Bytes, SchemaHandle};
 use crate::kept::Kept;
 use crate::status::{NO_MEMORY, NO_SCHEMA, OK, REFUSED, schema_status};
 use flatc_tool::{Layout, ToolFault, conform, schema_of};
@@ -27,7 +27,7 @@ pub extern "C" fn flatc_version() -> u32
 
 /// Frees what a schema's handle holds.
 #[unsafe(no_mangle)]
-pub extern "C" fn flatc_schema_clear(alloc: Global, schema: &mut Schema)
+pub extern "C" fn flatc_schema_clear(alloc: Global, schema: &mut SchemaHandle)
     ensures { schema.new.held.value ≡ None }
 {
     drop(take(alloc, schema));
@@ -45,7 +45,7 @@ pub extern "C" fn flatc_bytes_clear(alloc: Global, bytes: &mut Bytes)
 #[unsafe(no_mangle)]
 pub extern "C" fn flatc_schema_parse(
     alloc: Global,
-    schema: &mut Schema,
+    schema: &mut SchemaHandle,
     text: &[u8],
     fault: &mut Fault,
 ) -> u32
@@ -69,7 +69,7 @@ pub extern "C" fn flatc_schema_parse(
             OK
         }
         Err(refusal) => {
-            *fault = told(ToolFault::Schema(refusal));
+            *fault = c_fault(ToolFault::Schema(refusal));
             schema_status(refusal)
         }
     }
@@ -77,7 +77,11 @@ pub extern "C" fn flatc_schema_parse(
 
 /// Another handle of the same layout, for another thread.
 #[unsafe(no_mangle)]
-pub extern "C" fn flatc_schema_share(alloc: Global, from: &mut Schema, to: &mut Schema) -> u32
+pub extern "C" fn flatc_schema_share(
+    alloc: Global,
+    from: &mut SchemaHandle,
+    to: &mut SchemaHandle,
+) -> u32
     ensures same { (result ≡ 0) → (layout_of to.new.held.value ≡ layout_of from.old.held.value)
         × (layout_of from.old.held.value ≢ None) }
     ensures no_schema { (result ≡ 3) → layout_of from.old.held.value ≡ None }
@@ -114,8 +118,8 @@ pub extern "C" fn flatc_schema_share(alloc: Global, from: &mut Schema, to: &mut 
 #[unsafe(no_mangle)]
 pub extern "C" fn flatc_conform(
     alloc: Global,
-    old: &mut Schema,
-    new: &mut Schema,
+    old: &mut SchemaHandle,
+    new: &mut SchemaHandle,
     fault: &mut Fault,
 ) -> u32
     ensures conforms { (result ≡ 0) → HasLayout old.old.held.value (λ L.
@@ -147,7 +151,7 @@ pub extern "C" fn flatc_conform(
     match answer {
         Some(Ok(())) => OK,
         Some(Err(breach)) => {
-            *fault = told(ToolFault::Breach(breach));
+            *fault = c_fault(ToolFault::Breach(breach));
             REFUSED
         }
         None => NO_SCHEMA,

@@ -22,6 +22,6 @@ pub use reasons::Reasoned;
 pub use run_status::RunStatus;
 pub use standard_paths::{are_read_once, is_standard_input, is_standard_output};
 pub use target_paths::{target_in, targets_in};
-pub use targets::{Misuse, Target, targets_of};
+pub use targets::{Target, TargetMisuse, targets_of};
 pub use texts::{Failure, Texts};
 pub use window::Window;

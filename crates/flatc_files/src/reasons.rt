@@ -32,7 +32,7 @@ impl<S: Drop> Reasoned<S> {
 }
 
 /// What a call returned, with its error kept.
-fn kept(answer: io::Result<usize>, reason: &mut Option<io::Error>) -> io::Result<usize>
+fn keep_error(answer: io::Result<usize>, reason: &mut Option<io::Error>) -> io::Result<usize>
     ensures { MatchResult result (λ n. answer ≡ Ok n) (λ e. IsErr answer) }
 {
     match answer {
@@ -53,7 +53,7 @@ impl<W: Write> Write for Reasoned<W> {
         ensures bytes { WriteAppends (W.contents self.old.inner) (W.contents self.new.inner) result buf.now }
     {
         let answer = self.inner.write(buf);
-        kept(answer, &mut self.reason)
+        keep_error(answer, &mut self.reason)
     }
 
     fn flush(&mut self) -> io::Result<()>

@@ -13,24 +13,24 @@ use std::io::ErrorKind;
 use std::os::unix::fs::MetadataExt;
 use std::path::PathBuf;
 
-/// Why a line can't be done: what its usage error says.
+/// Why the outputs of a line's inputs are refused.
 #[derive(Debug, PartialEq, Eq, Drop)]
-pub enum Misuse {
+pub enum TargetMisuse {
     /// Memory ran out.
     Memory,
     /// The sentence of a usage error.
     Said(String),
 }
 
-impl From<AllocError> for Misuse {
-    fn from(_error: AllocError) -> Misuse {
-        Misuse::Memory
+impl From<AllocError> for TargetMisuse {
+    fn from(_error: AllocError) -> TargetMisuse {
+        TargetMisuse::Memory
     }
 }
 
-impl<T: Drop> From<AllocFailed<T>> for Misuse {
-    fn from(_error: AllocFailed<T>) -> Misuse {
-        Misuse::Memory
+impl<T: Drop> From<AllocFailed<T>> for TargetMisuse {
+    fn from(_error: AllocFailed<T>) -> TargetMisuse {
+        TargetMisuse::Memory
     }
 }
 
@@ -71,25 +71,25 @@ fn identity_at(rt: &HostRuntime, path: &str) -> Option<Identity> {
     metadata_of(rt, path).ok().map(|found| identity_of(&found))
 }
 
-fn check_named(alloc: Global, files: &[String]) -> Result<(), Misuse> {
+fn check_named(alloc: Global, files: &[String]) -> Result<(), TargetMisuse> {
     if files.iter().any(|file| is_standard_input(file.as_str())) {
         let said = "standard input has no name for a file in DIR";
-        return Err(Misuse::Said(String::from_str(alloc, said)?));
+        return Err(TargetMisuse::Said(String::from_str(alloc, said)?));
     }
     Ok(())
 }
 
 /// The misuse of an output that is an input.
-fn input_misuse(alloc: Global, path: &str) -> Misuse {
+fn input_misuse(alloc: Global, path: &str) -> TargetMisuse {
     match format!(in alloc; "the output '{path}' is one of the inputs") {
-        Ok(said) => Misuse::Said(said),
-        Err(error) => Misuse::from(error),
+        Ok(said) => TargetMisuse::Said(said),
+        Err(error) => TargetMisuse::from(error),
     }
 }
 
 /// That a path that is read is none of the outputs.
 #[tactic(auto, unfolding(crate::specs::Targets::has_path))]
-fn check_input(alloc: Global, outputs: &BTreeSet<&str>, input: &str) -> Result<(), Misuse>
+fn check_input(alloc: Global, outputs: &BTreeSet<&str>, input: &str) -> Result<(), TargetMisuse>
     ensures { OnOk result (has_path outputs.now input.now ≡ false) }
 {
     if outputs.contains(input) {
@@ -104,7 +104,7 @@ fn check_inputs(
     outputs: &BTreeSet<&str>,
     schema: &str,
     files: &[String],
-) -> Result<(), Misuse>
+) -> Result<(), TargetMisuse>
     ensures { OnOk result (All (λ input. has_path outputs.now input ≡ false) (inputs_of schema.now files.now)) }
 {
     check_input(alloc, outputs, schema)?;
@@ -123,7 +123,7 @@ fn check_distinct(
     schema: &str,
     files: &[String],
     paths: &[PathBuf],
-) -> Result<(), Misuse>
+) -> Result<(), TargetMisuse>
     ensures distinct { OnOk result (AreDistinct (map path_buf_bytes paths.now)) }
     ensures apart { OnOk result (AreApart (inputs_of schema.now files.now) (map path_buf_bytes paths.now)) }
 {
@@ -131,7 +131,7 @@ fn check_distinct(
     for path in paths {
         if !met.insert(path.as_str())? {
             let said = format!(in alloc; "two files would be written to '{}'", path.as_str())?;
-            return Err(Misuse::Said(said));
+            return Err(TargetMisuse::Said(said));
         }
     }
     check_inputs(alloc, &met, schema, files)
@@ -161,7 +161,7 @@ fn check_apart(
     schema: &str,
     files: &[String],
     targets: &[Target],
-) -> Result<(), Misuse> {
+) -> Result<(), TargetMisuse> {
     if targets.iter().all(|target| target.file.is_none()) {
         return Ok(());
     }
@@ -198,7 +198,7 @@ pub fn targets_of(
     extension: &str,
     schema: &str,
     files: &[String],
-) -> Result<Vec<Target>, Misuse>
+) -> Result<Vec<Target>, TargetMisuse>
     ensures outputs { IfOk result (λ targets. map (λ target. path_buf_bytes target.path) targets.items
         ≡ outputs_of dir.now extension.now files.now) }
     ensures distinct { OnOk result (AreDistinct (outputs_of dir.now extension.now files.now)) }

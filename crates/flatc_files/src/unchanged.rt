@@ -6,11 +6,11 @@ use std::time::SystemTime;
 
 /// A writer that takes only the bytes that are there already, in their order.
 #[derive(Drop)]
-struct Comparison<R> {
+struct ComparingWriter<R> {
     held: R,
 }
 
-impl<R: BufRead> Write for Comparison<R> {
+impl<R: BufRead> Write for ComparingWriter<R> {
     fn write(&mut self, buf: &[u8]) -> io::Result<usize> {
         let held = self.held.fill_buf()?;
         let count = held.len().min(buf.len());
@@ -32,7 +32,7 @@ pub(crate) fn holds<C: Content>(rt: &HostRuntime, path: &str, content: &mut C) -
         return Ok(false);
     };
     let held = BufReader::new(rt.alloc(), file)?;
-    Ok(content.write_to(&mut Comparison { held }).is_ok())
+    Ok(content.write_to(&mut ComparingWriter { held }).is_ok())
 }
 
 /// Sets the time when a file was modified to now, as a write does; returns whether that is done.

@@ -9,7 +9,7 @@ use fb_heard::TakeFault;
 use std::alloc::{AllocError, Global};
 use std::io::{self, Read};
 
-// How many bytes a read takes at most, for which room is made as they come: a count in front of a message is no
+// How many bytes a read takes at most, for which room is made as they come: a message's size prefix is no
 // reason to make any.
 const ROOM: usize = 65_536;
 

@@ -1,5 +1,5 @@
 -- What holds of the tool's answers together, whichever they are. Each law is of buffers alone and, where `prefixed` is
--- true, of buffers with the count of their bytes in front, which a stream has.
+-- true, of size-prefixed buffers, which a stream has.
 use Rattle.std.specs.Prelude.{ℕ, ◌≡◌, List, Bool, true, Option, Some, Result}
 use Rattle.serde_json.specs.Data.{Data}
 use Rattle.fb_layout.specs.Laid.{LaidSchema}

@@ -8,21 +8,21 @@ ghost use Rattle.flatc_tool.specs.Jobs.{IsBinary, MayBeBinary, BinaryRefused, Is
 use crate::laws::layer_laws;
 use crate::options::EncodeOptions;
 use fb_build::TapePlan;
-use fb_encode::{EncodeFault, PIECE, TextFault, encode_text, plan_text};
+use fb_encode::{EncodeFault, JsonTextFault, PIECE, encode_text, plan_text};
 use fb_faults::ToolFault;
-use fb_json::Source;
+use fb_json::JsonContext;
 use fb_layout::Layout;
 use std::alloc::Global;
 
 /// A refusal to encode.
-fn refused(fault: TextFault) -> ToolFault
+fn encode_fault(fault: JsonTextFault) -> ToolFault
     ensures { result ≡ encode_fault fault }
 {
     match fault {
-        TextFault::BadJson => ToolFault::BadJson,
-        TextFault::Memory => ToolFault::Memory,
-        TextFault::Encode(EncodeFault::Json(fault)) => ToolFault::Json(fault),
-        TextFault::Encode(EncodeFault::Build(fault)) => ToolFault::Build(fault),
+        JsonTextFault::BadJson => ToolFault::BadJson,
+        JsonTextFault::Memory => ToolFault::Memory,
+        JsonTextFault::Encode(EncodeFault::Json(fault)) => ToolFault::Json(fault),
+        JsonTextFault::Encode(EncodeFault::Build(fault)) => ToolFault::Build(fault),
     }
 }
 
@@ -48,14 +48,14 @@ pub fn encode(
         options.now.unknown_json) }
 {
     layer_laws();
-    let source = Source {
+    let source = JsonContext {
         alloc,
         layout,
         unknown: options.unknown_json,
     };
     match encode_text(source, json, options.limits, PIECE, options.size_prefixed) {
         Ok(bytes) => Ok(bytes),
-        Err(fault) => Err(refused(fault)),
+        Err(fault) => Err(encode_fault(fault)),
     }
 }
 
@@ -82,13 +82,13 @@ pub fn encode_plan<'l>(
     ensures kept { IfErr result (λ f. IsOfJson f → json.new.items ≡ json.old.items) }
 {
     layer_laws();
-    let source = Source {
+    let source = JsonContext {
         alloc,
         layout,
         unknown: options.unknown_json,
     };
     match plan_text(source, json, options.limits, PIECE, options.size_prefixed) {
         Ok(plan) => Ok(plan),
-        Err(fault) => Err(refused(fault)),
+        Err(fault) => Err(encode_fault(fault)),
     }
 }

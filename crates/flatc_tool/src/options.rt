@@ -52,7 +52,7 @@ impl Default for EncodeOptions {
 }
 
 /// How a buffer is made a JSON text. By default: within the usual limits, the file identifier is
-/// checked, scalars with their default values are left out, no length is in front of the buffer, and the text
+/// checked, scalars with their default values are left out, the buffer has no size prefix, and the text
 /// is indented.
 #[derive(Clone, Copy, Debug, PartialEq, Eq)]
 pub struct DecodeOptions {

@@ -4,52 +4,52 @@ use std::io::{self, Write};
 
 /// What came of a call: the right answer, that memory ran out by the number of its layer, or anything else.
 #[derive(Clone, Copy, PartialEq, Eq, Drop)]
-pub(crate) enum Outcome {
+pub(crate) enum CallOutcome {
     Right,
     /// 0 for an allocation error without a number.
     Short(u8),
     Wrong,
 }
 
-impl Outcome {
-    pub(crate) fn of(is_right: bool) -> Outcome {
+impl CallOutcome {
+    pub(crate) fn of(is_right: bool) -> CallOutcome {
         if is_right {
-            Outcome::Right
+            CallOutcome::Right
         } else {
-            Outcome::Wrong
+            CallOutcome::Wrong
         }
     }
 
     /// Of a refusal: `Short` for a number that says that memory ran out.
-    pub(crate) fn of_refusal(number: u8) -> Outcome {
+    pub(crate) fn of_refusal(number: u8) -> CallOutcome {
         match number {
-            7 | 23 | 32 | 41 | 64 | 80 | 84 | 114 => Outcome::Short(number),
-            _ => Outcome::Wrong,
+            7 | 23 | 32 | 41 | 64 | 80 | 84 | 114 => CallOutcome::Short(number),
+            _ => CallOutcome::Wrong,
         }
     }
 }
 
 /// What came of a call that returns bytes.
-pub(crate) fn of_bytes(answer: Result<Vec<u8>, ToolFault>, want: &[u8]) -> Outcome {
+pub(crate) fn of_bytes(answer: Result<Vec<u8>, ToolFault>, want: &[u8]) -> CallOutcome {
     match answer {
-        Ok(bytes) => Outcome::of(bytes.as_slice() == want),
-        Err(fault) => Outcome::of_refusal(fault.number()),
+        Ok(bytes) => CallOutcome::of(bytes.as_slice() == want),
+        Err(fault) => CallOutcome::of_refusal(fault.number()),
     }
 }
 
 /// What came of a call that returns a text.
-pub(crate) fn of_text(answer: Result<String, ToolFault>, want: &str) -> Outcome {
+pub(crate) fn of_text(answer: Result<String, ToolFault>, want: &str) -> CallOutcome {
     match answer {
-        Ok(text) => Outcome::of(text.as_str() == want),
-        Err(fault) => Outcome::of_refusal(fault.number()),
+        Ok(text) => CallOutcome::of(text.as_str() == want),
+        Err(fault) => CallOutcome::of_refusal(fault.number()),
     }
 }
 
 /// What came of a call that returns nothing.
-pub(crate) fn of_done(answer: Result<(), ToolFault>) -> Outcome {
+pub(crate) fn of_done(answer: Result<(), ToolFault>) -> CallOutcome {
     match answer {
-        Ok(()) => Outcome::Right,
-        Err(fault) => Outcome::of_refusal(fault.number()),
+        Ok(()) => CallOutcome::Right,
+        Err(fault) => CallOutcome::of_refusal(fault.number()),
     }
 }
 

@@ -1,5 +1,5 @@
 //! The calls of the command: its words, what it reads, and the line of a fault.
-use crate::arming::{Matching, Outcome, arm, disarm, of_bytes};
+use crate::arming::{CallOutcome, Matching, arm, disarm, of_bytes};
 use crate::examples::Example;
 use clap::error::ErrorKind;
 use flatc_cli::{Inputs, Request, Task, Verb, request_of};
@@ -20,7 +20,7 @@ const ENDED: &str = "75 MissingMember in type 0 slot 2\n";
 /// The longest file that is read.
 const MOST: u32 = 2_147_483_647;
 
-fn try_take(rt: &HostRuntime, example: &Example, arms: bool) -> Outcome {
+fn try_take(rt: &HostRuntime, example: &Example, arms: bool) -> CallOutcome {
     let mut from = Heard::over(example.bytes);
     arm(rt, arms);
     let answer = take_all(rt.alloc(), &mut from, MOST);
@@ -54,27 +54,27 @@ fn is_check(task: &Task) -> bool {
     }
 }
 
-fn try_request_of(rt: &HostRuntime, arms: bool) -> Outcome {
+fn try_request_of(rt: &HostRuntime, arms: bool) -> CallOutcome {
     let Ok(words) = words(rt.alloc()) else {
-        return Outcome::Wrong;
+        return CallOutcome::Wrong;
     };
     arm(rt, arms);
     let answer = request_of(rt.alloc(), words.as_slice());
     disarm(rt, arms);
     match answer {
-        Ok(request) => Outcome::of(is_asked(&request)),
-        Err(error) if error.kind() == ErrorKind::OutOfMemory => Outcome::Short(0),
-        Err(_) => Outcome::Wrong,
+        Ok(request) => CallOutcome::of(is_asked(&request)),
+        Err(error) if error.kind() == ErrorKind::OutOfMemory => CallOutcome::Short(0),
+        Err(_) => CallOutcome::Wrong,
     }
 }
 
-fn try_line(rt: &HostRuntime, arms: bool) -> Outcome {
+fn try_line(rt: &HostRuntime, arms: bool) -> CallOutcome {
     arm(rt, arms);
     let answer = fault_line(rt.alloc(), &FAULT);
     disarm(rt, arms);
     match answer {
-        Ok(line) => Outcome::of(line.as_str() == LINE),
-        Err(_) => Outcome::Short(0),
+        Ok(line) => CallOutcome::of(line.as_str() == LINE),
+        Err(_) => CallOutcome::Short(0),
     }
 }
 
@@ -100,7 +100,7 @@ pub(crate) fn try_command_call(
     call: &str,
     example: &Example,
     arms: bool,
-) -> Option<Outcome> {
+) -> Option<CallOutcome> {
     match call {
         "take_all" => Some(try_take(rt, example, arms)),
         "request_of" => Some(try_request_of(rt, arms)),

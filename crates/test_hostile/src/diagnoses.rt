@@ -1,11 +1,11 @@
 //! The calls that say where a refusal is, and why. Each is compared with what it returns before growths are refused.
-use crate::arming::{Outcome, arm, disarm};
+use crate::arming::{CallOutcome, arm, disarm};
 use crate::examples::Example;
 use crate::meanings::limits;
 use fb_conform::all_breaches;
 use fb_encode::text_fault_path;
 use fb_explain::{COLUMNS, Source, Sources, explain};
-use fb_json::{Source as JsonSource, fault_path as json_fault_path};
+use fb_json::{JsonContext, fault_path as json_fault_path};
 use fb_layout::Layout;
 use fb_read::{Entries, Framing, fault_path};
 use flatc_tool::{ToolFault, check, conform_texts, schema_of, to_binary};
@@ -30,13 +30,13 @@ fn cut_bytes(example: &Example) -> &'static [u8] {
 }
 
 /// A count that is to be the one that is `known`, or that memory ran out.
-fn of_count(known: Result<usize, AllocError>, answer: Result<usize, AllocError>) -> Outcome {
+fn of_count(known: Result<usize, AllocError>, answer: Result<usize, AllocError>) -> CallOutcome {
     let Ok(known) = known else {
-        return Outcome::Wrong;
+        return CallOutcome::Wrong;
     };
     match answer {
-        Ok(found) => Outcome::of(found == known && known > 0),
-        Err(_) => Outcome::Short(0),
+        Ok(found) => CallOutcome::of(found == known && known > 0),
+        Err(_) => CallOutcome::Short(0),
     }
 }
 
@@ -63,7 +63,7 @@ fn steps_in_tree(alloc: Global, layout: &Layout, tree: &Json) -> Result<usize, A
 
 /// How many steps lead to the first fault of a JSON text that is read in pieces of a few bytes; 0 where there is none.
 fn steps_in_text(alloc: Global, layout: &Layout, json: &[u8]) -> Result<usize, AllocError> {
-    let source = JsonSource {
+    let source = JsonContext {
         alloc,
         layout,
         unknown: false,
@@ -83,7 +83,7 @@ pub(crate) fn try_path(
     example: &Example,
     layout: &Layout,
     arms: bool,
-) -> Outcome {
+) -> CallOutcome {
     let bytes = cut_bytes(example);
     let known = steps_in_bytes(rt.alloc(), layout, bytes);
     arm(rt, arms);
@@ -97,9 +97,9 @@ pub(crate) fn try_json_path(
     example: &Example,
     layout: &Layout,
     arms: bool,
-) -> Outcome {
+) -> CallOutcome {
     let Ok(tree) = Json::from_slice(rt.alloc(), example.refused_json) else {
-        return Outcome::Wrong;
+        return CallOutcome::Wrong;
     };
     let known = steps_in_tree(rt.alloc(), layout, &tree);
     arm(rt, arms);
@@ -113,7 +113,7 @@ pub(crate) fn try_text_path(
     example: &Example,
     layout: &Layout,
     arms: bool,
-) -> Outcome {
+) -> CallOutcome {
     let json = example.refused_json;
     let known = steps_in_text(rt.alloc(), layout, json);
     arm(rt, arms);
@@ -127,9 +127,9 @@ pub(crate) fn try_breaches(
     example: &Example,
     layout: &Layout,
     arms: bool,
-) -> Outcome {
+) -> CallOutcome {
     let Ok(newer) = schema_of(rt.alloc(), example.breaking) else {
-        return Outcome::Wrong;
+        return CallOutcome::Wrong;
     };
     let known = count_breaches(rt.alloc(), layout, &newer);
     arm(rt, arms);
@@ -138,7 +138,7 @@ pub(crate) fn try_breaches(
     of_count(known, found)
 }
 
-fn explained(alloc: Global, refused: &Refused<'_>) -> Result<String, AllocError> {
+fn explain_refusal(alloc: Global, refused: &Refused<'_>) -> Result<String, AllocError> {
     let sources = Sources {
         schema: Source {
             path: "s.fbs",
@@ -187,16 +187,16 @@ fn refusal_of<'e>(rt: &HostRuntime, call: &str, example: &'e Example) -> Option<
     })
 }
 
-fn try_refused(rt: &HostRuntime, refused: &Refused<'_>, arms: bool) -> Outcome {
-    let Ok(known) = explained(rt.alloc(), refused) else {
-        return Outcome::Wrong;
+fn try_refused(rt: &HostRuntime, refused: &Refused<'_>, arms: bool) -> CallOutcome {
+    let Ok(known) = explain_refusal(rt.alloc(), refused) else {
+        return CallOutcome::Wrong;
     };
     arm(rt, arms);
-    let answer = explained(rt.alloc(), refused);
+    let answer = explain_refusal(rt.alloc(), refused);
     disarm(rt, arms);
     match answer {
-        Ok(found) => Outcome::of(found == known && !known.is_empty()),
-        Err(_) => Outcome::Short(0),
+        Ok(found) => CallOutcome::of(found == known && !known.is_empty()),
+        Err(_) => CallOutcome::Short(0),
     }
 }
 
@@ -206,12 +206,12 @@ pub(crate) fn try_explain(
     call: &str,
     example: &Example,
     arms: bool,
-) -> Option<Outcome> {
+) -> Option<CallOutcome> {
     if !matches!(call, "explain_json" | "explain_bytes" | "explain_schema") {
         return None;
     }
     match refusal_of(rt, call, example) {
         Some(refused) => Some(try_refused(rt, &refused, arms)),
-        None => Some(Outcome::Wrong),
+        None => Some(CallOutcome::Wrong),
     }
 }

@@ -1,12 +1,12 @@
 //! The calls of the tool over texts and bytes.
-use crate::arming::{Matching, Outcome, arm, disarm, of_bytes, of_done, of_text};
+use crate::arming::{CallOutcome, Matching, arm, disarm, of_bytes, of_done, of_text};
 use crate::examples::Example;
 use crate::meanings::limits;
 use flatc_tool::{
     Noted, ToolFault, check, conform_names, conform_texts, print_to, to_binary, to_json,
 };
 
-fn try_binary(rt: &HostRuntime, example: &Example, arms: bool) -> Outcome {
+fn try_binary(rt: &HostRuntime, example: &Example, arms: bool) -> CallOutcome {
     let (schema, json, limits) = (example.schema, example.json, limits());
     arm(rt, arms);
     let answer = to_binary(rt.alloc(), schema, json, limits, false);
@@ -14,7 +14,7 @@ fn try_binary(rt: &HostRuntime, example: &Example, arms: bool) -> Outcome {
     of_bytes(answer, example.bytes)
 }
 
-fn try_json(rt: &HostRuntime, example: &Example, arms: bool) -> Outcome {
+fn try_json(rt: &HostRuntime, example: &Example, arms: bool) -> CallOutcome {
     let (schema, bytes, limits) = (example.schema, example.bytes, limits());
     arm(rt, arms);
     let answer = to_json(rt.alloc(), schema, bytes, limits, false, false);
@@ -23,7 +23,7 @@ fn try_json(rt: &HostRuntime, example: &Example, arms: bool) -> Outcome {
 }
 
 /// What is printed of an example's bytes. A refusal comes before the first byte.
-fn try_print(rt: &HostRuntime, example: &Example, arms: bool) -> Outcome {
+fn try_print(rt: &HostRuntime, example: &Example, arms: bool) -> CallOutcome {
     let mut out = Noted::over(Matching::either(example.text, ""));
     let (schema, bytes, limits) = (example.schema, example.bytes, limits());
     arm(rt, arms);
@@ -31,13 +31,13 @@ fn try_print(rt: &HostRuntime, example: &Example, arms: bool) -> Outcome {
     disarm(rt, arms);
     let out = out.into_inner();
     match answer {
-        Ok(()) => Outcome::of(out.is_first()),
-        Err(fault) if out.is_other() => Outcome::of_refusal(fault.number()),
-        Err(_) => Outcome::Wrong,
+        Ok(()) => CallOutcome::of(out.is_first()),
+        Err(fault) if out.is_other() => CallOutcome::of_refusal(fault.number()),
+        Err(_) => CallOutcome::Wrong,
     }
 }
 
-fn try_check(rt: &HostRuntime, example: &Example, arms: bool) -> Outcome {
+fn try_check(rt: &HostRuntime, example: &Example, arms: bool) -> CallOutcome {
     let (schema, bytes, limits) = (example.schema, example.bytes, limits());
     arm(rt, arms);
     let answer = check(rt.alloc(), schema, Some(bytes), limits, false);
@@ -45,7 +45,7 @@ fn try_check(rt: &HostRuntime, example: &Example, arms: bool) -> Outcome {
     of_done(answer)
 }
 
-fn try_conform(rt: &HostRuntime, example: &Example, arms: bool) -> Outcome {
+fn try_conform(rt: &HostRuntime, example: &Example, arms: bool) -> CallOutcome {
     arm(rt, arms);
     let answer = conform_texts(rt.alloc(), example.schema, example.newer);
     disarm(rt, arms);
@@ -53,14 +53,14 @@ fn try_conform(rt: &HostRuntime, example: &Example, arms: bool) -> Outcome {
 }
 
 /// A name that is moved, or that memory ran out.
-fn try_names(rt: &HostRuntime, example: &Example, arms: bool) -> Outcome {
+fn try_names(rt: &HostRuntime, example: &Example, arms: bool) -> CallOutcome {
     arm(rt, arms);
     let answer = conform_names(rt.alloc(), example.schema, example.moved);
     disarm(rt, arms);
     match answer {
-        Ok(()) => Outcome::Wrong,
-        Err(ToolFault::NameMoved(_)) => Outcome::Right,
-        Err(fault) => Outcome::of_refusal(fault.number()),
+        Ok(()) => CallOutcome::Wrong,
+        Err(ToolFault::NameMoved(_)) => CallOutcome::Right,
+        Err(fault) => CallOutcome::of_refusal(fault.number()),
     }
 }
 
@@ -70,7 +70,7 @@ pub(crate) fn try_job(
     call: &str,
     example: &Example,
     arms: bool,
-) -> Option<Outcome> {
+) -> Option<CallOutcome> {
     match call {
         "to_binary" => Some(try_binary(rt, example, arms)),
         "to_json" => Some(try_json(rt, example, arms)),

@@ -1,18 +1,18 @@
 //! The calls under a layout.
-use crate::arming::{Outcome, arm, disarm, of_bytes, of_text};
+use crate::arming::{CallOutcome, arm, disarm, of_bytes, of_text};
 use crate::diagnoses::{try_breaches, try_json_path, try_path, try_text_path};
 use crate::examples::Example;
 use crate::meanings::limits;
 use crate::values::{is_printed_as, try_value_call};
-use fb_encode::{EncodeFault, TextFault, encode_text};
-use fb_json::{Source, value_of};
+use fb_encode::{EncodeFault, JsonTextFault, encode_text};
+use fb_json::{JsonContext, value_of};
 use fb_layout::Layout;
 use fb_owned::read;
 use fb_read::Entries;
 use flatc_tool::{DecodeOptions, EncodeOptions, ToolFault, decode, encode, encode_plan, schema_of};
 use serde_json::Value as Json;
 
-fn try_encode(rt: &HostRuntime, example: &Example, layout: &Layout, arms: bool) -> Outcome {
+fn try_encode(rt: &HostRuntime, example: &Example, layout: &Layout, arms: bool) -> CallOutcome {
     let options = EncodeOptions::new();
     arm(rt, arms);
     let answer = encode(rt.alloc(), layout, example.json, &options);
@@ -20,9 +20,9 @@ fn try_encode(rt: &HostRuntime, example: &Example, layout: &Layout, arms: bool) 
     of_bytes(answer, example.bytes)
 }
 
-fn try_plan(rt: &HostRuntime, example: &Example, layout: &Layout, arms: bool) -> Outcome {
+fn try_plan(rt: &HostRuntime, example: &Example, layout: &Layout, arms: bool) -> CallOutcome {
     let Ok(mut json) = Vec::from_slice(rt.alloc(), example.json) else {
-        return Outcome::Wrong;
+        return CallOutcome::Wrong;
     };
     let options = EncodeOptions::new();
     arm(rt, arms);
@@ -30,16 +30,16 @@ fn try_plan(rt: &HostRuntime, example: &Example, layout: &Layout, arms: bool) ->
     disarm(rt, arms);
     match answer {
         Ok(plan) => of_bytes(Ok(plan.finish()), example.bytes),
-        Err(ToolFault::Build(fault)) => Outcome::of_refusal(fault.number()),
-        Err(fault) if json.as_slice() == example.json => Outcome::of_refusal(fault.number()),
-        Err(_) => Outcome::Wrong,
+        Err(ToolFault::Build(fault)) => CallOutcome::of_refusal(fault.number()),
+        Err(fault) if json.as_slice() == example.json => CallOutcome::of_refusal(fault.number()),
+        Err(_) => CallOutcome::Wrong,
     }
 }
 
 /// An example's buffer, whose text is read in pieces of a few bytes.
-fn try_pieces(rt: &HostRuntime, example: &Example, layout: &Layout, arms: bool) -> Outcome {
+fn try_pieces(rt: &HostRuntime, example: &Example, layout: &Layout, arms: bool) -> CallOutcome {
     let limits = limits();
-    let source = Source {
+    let source = JsonContext {
         alloc: rt.alloc(),
         layout,
         unknown: false,
@@ -48,14 +48,16 @@ fn try_pieces(rt: &HostRuntime, example: &Example, layout: &Layout, arms: bool) 
     let answer = encode_text(source, example.json, limits, 8, false);
     disarm(rt, arms);
     match answer {
-        Ok(bytes) => Outcome::of(bytes.as_slice() == example.bytes),
-        Err(TextFault::Memory) => Outcome::of_refusal(ToolFault::Memory.number()),
-        Err(TextFault::Encode(EncodeFault::Build(fault))) => Outcome::of_refusal(fault.number()),
-        Err(_) => Outcome::Wrong,
+        Ok(bytes) => CallOutcome::of(bytes.as_slice() == example.bytes),
+        Err(JsonTextFault::Memory) => CallOutcome::of_refusal(ToolFault::Memory.number()),
+        Err(JsonTextFault::Encode(EncodeFault::Build(fault))) => CallOutcome::of_refusal(
+            fault.number(),
+        ),
+        Err(_) => CallOutcome::Wrong,
     }
 }
 
-fn try_decode(rt: &HostRuntime, example: &Example, layout: &Layout, arms: bool) -> Outcome {
+fn try_decode(rt: &HostRuntime, example: &Example, layout: &Layout, arms: bool) -> CallOutcome {
     let options = DecodeOptions::new();
     arm(rt, arms);
     let answer = decode(rt.alloc(), layout, example.bytes, &options);
@@ -63,29 +65,29 @@ fn try_decode(rt: &HostRuntime, example: &Example, layout: &Layout, arms: bool) 
     of_text(answer, example.text)
 }
 
-fn try_read(rt: &HostRuntime, example: &Example, layout: &Layout, arms: bool) -> Outcome {
+fn try_read(rt: &HostRuntime, example: &Example, layout: &Layout, arms: bool) -> CallOutcome {
     let (bytes, limits) = (example.bytes, limits());
     let mut entries = Entries::new();
     arm(rt, arms);
     let answer = read(rt.alloc(), layout, bytes, limits, false, &mut entries);
     disarm(rt, arms);
     match answer {
-        Ok(value) => Outcome::of(is_printed_as(rt, layout, &value, example.text)),
-        Err(fault) => Outcome::of_refusal(fault.number()),
+        Ok(value) => CallOutcome::of(is_printed_as(rt, layout, &value, example.text)),
+        Err(fault) => CallOutcome::of_refusal(fault.number()),
     }
 }
 
-fn try_value_of(rt: &HostRuntime, example: &Example, layout: &Layout, arms: bool) -> Outcome {
+fn try_value_of(rt: &HostRuntime, example: &Example, layout: &Layout, arms: bool) -> CallOutcome {
     let Ok(tree) = Json::from_slice(rt.alloc(), example.json) else {
-        return Outcome::Wrong;
+        return CallOutcome::Wrong;
     };
     let limits = limits();
     arm(rt, arms);
     let answer = value_of(rt.alloc(), layout, &tree, limits, false);
     disarm(rt, arms);
     match answer {
-        Ok(value) => Outcome::of(is_printed_as(rt, layout, &value, example.text)),
-        Err(fault) => Outcome::of_refusal(fault.number()),
+        Ok(value) => CallOutcome::of(is_printed_as(rt, layout, &value, example.text)),
+        Err(fault) => CallOutcome::of_refusal(fault.number()),
     }
 }
 
@@ -95,7 +97,7 @@ fn try_under(
     example: &Example,
     layout: &Layout,
     arms: bool,
-) -> Option<Outcome> {
+) -> Option<CallOutcome> {
     match call {
         "encode" => Some(try_encode(rt, example, layout, arms)),
         "encode_plan" => Some(try_plan(rt, example, layout, arms)),
@@ -117,9 +119,9 @@ pub(crate) fn try_layout_call(
     call: &str,
     example: &Example,
     arms: bool,
-) -> Option<Outcome> {
+) -> Option<CallOutcome> {
     match schema_of(rt.alloc(), example.schema) {
         Ok(layout) => try_under(rt, call, example, &layout, arms),
-        Err(_) => Some(Outcome::Wrong),
+        Err(_) => Some(CallOutcome::Wrong),
     }
 }

@@ -19,7 +19,7 @@ mod schemas;
 mod soak;
 mod values;
 
-use crate::arming::Outcome;
+use crate::arming::CallOutcome;
 use crate::commands::try_command_call;
 use crate::deep::go_deep;
 use crate::diagnoses::try_explain;
@@ -68,7 +68,7 @@ const CALLS: &[&str] = &[
 ];
 
 /// What comes of a call, whose growths may be refused if it `arms`; None where there is no such call.
-fn try_call(rt: &HostRuntime, call: &str, example: &Example, arms: bool) -> Option<Outcome> {
+fn try_call(rt: &HostRuntime, call: &str, example: &Example, arms: bool) -> Option<CallOutcome> {
     if let Some(outcome) = try_schema_call(rt, call, example, arms) {
         return Some(outcome);
     }
@@ -84,11 +84,11 @@ fn try_call(rt: &HostRuntime, call: &str, example: &Example, arms: bool) -> Opti
     try_layout_call(rt, call, example, arms)
 }
 
-fn print_outcome(rt: &HostRuntime, outcome: Outcome) -> io::Result<()> {
+fn print_outcome(rt: &HostRuntime, outcome: CallOutcome) -> io::Result<()> {
     match outcome {
-        Outcome::Right => print!(rt; "right"),
-        Outcome::Short(number) => print!(rt; "memory {number}"),
-        Outcome::Wrong => print!(rt; "wrong"),
+        CallOutcome::Right => print!(rt; "right"),
+        CallOutcome::Short(number) => print!(rt; "memory {number}"),
+        CallOutcome::Wrong => print!(rt; "wrong"),
     }
 }
 
@@ -99,13 +99,13 @@ fn show(rt: &HostRuntime, call: &str, example: &Example) -> io::Result<bool> {
         println!(rt; "{call} {name}: no such call")?;
         return Ok(false);
     };
-    let again = try_call(rt, call, example, false).unwrap_or(Outcome::Wrong);
+    let again = try_call(rt, call, example, false).unwrap_or(CallOutcome::Wrong);
     print!(rt; "{call} {name}: ")?;
     print_outcome(rt, first)?;
     print!(rt; ", then ")?;
     print_outcome(rt, again)?;
     println!(rt; "")?;
-    Ok(first != Outcome::Wrong && again == Outcome::Right)
+    Ok(first != CallOutcome::Wrong && again == CallOutcome::Right)
 }
 
 /// Each call on each example.

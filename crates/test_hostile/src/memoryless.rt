@@ -4,7 +4,7 @@ ghost use Rattle.fb_value.specs.View.{view};
 ghost use Rattle.fb_value.specs.Counts.{depth, nesting, is_whole};
 ghost use Rattle.fb_value.specs.Fits.{FitsRoot};
 
-use crate::arming::{Matching, Outcome, arm, disarm};
+use crate::arming::{CallOutcome, Matching, arm, disarm};
 use crate::commands::{is_report_noted, is_reported};
 use crate::examples::Example;
 use crate::meanings::limits;
@@ -140,20 +140,20 @@ pub(crate) fn try_memoryless(
     layout: &Layout,
     value: &Value,
     arms: bool,
-) -> Outcome
+) -> CallOutcome
     requires fits { FitsRoot layout.now (view value.now) }
     requires whole { is_whole (view value.now) ≡ true }
     requires deep { depth (view value.now) ≤ 127 }
     requires nests { nesting (view value.now) ≤ 300 }
 {
     let Ok(newer) = schema_of(rt.alloc(), example.newer) else {
-        return Outcome::Wrong;
+        return CallOutcome::Wrong;
     };
     let Ok(of_value) = plan(rt.alloc(), layout, value) else {
-        return Outcome::Wrong;
+        return CallOutcome::Wrong;
     };
     let Ok(of_text) = encode_planned(rt.alloc(), example, layout) else {
-        return Outcome::Wrong;
+        return CallOutcome::Wrong;
     };
     let plans = Plans {
         value: of_value,
@@ -163,5 +163,5 @@ pub(crate) fn try_memoryless(
     let are_reports = is_reported(rt.alloc()) && is_report_noted(rt.alloc());
     let is_right = is_all_right(example, layout, &newer, value, plans) && are_reports;
     disarm(rt, arms);
-    Outcome::of(is_right)
+    CallOutcome::of(is_right)
 }

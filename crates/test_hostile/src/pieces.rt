@@ -1,7 +1,7 @@
 //! JSON texts that are read in pieces of a few bytes and at once: both ways have the same outcome, and the same path to
 //! what is refused.
-use fb_encode::{EncodeFault, TextFault, encode_text, text_fault_path};
-use fb_json::{Source, Step};
+use fb_encode::{EncodeFault, JsonTextFault, encode_text, text_fault_path};
+use fb_json::{JsonContext, JsonStep};
 use fb_layout::Layout;
 use fb_value::Limits;
 use flatc_tool::schema_of;
@@ -21,12 +21,12 @@ fn limits() -> Limits {
 /// What comes of a text in pieces of so many bytes.
 #[derive(PartialEq, Drop)]
 struct Read {
-    encoded: Result<Vec<u8>, TextFault>,
-    path: Option<Vec<Step>>,
+    encoded: Result<Vec<u8>, JsonTextFault>,
+    path: Option<Vec<JsonStep>>,
 }
 
 impl Read {
-    fn of(source: Source, json: &[u8], piece: usize) -> Read {
+    fn of(source: JsonContext, json: &[u8], piece: usize) -> Read {
         Read {
             encoded: encode_text(source, json, limits(), piece, false),
             path: match text_fault_path(source, json, limits(), piece) {
@@ -38,12 +38,16 @@ impl Read {
 
     /// Whether a path leads to a fault exactly where a rule is broken.
     fn is_led_to(&self) -> bool {
-        self.path.is_some() == matches!(self.encoded, Err(TextFault::Encode(EncodeFault::Json(_))))
+        self.path.is_some()
+            == matches!(
+                self.encoded,
+                Err(JsonTextFault::Encode(EncodeFault::Json(_)))
+            )
     }
 }
 
 /// The first size of pieces with which something else comes of a text than at once.
-fn other_pieces(source: Source, json: &[u8], whole: &Read) -> Option<usize> {
+fn other_pieces(source: JsonContext, json: &[u8], whole: &Read) -> Option<usize> {
     for piece in PIECES {
         if Read::of(source, json, *piece) != *whole {
             return Some(*piece);
@@ -54,7 +58,7 @@ fn other_pieces(source: Source, json: &[u8], whole: &Read) -> Option<usize> {
 
 /// Prints the outcome of a text, or with which pieces something else comes of it.
 fn print_outcome(rt: &HostRuntime, layout: &Layout, json: &[u8], unknown: bool) -> io::Result<()> {
-    let source = Source {
+    let source = JsonContext {
         alloc: rt.alloc(),
         layout,
         unknown,
@@ -68,9 +72,9 @@ fn print_outcome(rt: &HostRuntime, layout: &Layout, json: &[u8], unknown: bool) 
     }
     let told = match whole.encoded {
         Ok(_) => "a buffer",
-        Err(TextFault::BadJson) => "no JSON",
-        Err(TextFault::Memory) => "no memory",
-        Err(TextFault::Encode(fault)) => return println!(rt; "{fault}"),
+        Err(JsonTextFault::BadJson) => "no JSON",
+        Err(JsonTextFault::Memory) => "no memory",
+        Err(JsonTextFault::Encode(fault)) => return println!(rt; "{fault}"),
     };
     println!(rt; "{told}")
 }

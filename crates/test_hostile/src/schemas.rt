@@ -1,5 +1,5 @@
 //! The calls on schema texts.
-use crate::arming::{Outcome, arm, disarm};
+use crate::arming::{CallOutcome, arm, disarm};
 use crate::examples::Example;
 use fb_declare::declare;
 use fb_layout::{Layout, LayoutFault, lay};
@@ -15,30 +15,30 @@ fn is_laid(example: &Example, layout: &Layout) -> bool {
     is_declared(example, layout.schema()) && layout.greatest() == example.align
 }
 
-fn try_parse(rt: &HostRuntime, example: &Example, arms: bool) -> Outcome {
+fn try_parse(rt: &HostRuntime, example: &Example, arms: bool) -> CallOutcome {
     arm(rt, arms);
     let answer = parse(rt.alloc(), example.schema);
     disarm(rt, arms);
     let decls = match answer {
         Ok(decls) => decls,
-        Err(fault) => return Outcome::of_refusal(fault.number()),
+        Err(fault) => return CallOutcome::of_refusal(fault.number()),
     };
     match declare(rt.alloc(), &decls) {
-        Ok(schema) => Outcome::of(is_declared(example, &schema)),
-        Err(_) => Outcome::Wrong,
+        Ok(schema) => CallOutcome::of(is_declared(example, &schema)),
+        Err(_) => CallOutcome::Wrong,
     }
 }
 
-fn try_declare(rt: &HostRuntime, example: &Example, arms: bool) -> Outcome {
+fn try_declare(rt: &HostRuntime, example: &Example, arms: bool) -> CallOutcome {
     let Ok(decls) = parse(rt.alloc(), example.schema) else {
-        return Outcome::Wrong;
+        return CallOutcome::Wrong;
     };
     arm(rt, arms);
     let answer = declare(rt.alloc(), &decls);
     disarm(rt, arms);
     match answer {
-        Ok(schema) => Outcome::of(is_declared(example, &schema)),
-        Err(fault) => Outcome::of_refusal(fault.number()),
+        Ok(schema) => CallOutcome::of(is_declared(example, &schema)),
+        Err(fault) => CallOutcome::of_refusal(fault.number()),
     }
 }
 
@@ -50,38 +50,38 @@ fn schema_in(rt: &HostRuntime, example: &Example) -> Option<Schema> {
 }
 
 /// Want of memory of `lay`, which is right where the schema that it gave back can be laid.
-fn of_returned(rt: &HostRuntime, example: &Example, schema: Schema) -> Outcome {
+fn of_returned(rt: &HostRuntime, example: &Example, schema: Schema) -> CallOutcome {
     match lay(rt.alloc(), schema) {
         Ok(layout) => if is_laid(example, &layout) {
-            Outcome::Short(32)
+            CallOutcome::Short(32)
         } else {
-            Outcome::Wrong
+            CallOutcome::Wrong
         },
-        Err(_) => Outcome::Wrong,
+        Err(_) => CallOutcome::Wrong,
     }
 }
 
-fn try_lay(rt: &HostRuntime, example: &Example, arms: bool) -> Outcome {
+fn try_lay(rt: &HostRuntime, example: &Example, arms: bool) -> CallOutcome {
     let Some(schema) = schema_in(rt, example) else {
-        return Outcome::Wrong;
+        return CallOutcome::Wrong;
     };
     arm(rt, arms);
     let answer = lay(rt.alloc(), schema);
     disarm(rt, arms);
     match answer {
-        Ok(layout) => Outcome::of(is_laid(example, &layout)),
+        Ok(layout) => CallOutcome::of(is_laid(example, &layout)),
         Err((LayoutFault::Memory, schema)) => of_returned(rt, example, schema),
-        Err(_) => Outcome::Wrong,
+        Err(_) => CallOutcome::Wrong,
     }
 }
 
-fn try_schema_of(rt: &HostRuntime, example: &Example, arms: bool) -> Outcome {
+fn try_schema_of(rt: &HostRuntime, example: &Example, arms: bool) -> CallOutcome {
     arm(rt, arms);
     let answer = schema_of(rt.alloc(), example.schema);
     disarm(rt, arms);
     match answer {
-        Ok(layout) => Outcome::of(is_laid(example, &layout)),
-        Err(fault) => Outcome::of_refusal(fault.number()),
+        Ok(layout) => CallOutcome::of(is_laid(example, &layout)),
+        Err(fault) => CallOutcome::of_refusal(fault.number()),
     }
 }
 
@@ -91,7 +91,7 @@ pub(crate) fn try_schema_call(
     call: &str,
     example: &Example,
     arms: bool,
-) -> Option<Outcome> {
+) -> Option<CallOutcome> {
     match call {
         "parse" => Some(try_parse(rt, example, arms)),
         "declare" => Some(try_declare(rt, example, arms)),

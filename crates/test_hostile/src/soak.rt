@@ -13,7 +13,7 @@ use std::io;
 
 /// What comes of one buffer.
 #[derive(Clone, Copy, PartialEq, Eq, Drop)]
-enum Verdict {
+enum BufferVerdict {
     /// It holds a value, whose text means it again.
     Held,
     /// It holds a value with a union code that has no name.
@@ -25,16 +25,16 @@ enum Verdict {
 
 /// How many buffers came to each verdict, and the first that is wrong.
 #[derive(Drop)]
-struct Tally {
+struct BufferTally {
     held: u64,
     unnamed: u64,
     refused: u64,
     wrong: Option<Vec<u8>>,
 }
 
-impl Tally {
-    fn new() -> Tally {
-        Tally {
+impl BufferTally {
+    fn new() -> BufferTally {
+        BufferTally {
             held: 0,
             unnamed: 0,
             refused: 0,
@@ -42,12 +42,12 @@ impl Tally {
         }
     }
 
-    fn count(&mut self, verdict: Verdict, bytes: &Vec<u8>) -> Result<(), AllocError> {
+    fn count(&mut self, verdict: BufferVerdict, bytes: &Vec<u8>) -> Result<(), AllocError> {
         match verdict {
-            Verdict::Held => self.held = self.held.saturating_add(1),
-            Verdict::Unnamed => self.unnamed = self.unnamed.saturating_add(1),
-            Verdict::Refused => self.refused = self.refused.saturating_add(1),
-            Verdict::Wrong => self.wrong = Some(bytes.clone()?),
+            BufferVerdict::Held => self.held = self.held.saturating_add(1),
+            BufferVerdict::Unnamed => self.unnamed = self.unnamed.saturating_add(1),
+            BufferVerdict::Refused => self.refused = self.refused.saturating_add(1),
+            BufferVerdict::Wrong => self.wrong = Some(bytes.clone()?),
         }
         Ok(())
     }
@@ -90,7 +90,7 @@ fn means(alloc: Global, layout: &Layout, text: &[u8], value: &Value) -> bool {
 }
 
 /// Judges a value beside the view of its bytes.
-fn judge_value(alloc: Global, layout: &Layout, view: View, value: &Value) -> Verdict {
+fn judge_value(alloc: Global, layout: &Layout, view: View, value: &Value) -> BufferVerdict {
     let mut out = Noted::over(Vec::new(alloc));
     let written = write_text(&view, false, &mut out);
     let out = out.into_inner();
@@ -103,34 +103,34 @@ fn judge_value(alloc: Global, layout: &Layout, view: View, value: &Value) -> Ver
             if matches!(written, Err(WriteFault::NoMemberName(at)) if at == place)
                 && out.is_empty()
             {
-                return Verdict::Unnamed;
+                return BufferVerdict::Unnamed;
             }
             false
         }
         Err(TextFault::Memory) => false,
     };
     if is_right {
-        Verdict::Held
+        BufferVerdict::Held
     } else {
-        Verdict::Wrong
+        BufferVerdict::Wrong
     }
 }
 
-fn judge<'a>(alloc: Global, layout: &'a Layout, bytes: &'a [u8]) -> Verdict {
+fn judge<'a>(alloc: Global, layout: &'a Layout, bytes: &'a [u8]) -> BufferVerdict {
     let mut entries = Entries::new();
     let found = read(alloc, layout, bytes, limits(), false, &mut entries);
     let mut entries = Entries::new();
     let view = match verify(layout, bytes, limits(), false, &mut entries) {
         Ok(view) => view,
         Err(fault) => return if found.err() == Some(fault) {
-            Verdict::Refused
+            BufferVerdict::Refused
         } else {
-            Verdict::Wrong
+            BufferVerdict::Wrong
         },
     };
     match found {
         Ok(value) => judge_value(alloc, layout, view, &value),
-        Err(_) => Verdict::Wrong,
+        Err(_) => BufferVerdict::Wrong,
     }
 }
 
@@ -153,16 +153,16 @@ fn judge_damages(
     bytes: &Vec<u8>,
     seed: u64,
     count: u64,
-) -> Result<Tally, AllocError> {
+) -> Result<BufferTally, AllocError> {
     let mut dice = Dice::new(seed);
-    let mut tally = Tally::new();
-    let is_held = judge(alloc, layout, bytes.as_slice()) == Verdict::Held;
+    let mut tally = BufferTally::new();
+    let is_held = judge(alloc, layout, bytes.as_slice()) == BufferVerdict::Held;
     let is_sound = is_held && is_built_again(alloc, layout, bytes.as_slice());
     tally.count(
         if is_sound {
-            Verdict::Held
+            BufferVerdict::Held
         } else {
-            Verdict::Wrong
+            BufferVerdict::Wrong
         },
         bytes,
     )?;

@@ -5,7 +5,7 @@ ghost use Rattle.fb_value.specs.Counts.{depth, nesting, is_whole};
 ghost use Rattle.fb_value.specs.Fits.{FitsRoot};
 ghost use Rattle.fb_conform.specs.Conforms.{Conforms};
 
-use crate::arming::{Outcome, arm, disarm};
+use crate::arming::{CallOutcome, arm, disarm};
 use crate::examples::Example;
 use crate::meanings::meaning;
 use crate::memoryless::try_memoryless;
@@ -22,15 +22,15 @@ pub(crate) fn is_printed_as(rt: &HostRuntime, layout: &Layout, value: &Value, te
     }
 }
 
-fn try_copy(rt: &HostRuntime, value: &Value, arms: bool) -> Outcome
+fn try_copy(rt: &HostRuntime, value: &Value, arms: bool) -> CallOutcome
     requires { nesting (view value.now) ≤ 300 }
 {
     arm(rt, arms);
     let answer = copy(rt.alloc(), value);
     disarm(rt, arms);
     match answer {
-        Ok(copied) => Outcome::of(copied == *value),
-        Err(_) => Outcome::Short(0),
+        Ok(copied) => CallOutcome::of(copied == *value),
+        Err(_) => CallOutcome::Short(0),
     }
 }
 
@@ -41,7 +41,7 @@ fn try_plan(
     layout: &Layout,
     value: &Value,
     arms: bool,
-) -> Outcome
+) -> CallOutcome
     requires fits { FitsRoot layout.now (view value.now) }
     requires whole { is_whole (view value.now) ≡ true }
     requires deep { depth (view value.now) ≤ 127 }
@@ -53,8 +53,8 @@ fn try_plan(
     };
     disarm(rt, arms);
     match answer {
-        Ok(bytes) => Outcome::of(bytes.as_slice() == example.bytes),
-        Err(fault) => Outcome::of_refusal(fault.number()),
+        Ok(bytes) => CallOutcome::of(bytes.as_slice() == example.bytes),
+        Err(fault) => CallOutcome::of_refusal(fault.number()),
     }
 }
 
@@ -64,7 +64,7 @@ fn try_build(
     layout: &Layout,
     value: &Value,
     arms: bool,
-) -> Outcome
+) -> CallOutcome
     requires fits { FitsRoot layout.now (view value.now) }
     requires whole { is_whole (view value.now) ≡ true }
     requires deep { depth (view value.now) ≤ 127 }
@@ -73,8 +73,8 @@ fn try_build(
     let answer = build(rt.alloc(), layout, value);
     disarm(rt, arms);
     match answer {
-        Ok(bytes) => Outcome::of(bytes.as_slice() == example.bytes),
-        Err(fault) => Outcome::of_refusal(fault.number()),
+        Ok(bytes) => CallOutcome::of(bytes.as_slice() == example.bytes),
+        Err(fault) => CallOutcome::of_refusal(fault.number()),
     }
 }
 
@@ -84,13 +84,13 @@ fn try_text_of(
     layout: &Layout,
     value: &Value,
     arms: bool,
-) -> Outcome {
+) -> CallOutcome {
     arm(rt, arms);
     let answer = text_of(rt.alloc(), layout, value, false);
     disarm(rt, arms);
     match answer {
-        Ok(text) => Outcome::of(text.as_str() == example.text),
-        Err(fault) => Outcome::of_refusal(fault.number()),
+        Ok(text) => CallOutcome::of(text.as_str() == example.text),
+        Err(fault) => CallOutcome::of_refusal(fault.number()),
     }
 }
 
@@ -109,7 +109,7 @@ fn try_carry_to(
     newer: &Layout,
     value: &Value,
     arms: bool,
-) -> Outcome
+) -> CallOutcome
     requires conforms { Conforms layout.now newer.now }
     requires fits { FitsRoot layout.now (view value.now) }
     requires nests { nesting (view value.now) ≤ 300 }
@@ -118,8 +118,8 @@ fn try_carry_to(
     let answer = carry(rt.alloc(), layout, newer, value);
     disarm(rt, arms);
     match answer {
-        Ok(carried) => Outcome::of(is_carried(rt, example, newer, &carried)),
-        Err(_) => Outcome::Short(0),
+        Ok(carried) => CallOutcome::of(is_carried(rt, example, newer, &carried)),
+        Err(_) => CallOutcome::Short(0),
     }
 }
 
@@ -129,16 +129,16 @@ fn try_carry(
     layout: &Layout,
     value: &Value,
     arms: bool,
-) -> Outcome
+) -> CallOutcome
     requires fits { FitsRoot layout.now (view value.now) }
     requires nests { nesting (view value.now) ≤ 300 }
 {
     let Ok(newer) = schema_of(rt.alloc(), example.newer) else {
-        return Outcome::Wrong;
+        return CallOutcome::Wrong;
     };
     match conform(layout, &newer) {
         Ok(()) => try_carry_to(rt, example, layout, &newer, value, arms),
-        Err(_) => Outcome::Wrong,
+        Err(_) => CallOutcome::Wrong,
     }
 }
 
@@ -149,9 +149,9 @@ pub(crate) fn try_value_call(
     example: &Example,
     layout: &Layout,
     arms: bool,
-) -> Option<Outcome> {
+) -> Option<CallOutcome> {
     let Some(value) = meaning(rt.alloc(), layout, example.json) else {
-        return Some(Outcome::Wrong);
+        return Some(CallOutcome::Wrong);
     };
     match call {
         "copy" => Some(try_copy(rt, &value, arms)),

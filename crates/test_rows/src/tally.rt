@@ -1,34 +1,34 @@
 //! How many rows hold.
-use crate::trial::Verdict;
+use crate::trial::RowVerdict;
 use std::alloc::{AllocError, Global};
 use std::io::{self, Write};
 use std::process::ExitCode;
 
 /// How many rows of each kind hold, and how many rows are wrong.
 #[derive(Drop)]
-pub(crate) struct Tally {
+pub(crate) struct RowTally {
     kinds: Vec<(&'static str, u64)>,
     wrong: u64,
 }
 
-impl Tally {
+impl RowTally {
     /// No row of any of these kinds.
-    pub(crate) fn new(alloc: Global, names: &[&'static str]) -> Result<Tally, AllocError> {
+    pub(crate) fn new(alloc: Global, names: &[&'static str]) -> Result<RowTally, AllocError> {
         let mut kinds = Vec::new(alloc);
         for name in names {
             kinds.push((*name, 0u64))?;
         }
-        Ok(Tally { kinds, wrong: 0 })
+        Ok(RowTally { kinds, wrong: 0 })
     }
 
     /// Counts a verdict, and writes what is wrong.
-    pub(crate) fn count<W: Write>(&mut self, verdict: &Verdict, out: &mut W) -> io::Result<()> {
+    pub(crate) fn count<W: Write>(&mut self, verdict: &RowVerdict, out: &mut W) -> io::Result<()> {
         match verdict {
-            Verdict::Holds(kind) => {
+            RowVerdict::Holds(kind) => {
                 self.hold(kind);
                 Ok(())
             }
-            Verdict::Wrong(wrong) => {
+            RowVerdict::Wrong(wrong) => {
                 self.wrong = self.wrong.saturating_add(1);
                 writeln!(out, "{wrong}")
             }

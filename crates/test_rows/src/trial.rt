@@ -2,7 +2,7 @@
 use crate::faults::RowFault;
 use crate::fields::Fields;
 use crate::schemas::try_schema_row;
-use crate::tally::Tally;
+use crate::tally::RowTally;
 use crate::values::try_value_row;
 use json::Scratch;
 use std::alloc::{AllocError, Global};
@@ -17,7 +17,7 @@ const KINDS: &[&str] = &[
 
 /// Whether a row holds: its kind, or what is wrong.
 #[derive(Drop)]
-pub(crate) enum Verdict {
+pub(crate) enum RowVerdict {
     Holds(&'static str),
     Wrong(String),
 }
@@ -29,12 +29,12 @@ fn compare(
     name: &str,
     want: &str,
     found: &str,
-) -> Result<Verdict, RowFault> {
+) -> Result<RowVerdict, RowFault> {
     if found == want {
-        return Ok(Verdict::Holds(kind));
+        return Ok(RowVerdict::Holds(kind));
     }
     let wrong = format!(in alloc; "{name}: wanted {want}, got {found}")?;
-    Ok(Verdict::Wrong(wrong))
+    Ok(RowVerdict::Wrong(wrong))
 }
 
 /// Writes what comes of a row as a line, and returns the row's kind. Each field that tells of it is taken.
@@ -46,7 +46,7 @@ fn run(alloc: Global, row: &mut Fields<'_>, line: &mut String) -> Result<&'stati
 }
 
 /// The verdict on a row. One with a field that isn't used is no row.
-fn try_row(alloc: Global, row: &mut Fields<'_>) -> Result<Verdict, RowFault> {
+fn try_row(alloc: Global, row: &mut Fields<'_>) -> Result<RowVerdict, RowFault> {
     let name = row.text("row")?;
     let want = row.text("want")?;
     let mut line = String::new(alloc);
@@ -58,7 +58,7 @@ fn try_row(alloc: Global, row: &mut Fields<'_>) -> Result<Verdict, RowFault> {
 }
 
 /// The verdict on a line, or why it is no row.
-fn try_line(alloc: Global, line: &str) -> Result<Verdict, RowFault> {
+fn try_line(alloc: Global, line: &str) -> Result<RowVerdict, RowFault> {
     let mut scratch = Scratch::new(alloc);
     match Fields::parse(alloc, line, &mut scratch) {
         Ok(mut row) => try_row(alloc, &mut row),
@@ -67,10 +67,10 @@ fn try_line(alloc: Global, line: &str) -> Result<Verdict, RowFault> {
 }
 
 /// The verdict on a line. A line that is no row is wrong.
-fn judge(alloc: Global, line: &str) -> Result<Verdict, AllocError> {
+fn judge(alloc: Global, line: &str) -> Result<RowVerdict, AllocError> {
     match try_line(alloc, line) {
         Ok(verdict) => Ok(verdict),
-        Err(fault) => Ok(Verdict::Wrong(format!(in alloc; "{line}: no row, {fault}")?)),
+        Err(fault) => Ok(RowVerdict::Wrong(format!(in alloc; "{line}: no row, {fault}")?)),
     }
 }
 
@@ -78,7 +78,7 @@ fn judge(alloc: Global, line: &str) -> Result<Verdict, AllocError> {
 fn try_lines<W: Write>(
     alloc: Global,
     text: &str,
-    tally: &mut Tally,
+    tally: &mut RowTally,
     out: &mut W,
 ) -> io::Result<()> {
     for line in text.lines() {
@@ -91,7 +91,7 @@ fn try_lines<W: Write>(
 /// Tries each line of some files as a row, and writes a line for each that is wrong, and the counts.
 /// The status is a failure where a row is wrong.
 pub(crate) fn try_files(rt: &HostRuntime, paths: &[String]) -> io::Result<ExitCode> {
-    let mut tally = Tally::new(rt.alloc(), KINDS)?;
+    let mut tally = RowTally::new(rt.alloc(), KINDS)?;
     for path in paths {
         let text = fs::read_to_string(rt, path.as_str())?;
         try_lines(rt.alloc(), text.as_str(), &mut tally, &mut rt.stdout())?;

@@ -4,7 +4,7 @@ use Rattle.fb_json.specs.Outcome.{spent}
 use Rattle.fb_encode.proofs.vectors.RunsAreNoted.{AreRunsNoted}
 use Rattle.fb_encode.specs.TreesNoted.{AddsTargets}
 use Rattle.fb_pieces.specs.CutTexts.{member_texts}
-use Rattle.fb_encode.specs.declared.reader.Excerpt.{Excerpt}
+use Rattle.fb_encode.specs.declared.reader.JsonExcerpt.{JsonExcerpt}
 use Rattle.fb_encode.specs.MembersRead.{object_read}
 use Rattle.fb_encode.specs.TextsRead.{IsRead}
 use Rattle.fb_encode.proofs.objects.SlotsAreFound.{AreSlotsFound, brackets_in}
@@ -62,5 +62,5 @@ invariant-objects::note_members-loop-k l = record {
       (object_read (l.excerpt.brackets - 1) (map (member_texts l.excerpt.text.now) l.members.items)) l.owner.0 l.slots
       l.wanted.place l.k l.wanted.levels l.wanted.left l.fn.walk.noting.tape l.walk.noting.tape l.fn.walk.noting.opened
       l.walk.noting.opened l.after;
-  read : (j : ℕ) (e : Excerpt) → j < l.k → slice_get l.texts.items j ≡ Some (Some e) → IsRead e.brackets e.text.now;
+  read : (j : ℕ) (e : JsonExcerpt) → j < l.k → slice_get l.texts.items j ≡ Some (Some e) → IsRead e.brackets e.text.now;
 }

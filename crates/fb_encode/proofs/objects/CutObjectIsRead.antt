@@ -13,7 +13,7 @@ use Rattle.fb_pieces.specs.CutTexts.{member_texts}
 use Rattle.fb_pieces.specs.CutTextsAreUtf8.{CutObjectIsUtf8}
 use Rattle.fb_pieces.specs.ObjectOfMembers.{ReadMembers}
 use Rattle.fb_pieces.specs.ReadByPieces.{CutObjectIsRead, IsCutIntoMembers}
-use Rattle.fb_encode.specs.declared.reader.Excerpt.{Excerpt}
+use Rattle.fb_encode.specs.declared.reader.JsonExcerpt.{JsonExcerpt}
 use Rattle.fb_encode.specs.MembersRead.{AreNamesRead, AreValuesRead, members_read, name_read, object_read}
 use Rattle.fb_encode.specs.SlotTexts.{AreTextsOf, AreTextsRead}
 use Rattle.fb_encode.specs.TextsRead.{IsRead, IsReadAs}
@@ -58,13 +58,13 @@ cut_is_read law utf8 brackets text (m ∷ ms) cut some within names values =
 
 -- the same where the texts at the slots before a place are read, which is past all
 pub members_are_read : CutObjectIsRead → CutObjectIsUtf8 → (brackets : ℕ) (text : List ℕ) (members : List Member)
-    → IsCutIntoMembers text members → 0 < length members → 0 < brackets → (texts : List (Option Excerpt))
+    → IsCutIntoMembers text members → 0 < length members → 0 < brackets → (texts : List (Option JsonExcerpt))
     → (slots : List FieldInfo)
     → AreTextsOf (brackets - 1) texts (map field_seen slots) (map (member_texts text) members)
     → AreNamesRead (brackets - 1) (map (member_texts text) members)
     → (AreTextsRead texts → AreValuesRead (brackets - 1) (map (member_texts text) members)) → (k : ℕ)
     → length slots ≤ k
-    → ((j : ℕ) (e : Excerpt) → j < k → slice_get texts j ≡ Some (Some e) → IsRead e.brackets e.text.now)
+    → ((j : ℕ) (e : JsonExcerpt) → j < k → slice_get texts j ≡ Some (Some e) → IsRead e.brackets e.text.now)
     → IsReadAs brackets text (object (object_read (brackets - 1) (map (member_texts text) members)))
 members_are_read law utf8 brackets text members cut some within texts slots are names values k past read =
     cut_is_read law utf8 brackets text members cut some within names (values (λ j e at. read j e

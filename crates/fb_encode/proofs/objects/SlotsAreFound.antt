@@ -29,7 +29,7 @@ use Rattle.fb_json.proofs.slots.SlotsDecideTheTable.{table_fails, table_gives}
 use Rattle.fb_build.specs.declared.noting.Noting.{Noting}
 use Rattle.fb_build.specs.Paired.{ArePaired}
 use Rattle.fb_encode.specs.declared.objects.AfterSlot.{AfterSlot}
-use Rattle.fb_encode.specs.declared.reader.Excerpt.{Excerpt}
+use Rattle.fb_encode.specs.declared.reader.JsonExcerpt.{JsonExcerpt}
 use Rattle.fb_encode.specs.declared.unnoted.Unnoted.{Unnoted}
 use Rattle.fb_encode.specs.declared.unnoted.Unnoted.TheVariants.{Fault, Unread}
 use Rattle.fb_encode.specs.Found.{IfFault, IfFound}
@@ -41,7 +41,7 @@ use Rattle.fb_encode.proofs.tables.SlotsAreNoted.{table_noted, ungiven, untold}
 use Rattle.fb_layout.proofs.slots.SlotsAreAsManyAsFields.{slots_long}
 
 -- the brackets that may be open in a text
-abbrev pub brackets_in : Option Excerpt → ℕ
+abbrev pub brackets_in : Option JsonExcerpt → ℕ
 brackets_in None = 0
 brackets_in (Some e) = e.brackets
 

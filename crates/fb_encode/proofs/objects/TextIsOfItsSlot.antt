@@ -12,7 +12,7 @@ use Rattle.serde_json.specs.Find.{get_member}
 use Rattle.fb_schema.specs.Schema.{DeclaredField, Name}
 use Rattle.fb_layout.specs.Laid.{LaidSchema}
 use Rattle.fb_json.specs.Meant.{Meaner, look, meant}
-use Rattle.fb_encode.specs.declared.reader.Excerpt.{Excerpt}
+use Rattle.fb_encode.specs.declared.reader.JsonExcerpt.{JsonExcerpt}
 use Rattle.fb_encode.specs.MembersRead.{object_read}
 use Rattle.fb_encode.specs.SlotTexts.{AreTextsOf, AreTextsRead, excerpt_tree, text_found}
 use Rattle.fb_encode.specs.TextsRead.{IsRead}
@@ -20,22 +20,22 @@ use Rattle.fb_encode.proofs.objects.SlotsAreFound.{brackets_in}
 use Rattle.fb_json.proofs.slots.MembersWithTheirMeaning.{looked}
 use Rattle.fb_json.proofs.slots.MembersWithTheirMeaning.{with_meaning}
 
-meaning_of : (L : LaidSchema) (unknown : Bool) (o : Option Excerpt)
+meaning_of : (L : LaidSchema) (unknown : Bool) (o : Option JsonExcerpt)
     → option_map (with_meaning L unknown) (option_map excerpt_tree o) ≡ text_found L unknown o
 meaning_of L unknown None = refl
 meaning_of L unknown (Some e) = refl
 
 -- what is known of a slot's text
 pub record IsOwnText (L : LaidSchema) (unknown : Bool) (brackets : ℕ) (ms : Members) (f : DeclaredField)
-    (o : Option Excerpt) : Type 0 where
+    (o : Option JsonExcerpt) : Type 0 where
   pub low : brackets_in o ≤ brackets
   pub few : brackets ≤ 127 → IfSome o (λ e. e.brackets ≤ 127)
   pub old : f.deprecated ≡ true → o ≡ None
   pub found : f.deprecated ≡ false → look L unknown ms f.name ≡ text_found L unknown o
 
 -- the texts before a place are read, and the others too
-pub all_read : (texts : List (Option Excerpt)) (k : ℕ)
-    → ((j : ℕ) (e : Excerpt) → j < k → slice_get texts j ≡ Some (Some e) → IsRead e.brackets e.text.now)
+pub all_read : (texts : List (Option JsonExcerpt)) (k : ℕ)
+    → ((j : ℕ) (e : JsonExcerpt) → j < k → slice_get texts j ≡ Some (Some e) → IsRead e.brackets e.text.now)
     → AreTextsRead (drop k texts) → AreTextsRead texts
 all_read texts zero before rest j e at = rest j e at
 all_read [] (suc k) before rest j e at = cc
@@ -43,15 +43,15 @@ all_read (o ∷ texts) (suc k) before rest zero e at = before 0 e (omega arith) 
 all_read (o ∷ texts) (suc k) before rest (suc j) e at =
     all_read texts k (λ i f low is. before (suc i) f (omega (arith, low)) is) rest j e at
 
-module _ (texts : List (Option Excerpt)) (k : ℕ) (o : Option Excerpt) (within : k < length texts)
+module _ (texts : List (Option JsonExcerpt)) (k : ℕ) (o : Option JsonExcerpt) (within : k < length texts)
     (is : o ≡ get_or texts k o) where
   there : slice_get texts k ≡ Some o
   there = slice_get-get_or texts k o within ∙ ap Some (sym is)
 
   -- the texts before the next place are read
   pub read_more : IfSome o (λ e. IsRead e.brackets e.text.now)
-      → ((j : ℕ) (e : Excerpt) → j < k → slice_get texts j ≡ Some (Some e) → IsRead e.brackets e.text.now)
-      → (j : ℕ) (e : Excerpt) → j < k + 1 → slice_get texts j ≡ Some (Some e) → IsRead e.brackets e.text.now
+      → ((j : ℕ) (e : JsonExcerpt) → j < k → slice_get texts j ≡ Some (Some e) → IsRead e.brackets e.text.now)
+      → (j : ℕ) (e : JsonExcerpt) → j < k + 1 → slice_get texts j ≡ Some (Some e) → IsRead e.brackets e.text.now
   read_more here before j e low at = by (j == k) refl
     where
       by : (b : Bool) → (j == k) ≡ b → IsRead e.brackets e.text.now
@@ -66,15 +66,15 @@ module _ (texts : List (Option Excerpt)) (k : ℕ) (o : Option Excerpt) (within 
 
   module _ (brackets : ℕ) (fs : List DeclaredField) (ms : List (List ℕ × List ℕ))
       (are : AreTextsOf brackets texts fs ms) where
-    text_in : (p : Option Excerpt) → o ≡ p → IfSome p (λ e. e.brackets ≡ brackets)
+    text_in : (p : Option JsonExcerpt) → o ≡ p → IfSome p (λ e. e.brackets ≡ brackets)
     text_in None same = tt
     text_in (Some e) same = are.brackets_are k e (there ∙ ap Some same)
 
-    low_of : (p : Option Excerpt) → IfSome p (λ e. e.brackets ≡ brackets) → brackets_in p ≤ brackets
+    low_of : (p : Option JsonExcerpt) → IfSome p (λ e. e.brackets ≡ brackets) → brackets_in p ≤ brackets
     low_of None h = omega arith
     low_of (Some e) h = omega (arith, h)
 
-    few_of : (p : Option Excerpt) → IfSome p (λ e. e.brackets ≡ brackets) → brackets ≤ 127
+    few_of : (p : Option JsonExcerpt) → IfSome p (λ e. e.brackets ≡ brackets) → brackets ≤ 127
         → IfSome p (λ e. e.brackets ≤ 127)
     few_of None h few = tt
     few_of (Some e) h few = omega (arith, h, few)

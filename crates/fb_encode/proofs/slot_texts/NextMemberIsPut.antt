@@ -13,7 +13,7 @@ use Rattle.fb_json.specs.Meant.{is_used, type_place}
 use Rattle.fb_json.specs.SlotMembers.{AreFieldsOf}
 use Rattle.fb_pieces.specs.declared.cut.Member.{Member}
 use Rattle.fb_pieces.specs.CutTexts.{member_texts, piece_text}
-use Rattle.fb_encode.specs.declared.reader.Excerpt.{Excerpt}
+use Rattle.fb_encode.specs.declared.reader.JsonExcerpt.{JsonExcerpt}
 use Rattle.fb_encode.specs.MembersRead.{name_read}
 use Rattle.fb_encode.specs.SlotTexts.{text_over, texts_with}
 use Rattle.fb_encode.specs.TextsRead.{IsRead, IsReadAs}
@@ -31,9 +31,9 @@ members_more text members i d within =
 
 module _ (S : DeclaredSchema) (t : ℕ) (declared : IsDeclared S) (fs : List DeclaredField)
     (of : AreFieldsOf fs (body_at S t)) (unknown : Bool) (brackets : ℕ)
-    (texts : List (Option Excerpt)) (known : Result (Unit {0}) JsonFault) (text : List ℕ) (members : List Member)
+    (texts : List (Option JsonExcerpt)) (known : Result (Unit {0}) JsonFault) (text : List ℕ) (members : List Member)
     (i : ℕ) (d : Member) (within : i < length members)
-    (so_far : ArePutSoFar S t fs unknown brackets texts known (texts_before text members i)) (name value : Excerpt)
+    (so_far : ArePutSoFar S t fs unknown brackets texts known (texts_before text members i)) (name value : JsonExcerpt)
     (name_is : name.text.now ≡ piece_text text (get_or members i d).name) (name_in : name.brackets ≡ brackets)
     (value_is : value.text.now ≡ piece_text text (get_or members i d).value) (value_in : value.brackets ≡ brackets)
     (named : IsReadAs name.brackets name.text.now (string (name_read name.brackets name.text.now)))

@@ -20,7 +20,7 @@ use Rattle.fb_json.specs.declared.faults.JsonFault.{JsonFault}
 use Rattle.fb_json.specs.declared.faults.JsonFault.TheVariants.{UnknownMember}
 use Rattle.fb_json.specs.Meant.{if_known, is_used, names_known, type_place}
 use Rattle.fb_json.specs.SlotMembers.{AreFieldsOf}
-use Rattle.fb_encode.specs.declared.reader.Excerpt.{Excerpt}
+use Rattle.fb_encode.specs.declared.reader.JsonExcerpt.{JsonExcerpt}
 use Rattle.fb_encode.specs.MembersRead.{AreNamesRead, AreValuesRead, name_read, object_read, tree_read}
 use Rattle.fb_encode.specs.SlotTexts.{AreTextsOf, AreTextsRead, excerpt_tree, text_over, texts_with}
 use Rattle.fb_encode.specs.TextsRead.{IsRead, IsReadAs}
@@ -30,7 +30,8 @@ use Rattle.std.proofs.Math.Bool.{or-true}
 
 -- the same of the members before a place
 pub record ArePutSoFar (S : DeclaredSchema) (t : ℕ) (fs : List DeclaredField) (unknown : Bool) (brackets : ℕ)
-    (texts : List (Option Excerpt)) (known : Result (Unit {0}) JsonFault) (ms : List (List ℕ × List ℕ)) : Type 0 where
+    (texts : List (Option JsonExcerpt)) (known : Result (Unit {0}) JsonFault)
+    (ms : List (List ℕ × List ℕ)) : Type 0 where
   pub names : AreNamesRead brackets ms
   pub texts_are : AreTextsOf brackets texts fs ms
   pub values : AreTextsRead texts → AreValuesRead brackets ms
@@ -56,7 +57,7 @@ none_put S t fs unknown brackets n long = record {
         none_at n k None (omega (arith, slice_get_within fs k f there, long));
     brackets_are = λ k e there.
         let inside = slice_get_within (replicate n None) k (Some e) there in
-        let within : k < n = omega (arith, inside, length-replicate {A = Option Excerpt} n None) in
+        let within : k < n = omega (arith, inside, length-replicate {A = Option JsonExcerpt} n None) in
         let is : Some None ≡ Some (Some e) = sym (none_at n k None within) ∙ there in
         cc;
   };
@@ -78,7 +79,7 @@ put_elsewhere (y ∷ xs) zero (suc k) x apart = refl
 put_elsewhere (y ∷ xs) (suc i) zero x apart = refl
 put_elsewhere (y ∷ xs) (suc i) (suc k) x apart = put_elsewhere xs i k x (λ e. apart (ap suc e))
 
-module _ (texts : List (Option Excerpt)) (e : Excerpt) where
+module _ (texts : List (Option JsonExcerpt)) (e : JsonExcerpt) where
   -- a slot that isn't the text's is as it was
   untouched : (o : Option DeclaredField) (k : ℕ)
       → ((g : DeclaredField) → o ≡ Some g → g.deprecated ≡ false → k ≢ g.slot)
@@ -91,15 +92,15 @@ module _ (texts : List (Option Excerpt)) (e : Excerpt) where
       by true is = refl
       by false is = put_elsewhere texts g.slot k (Some e) (apart g refl is)
 
-  module _ (P : Excerpt → Type 0) where
-    abbrev AllTexts : List (Option Excerpt) → Type 0
-    AllTexts xs = (k : ℕ) (x : Excerpt) → slice_get xs k ≡ Some (Some x) → P x
+  module _ (P : JsonExcerpt → Type 0) where
+    abbrev AllTexts : List (Option JsonExcerpt) → Type 0
+    AllTexts xs = (k : ℕ) (x : JsonExcerpt) → slice_get xs k ≡ Some (Some x) → P x
 
     of_texts_with : (o : Option DeclaredField) → P e → AllTexts texts → AllTexts (texts_with texts o e)
     of_texts_with None here all = all
     of_texts_with (Some g) here all = by g.deprecated
       where
-        now : (k : ℕ) (x : Excerpt) → (b : Bool) → (k == g.slot) ≡ b
+        now : (k : ℕ) (x : JsonExcerpt) → (b : Bool) → (k == g.slot) ≡ b
             → slice_get (set texts g.slot (Some e)) k ≡ Some (Some x) → P x
         now k x true is there =
             let same : k ≡ g.slot = eqb-true k g.slot is in
@@ -129,7 +130,7 @@ module _ (texts : List (Option Excerpt)) (e : Excerpt) where
     of_texts_before (Some g) over all = by g.deprecated over all
       where
         before : IfSome (get_or texts g.slot (Some e)) P → AllTexts (set texts g.slot (Some e))
-            → (k : ℕ) (x : Excerpt) → (b : Bool) → (k == g.slot) ≡ b → slice_get texts k ≡ Some (Some x) → P x
+            → (k : ℕ) (x : JsonExcerpt) → (b : Bool) → (k == g.slot) ≡ b → slice_get texts k ≡ Some (Some x) → P x
         before over all k x true is there =
             let same : k ≡ g.slot = eqb-true k g.slot is in
             let here : get_or texts g.slot (Some e) ≡ Some x =
@@ -160,8 +161,8 @@ module _ (texts : List (Option Excerpt)) (e : Excerpt) where
 
 module _ (S : DeclaredSchema) (t : ℕ) (declared : IsDeclared S) (fs : List DeclaredField)
     (of : AreFieldsOf fs (body_at S t)) (unknown : Bool) (brackets : ℕ)
-    (texts : List (Option Excerpt)) (known : Result (Unit {0}) JsonFault) (ms : List (List ℕ × List ℕ))
-    (so_far : ArePutSoFar S t fs unknown brackets texts known ms) (m : List ℕ × List ℕ) (e : Excerpt)
+    (texts : List (Option JsonExcerpt)) (known : Result (Unit {0}) JsonFault) (ms : List (List ℕ × List ℕ))
+    (so_far : ArePutSoFar S t fs unknown brackets texts known ms) (m : List ℕ × List ℕ) (e : JsonExcerpt)
     (text_is : e.text.now ≡ m.1) (brackets_is : e.brackets ≡ brackets)
     (named : IsReadAs brackets m.0 (string (name_read brackets m.0))) (o : Option DeclaredField)
     (found : o ≡ field_named (body_at S t) (name_read brackets m.0)) where

@@ -14,7 +14,7 @@ use Rattle.fb_schema.specs.Found.{field_named, fields_in}
 use Rattle.fb_schema.specs.WellDeclared.{IsBody, IsDeclared, IsPlain}
 use Rattle.fb_layout.specs.Laid.{LaidSchema}
 use Rattle.fb_json.specs.Meant.{is_used, names_known}
-use Rattle.fb_encode.specs.declared.reader.Excerpt.{Excerpt}
+use Rattle.fb_encode.specs.declared.reader.JsonExcerpt.{JsonExcerpt}
 use Rattle.fb_encode.specs.SlotTexts.{excerpt_tree}
 use Rattle.fb_encode.specs.StandIns.{AreAlike, IsFieldPut, IsStandIn}
 use Rattle.fb_encode.specs.TextsRead.{IsRead, IsReadAs}
@@ -105,7 +105,7 @@ tree_stands_in L unknown brackets text shape (Some tree) own = record {
 }
 
 -- the text of a field that is put is read
-pub field_read : (L : LaidSchema) (unknown : Bool) (f : DeclaredField) (o : Option Excerpt) (before now : Members)
+pub field_read : (L : LaidSchema) (unknown : Bool) (f : DeclaredField) (o : Option JsonExcerpt) (before now : Members)
     → IsFieldPut L unknown f o before now → IfSome o (λ e. IsRead e.brackets e.text.now)
 field_read L unknown f None before now same = tt
 field_read L unknown f (Some e) before now (d, stand, is) = (stand.tree, stand.read)
@@ -157,7 +157,7 @@ module _ (L : LaidSchema) (unknown : Bool) (s : ℕ) (declared : IsDeclared L.sc
           others g.name (names_apart L.schema s declared j k g f at there apart)
           ∙ so_far.later j g at (omega (arith, high))
 
-  pub field_put : (o : Option Excerpt) → get_member f.name ms ≡ option_map excerpt_tree o → (now : Members)
+  pub field_put : (o : Option JsonExcerpt) → get_member f.name ms ≡ option_map excerpt_tree o → (now : Members)
       → IsFieldPut L unknown f o ns now → AreFieldsPut L unknown s ms now (k + 1)
   field_put None found now same =
       let none : get_member f.name now ≡ None =

@@ -16,7 +16,7 @@ use Rattle.fb_pieces.specs.InBrackets.{TextIsReadWithoutBrackets, in_arrays, in_
 use Rattle.fb_pieces.specs.ReadByPieces.{IsCutIntoRuns}
 use Rattle.fb_pieces.specs.Texts.{array_text}
 use Rattle.fb_encode.proofs.reader.TextInBrackets.{brackets_more, read_without}
-use Rattle.fb_encode.specs.declared.reader.Excerpt.{Excerpt}
+use Rattle.fb_encode.specs.declared.reader.JsonExcerpt.{JsonExcerpt}
 use Rattle.fb_encode.specs.SlotTexts.{IsPieceOf}
 use Rattle.fb_encode.specs.TextsRead.{IsReadAs, IsRunReadAs}
 
@@ -33,7 +33,7 @@ utf8_of_run brackets e (item d ds) h =
     (IsUtf8-append_ascii e (93 ∷ []) (IsAscii-replicate 1 93 (omega arith))).0 after
 
 -- an element that is read alone is a run
-pub run_of_element : ElementsMakeTheArray → (brackets : ℕ) (e : List ℕ) (x : Excerpt) → x.text.now ≡ e
+pub run_of_element : ElementsMakeTheArray → (brackets : ℕ) (e : List ℕ) (x : JsonExcerpt) → x.text.now ≡ e
     → x.brackets ≡ brackets - 1 → (t : Data) → 0 < brackets → IsReadAs x.brackets x.text.now t
     → IsRunReadAs brackets e (item t no_items)
 run_of_element law brackets e x text_is brackets_is t some h =

@@ -6,7 +6,7 @@ use Rattle.std.proofs.lemmas.List.{get_or_append_left}
 use Rattle.std.proofs.lemmas.List.Elements.{All-push}
 use Rattle.std.proofs.lemmas.List.Quantifiers.{Any-push}
 use Rattle.std.proofs.lemmas.List.Sorted.{IsNonDecreasingBy-push}
-use Rattle.fb_inspect.specs.declared.pieces.Piece.{Piece}
+use Rattle.fb_inspect.specs.declared.pieces.BufferPiece.{BufferPiece}
 use Rattle.fb_inspect.specs.Covers.{CoversBelow, IsIn}
 use Rattle.fb_inspect.specs.Listings.{BeginBy, IsListedTo}
 
@@ -15,7 +15,7 @@ any_more P xs y (k, x, within, is, holds) =
     (k, x, grind (arith, length-append), get_or_append_left xs (y ∷ []) x k within ∙ is, holds)
 
 -- one that begins where the bytes before it end, or before that
-pub covered_more : (pieces : List Piece) (piece : Piece) (covered end : ℕ) → CoversBelow pieces covered
+pub covered_more : (pieces : List BufferPiece) (piece : BufferPiece) (covered end : ℕ) → CoversBelow pieces covered
     → piece.start ≤ covered → end ≤ max covered piece.end → CoversBelow (pieces ++ piece ∷ []) end
 covered_more pieces piece covered end before near far byte below =
     elim (cases_lt byte covered) [
@@ -24,7 +24,7 @@ covered_more pieces piece covered end before near far byte below =
     ]
 
 -- after them in the order of their begins
-pub listed_more : (pieces : List Piece) (piece : Piece) (covered end : ℕ) → IsListedTo pieces covered
+pub listed_more : (pieces : List BufferPiece) (piece : BufferPiece) (covered end : ℕ) → IsListedTo pieces covered
     → BeginBy piece.start pieces → piece.start ≤ covered → piece.start ≤ end → covered ≤ end
     → end ≤ max covered piece.end
     → IsListedTo (pieces ++ piece ∷ []) end

@@ -5,12 +5,12 @@ use Rattle.std.proofs.lemmas.List.{take_more}
 use Rattle.std.proofs.lemmas.List.Elements.{Contains-append_left, Contains-push}
 use Rattle.std.proofs.lemmas.List.Sorted.{Contains-permutation}
 use Rattle.fb_value.specs.declared.faults.ReadFault.{ReadFault}
-use Rattle.fb_inspect.specs.declared.pieces.Piece.{Piece}
+use Rattle.fb_inspect.specs.declared.pieces.BufferPiece.{BufferPiece}
 use Rattle.fb_inspect.specs.Listings.{IsKeptIn, fault_piece, head_of, is_noted, noted_in, with_fault}
 use Rattle.fb_inspect.proofs.cover.OneMoreIsKept.{noted_both, noted_alone}
 
 -- a piece that was noted has its head among those that were
-noted_among : (pieces : List Piece) (piece : Piece) → is_noted piece.what ≡ true → Contains pieces piece
+noted_among : (pieces : List BufferPiece) (piece : BufferPiece) → is_noted piece.what ≡ true → Contains pieces piece
     → Contains (noted_in pieces) (head_of piece)
 noted_among pieces piece noted (k, within, is) =
     let front : take (k + 1) pieces ≡ take k pieces ++ piece ∷ [] =
@@ -25,7 +25,7 @@ noted_among pieces piece noted (k, within, is) =
     (Contains-append_left (noted_in (take k pieces) ++ head_of piece ∷ []) _ _
     (Contains-push (noted_in (take k pieces)) (head_of piece)))
 
-pub fault_is_listed : (len : ℕ) (fault : Option ReadFault) (pieces all : List Piece)
+pub fault_is_listed : (len : ℕ) (fault : Option ReadFault) (pieces all : List BufferPiece)
     → IsKeptIn (with_fault len fault pieces) all
     → IfSome fault (λ f. Contains (noted_in all) (head_of (fault_piece len f)))
 fault_is_listed len None pieces all kept = search rules

@@ -14,7 +14,7 @@ use Rattle.fb_schema.specs.declared.kinds.Shape.TheVariants.{One}
 use Rattle.fb_layout.specs.Laid.{slot_of, member_by_code}
 use Rattle.fb_value.specs.Datum.{a_number}
 use Rattle.fb_value.specs.View.{view}
-use Rattle.fb_json.specs.declared.step.Step.TheVariants.{Slot, Element}
+use Rattle.fb_json.specs.declared.step.JsonStep.TheVariants.{Slot, Element}
 use Rattle.fb_json.specs.FaultPaths.{entry_spot, slot_spot}
 use Rattle.fb_json.specs.FaultPaths.{tree_spot, IsFirstAt, IsFirstIn, ToSlot, ToElement}
 use Rattle.fb_json.specs.Meant.{look, meant, slot_place, entry_meant}

@@ -16,8 +16,8 @@ use Rattle.fb_layout.specs.Laid.{LaidSchema}
 use Rattle.fb_json.specs.declared.faults.Place.{Place}
 use Rattle.fb_json.specs.declared.faults.JsonFault.{JsonFault}
 use Rattle.fb_json.specs.declared.faults.JsonFault.TheVariants.{TooDeep, TooManyCells}
-use Rattle.fb_json.specs.declared.step.Step.{Step}
-use Rattle.fb_json.specs.declared.step.Step.TheVariants.{Slot, Field, Element}
+use Rattle.fb_json.specs.declared.step.JsonStep.{JsonStep}
+use Rattle.fb_json.specs.declared.step.JsonStep.TheVariants.{Slot, Field, Element}
 use Rattle.fb_json.specs.Outcome.{◌>>=◌, spent}
 use Rattle.fb_json.specs.Meant.{Look, type_place, slot_place, names_known, if_known, code_after, entry_meant}
 use Rattle.fb_json.specs.Meant.{part_meant, count, meant, look}
@@ -36,7 +36,7 @@ module _ (L : LaidSchema) (unknown : Bool) (look : Look) (t : TypeId) (slots : L
     (within : k < length slots) (is : f ≡ get_or slots k f) (levels cells code left : ℕ)
     (before : read_all (slot_reader L look t.0 levels) 0 (take k (map field_seen slots)) (0, cells) ≡ Ok (code, left))
   where
-    pub to_slot : (steps : List Step) (fault : JsonFault)
+    pub to_slot : (steps : List JsonStep) (fault : JsonFault)
         → IsFirstAt L unknown (slot_spot L look (field_seen f) (slot_place t.0 k) code levels left) steps fault
         → IsFirstIn L unknown (ToSlot L look t (map field_seen slots) levels cells) (Slot t k ∷ steps) fault
     to_slot steps fault path = (
@@ -56,7 +56,7 @@ module _ (L : LaidSchema) (unknown : Bool) (look : Look) (t : TypeId) (slots : L
 
     module _ (c : ℕ)
         (told : code_after L.schema look (slot_place t.0 k) code f.deprecated (field_seen f).name f.shape ≡ Ok c) where
-      pub to_entry : (steps : List Step) (fault : JsonFault)
+      pub to_entry : (steps : List JsonStep) (fault : JsonFault)
           → IsFirstAt L unknown (entry_spot L look (field_seen f) (slot_place t.0 k) c levels left) steps fault
           → IsFirstIn L unknown (ToSlot L look t (map field_seen slots) levels cells) (Slot t k ∷ steps) fault
       to_entry steps fault path = to_slot steps fault (rw told path)
@@ -73,7 +73,7 @@ module _ (L : LaidSchema) (unknown : Bool) (look : Look) (t : TypeId) (slots : L
 module _ (L : LaidSchema) (unknown : Bool) (look : Look) (t : TypeId) (fields : List FieldInfo) (k : ℕ) (f : FieldInfo)
     (within : k < length fields) (is : f ≡ get_or fields k f) (levels cells left : ℕ)
     (before : read_all (field_reader look t.0 levels) 0 (take k (map field_seen fields)) cells ≡ Ok left) where
-  pub to_field : (fault : JsonFault) (steps : List Step)
+  pub to_field : (fault : JsonFault) (steps : List JsonStep)
       → IsFirstAt L unknown (field_spot (look (field_seen f).name) f.shape (slot_place t.0 k) levels left) steps fault
       → IsFirstIn L unknown (ToField look t (map field_seen fields) levels cells) (Field t k ∷ steps) fault
   to_field fault steps path = (
@@ -103,7 +103,7 @@ module _ (L : LaidSchema) (unknown : Bool) (look : Look) (t : TypeId) (fields : 
 module _ (L : LaidSchema) (unknown : Bool) (kind : Kind) (at : Place) (es : List Json) (i : ℕ) (e : Json)
     (within : i < length es) (is : e ≡ get_or es i e) (levels cells left : ℕ)
     (before : read_all (element_reader L unknown kind at levels) 0 (take i (map view es)) cells ≡ Ok left) where
-  pub to_element : (fault : JsonFault) (steps : List Step)
+  pub to_element : (fault : JsonFault) (steps : List JsonStep)
       → IsFirstAt L unknown (tree_spot (view e) (One kind) at levels left) steps fault
       → IsFirstIn L unknown (ToElement L unknown kind at (map view es) levels cells) (Element i ∷ steps) fault
   to_element fault steps path = (
@@ -127,7 +127,7 @@ module _ (L : LaidSchema) (unknown : Bool) (kind : Kind) (at : Place) (es : List
 -- ---- parts of a place that breaks nothing itself
 
 through : (L : LaidSchema) (unknown : Bool) (x : Spot) (cells : ℕ) → front_of L unknown x ≡ Ok cells
-    → (fault : JsonFault) (steps : List Step) → IsFirstIn L unknown (StepsTo L unknown x cells) steps fault
+    → (fault : JsonFault) (steps : List JsonStep) → IsFirstIn L unknown (StepsTo L unknown x cells) steps fault
     → IsFirstAt L unknown x steps fault
 through L unknown x cells front fault [] path = absurd path
 through L unknown x cells front fault (step ∷ steps) path = (cells, front, path.0, path.1, path.2)
@@ -140,7 +140,7 @@ viewed [] = refl
 viewed (e ∷ es) = ap (λ ds. view e ∷ ds) (viewed es)
 
 vector_path : (L : LaidSchema) (unknown : Bool) (kind : Kind) (at : Place) (es : List Json) (levels left : ℕ)
-    → length es < left → (fault : JsonFault) (steps : List Step)
+    → length es < left → (fault : JsonFault) (steps : List JsonStep)
     → IsFirstIn L unknown (ToElement L unknown kind at (map view es) levels (left - 1 - length es)) steps fault
     → IsFirstAt L unknown (tree_spot (array (items_view es)) (Many kind) at levels left) steps fault
 unfolding vector_front
@@ -154,14 +154,14 @@ vector_path L unknown kind at es levels left few fault steps path =
     (rw (← (viewed es)) at path)
 
 pub in_vector : (L : LaidSchema) (unknown : Bool) (kind : Kind) (at : Place) (es : List Json) (levels left : ℕ)
-    (fault : JsonFault) (old new : Option (List Step)) → length es < left
+    (fault : JsonFault) (old new : Option (List JsonStep)) → length es < left
     → Adds old new (IsFirstIn L unknown (ToElement L unknown kind at (map view es) levels (left - 1 - length es))) fault
     → Adds old new (IsFirstAt L unknown (tree_spot (array (items_view es)) (Many kind) at levels left)) fault
 in_vector L unknown kind at es levels left fault old new few found =
     (found.0, found.1, vector_path L unknown kind at es levels left few fault found.0 found.2)
 
 pub full_vector : (L : LaidSchema) (unknown : Bool) (kind : Kind) (at : Place) (es : List Json) (levels left : ℕ)
-    (trail : Option (List Step)) → left ≤ length es → Adds trail trail
+    (trail : Option (List JsonStep)) → left ≤ length es → Adds trail trail
     (IsFirstAt L unknown (tree_spot (array (items_view es)) (Many kind) at levels left)) (TooManyCells at)
 unfolding vector_front
 full_vector L unknown kind at es levels left trail many =
@@ -171,7 +171,7 @@ full_vector L unknown kind at es levels left trail many =
     here L unknown (tree_spot (array (items_view es)) (Many kind) at levels left) (TooManyCells at) trail none
 
 module _ (L : LaidSchema) (unknown : Bool) (ms : Members) (t : TypeId) (at : Place) where
-  pub too_deep : (left : ℕ) (trail : Option (List Step))
+  pub too_deep : (left : ℕ) (trail : Option (List JsonStep))
       → Adds trail trail (IsFirstAt L unknown (tree_spot (object ms) (One (Table t)) at 0 left)) (TooDeep at)
   unfolding object_front
   too_deep left trail = here L unknown (tree_spot (object ms) (One (Table t)) at 0 left) (TooDeep at) trail refl
@@ -182,7 +182,7 @@ module _ (L : LaidSchema) (unknown : Bool) (ms : Members) (t : TypeId) (at : Pla
   too_full zero some = absurd (omega arith)
   too_full (suc levels) some = refl
 
-  pub too_many : (levels : ℕ) (trail : Option (List Step)) → 0 < levels
+  pub too_many : (levels : ℕ) (trail : Option (List JsonStep)) → 0 < levels
       → Adds trail trail (IsFirstAt L unknown (tree_spot (object ms) (One (Table t)) at levels 0)) (TooManyCells at)
   too_many levels trail some =
       here L unknown (tree_spot (object ms) (One (Table t)) at levels 0) (TooManyCells at) trail (too_full levels some)
@@ -195,7 +195,7 @@ module _ (L : LaidSchema) (unknown : Bool) (ms : Members) (t : TypeId) (at : Pla
   table_known (suc levels) left deep some = rw (spends 1 at left some) refl
 
   module _ (levels left : ℕ) (deep : 0 < levels) (some : 0 < left) where
-    pub unknown_in_table : (fault : JsonFault) (trail : Option (List Step))
+    pub unknown_in_table : (fault : JsonFault) (trail : Option (List JsonStep))
         → if_known (unknown || names_known (body_at L.schema t.0) ms) (type_place t.0) ≡ Err fault
         → Adds trail trail (IsFirstAt L unknown (tree_spot (object ms) (One (Table t)) at levels left)) fault
     unknown_in_table fault trail e =
@@ -204,7 +204,7 @@ module _ (L : LaidSchema) (unknown : Bool) (ms : Members) (t : TypeId) (at : Pla
 
     table_path : (slots : List DeclaredField) → slots ≡ slots_in (body_at L.schema t.0)
         → if_known (unknown || names_known (body_at L.schema t.0) ms) (type_place t.0) ≡ Ok tt
-        → (fault : JsonFault) (steps : List Step)
+        → (fault : JsonFault) (steps : List JsonStep)
         → IsFirstIn L unknown (ToSlot L (look L unknown ms) t slots (levels - 1) (left - 1)) steps fault
         → IsFirstAt L unknown (tree_spot (object ms) (One (Table t)) at levels left) steps fault
     table_path slots are known fault steps path =
@@ -212,7 +212,7 @@ module _ (L : LaidSchema) (unknown : Bool) (ms : Members) (t : TypeId) (at : Pla
         (table_known levels left deep some ∙ rw known refl) fault steps
         (rw are at path)
 
-    pub in_table : (slots : List DeclaredField) (fault : JsonFault) (old new : Option (List Step))
+    pub in_table : (slots : List DeclaredField) (fault : JsonFault) (old new : Option (List JsonStep))
         → slots ≡ slots_in (body_at L.schema t.0)
         → if_known (unknown || names_known (body_at L.schema t.0) ms) (type_place t.0) ≡ Ok tt
         → Adds old new (IsFirstIn L unknown (ToSlot L (look L unknown ms) t slots (levels - 1) (left - 1))) fault
@@ -221,7 +221,7 @@ module _ (L : LaidSchema) (unknown : Bool) (ms : Members) (t : TypeId) (at : Pla
         (found.0, found.1, table_path slots are known fault found.0 found.2)
 
 pub in_struct : (L : LaidSchema) (unknown : Bool) (ms : Members) (s : TypeId) (at : Place) (levels left : ℕ)
-    (fields : List DeclaredField) (fault : JsonFault) (old new : Option (List Step))
+    (fields : List DeclaredField) (fault : JsonFault) (old new : Option (List JsonStep))
     → fields ≡ parts_in (body_at L.schema s.0)
     → if_known (unknown || names_known (body_at L.schema s.0) ms) (type_place s.0) ≡ Ok tt
     → Adds old new (IsFirstIn L unknown (ToField (look L unknown ms) s fields levels left)) fault

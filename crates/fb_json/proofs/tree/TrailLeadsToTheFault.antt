@@ -5,29 +5,29 @@ use Rattle.std.proofs.Common.{Bool, MatchOption, append-nil}
 use Rattle.fb_layout.specs.Laid.{LaidSchema}
 use Rattle.fb_json.specs.declared.faults.JsonFault.{JsonFault}
 use Rattle.fb_json.specs.declared.faults.JsonFault.TheVariants.{Memory}
-use Rattle.fb_json.specs.declared.step.Step.{Step}
+use Rattle.fb_json.specs.declared.step.JsonStep.{JsonStep}
 use Rattle.fb_json.specs.Outcome.{Fails}
 use Rattle.fb_json.specs.FaultPaths.{Spot, front_of, IsFirstAt}
 use Rattle.fb_json.proofs.slots.OneSlotOrFieldMore.{failed, fails_by}
 
 abbrev pub IsPath : Type 1
-IsPath = List Step → JsonFault → Type 0
+IsPath = List JsonStep → JsonFault → Type 0
 
 -- the steps that a refused walk put in front of what its trail had
-abbrev pub Adds : Option (List Step) → Option (List Step) → IsPath → JsonFault → Type 0
-Adds old new Is f = (steps : List Step) × (new ≡ option_map (λ behind. steps ++ behind) old) × Is steps f
+abbrev pub Adds : Option (List JsonStep) → Option (List JsonStep) → IsPath → JsonFault → Type 0
+Adds old new Is f = (steps : List JsonStep) × (new ≡ option_map (λ behind. steps ++ behind) old) × Is steps f
 
 -- no step
-ends : (old : Option (List Step)) (Is : IsPath) (f : JsonFault) → Is [] f → Adds old old Is f
+ends : (old : Option (List JsonStep)) (Is : IsPath) (f : JsonFault) → Is [] f → Adds old old Is f
 ends None Is f here = ([], refl, here)
 ends (Some behind) Is f here = ([], refl, here)
 
 -- the fault of a place itself
-pub here : (L : LaidSchema) (unknown : Bool) (x : Spot) (f : JsonFault) (old : Option (List Step))
+pub here : (L : LaidSchema) (unknown : Bool) (x : Spot) (f : JsonFault) (old : Option (List JsonStep))
     → front_of L unknown x ≡ Err f → Adds old old (IsFirstAt L unknown x) f
 here L unknown x f old e = ends old (IsFirstAt L unknown x) f e
 
-in_front : (old mid new : Option (List Step)) (step : Step) (steps : List Step)
+in_front : (old mid new : Option (List JsonStep)) (step : JsonStep) (steps : List JsonStep)
     → mid ≡ option_map (λ behind. steps ++ behind) old → new ≡ option_map (λ below. step ∷ below) mid
     → new ≡ option_map (λ behind. (step ∷ steps) ++ behind) old
 in_front None mid new step steps below more = rw below at more
@@ -38,10 +38,11 @@ abbrev pub IsBehind : JsonFault → JsonFault → Type 0 → Type 0
 IsBehind fault given Pushed = (given ≡ Memory) ⊎ ((given ≡ fault) × Pushed)
 
 -- a step more
-pub goes : (start old mid new : Option (List Step)) (IsBelow Is : IsPath) (step : Step) (fault given : JsonFault)
-    → old ≡ start → IsBehind fault given (new ≡ option_map (λ below. step ∷ below) mid)
+pub goes : (start old mid new : Option (List JsonStep)) (IsBelow Is : IsPath) (step : JsonStep)
+    (fault given : JsonFault) → old ≡ start → IsBehind fault given (new ≡ option_map (λ below. step ∷ below) mid)
     → (fault ≢ Memory → Adds old mid IsBelow fault)
-    → ((steps : List Step) → IsBelow steps fault → Is (step ∷ steps) fault) → given ≢ Memory → Adds start new Is given
+    → ((steps : List JsonStep) → IsBelow steps fault → Is (step ∷ steps) fault) → given ≢ Memory
+    → Adds start new Is given
 goes start old mid new IsBelow Is step fault given same (inl memory) below path kept = absurd (kept memory)
 goes start old mid new IsBelow Is step fault given same (inr is) below path kept =
     let found = below (rw (← is.0) kept) in
@@ -67,8 +68,9 @@ pub fault_given : {Y : Type 0} (f : JsonFault) (r : Result Y JsonFault) → Fail
 fault_given f r h kept = unless_memory f (failed f r h) kept
 
 -- the steps on a trail that was empty
-pub kept_steps : {V : Type 0} (M : Type 0) (items : V → List Step) (o : Option V) (start new : Option (List Step))
-    (Is : List Step → Type 0) → start ≡ Some [] → option_map items o ≡ new → (steps : List Step)
+pub kept_steps : {V : Type 0} (M : Type 0) (items : V → List JsonStep) (o : Option V)
+    (start new : Option (List JsonStep)) (Is : List JsonStep → Type 0)
+    → start ≡ Some [] → option_map items o ≡ new → (steps : List JsonStep)
     → new ≡ option_map (λ behind. steps ++ behind) start → Is steps → MatchOption o M (λ v. Is (items v))
 kept_steps M items None start new Is empty seen steps added is = let all = rw empty at added in cc
 kept_steps M items (Some v) start new Is empty seen steps added is =

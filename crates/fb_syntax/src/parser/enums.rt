@@ -5,13 +5,13 @@ ghost use Rattle.fb_syntax.specs.Rules.{listed_item};
 ghost use Rattle.fb_syntax.specs.Grammar.{enum_value, enumeration};
 ghost use Rattle.fb_syntax.specs.Stops.{Passes};
 
-use super::lists::Item;
+use super::lists::ListItem;
 use super::{Parser, Stop};
 use crate::declarations::{EnumDecl, EnumValue};
 use crate::integers::number_of;
 use crate::tokens::TokenKind::{Integer, Word};
 
-impl<'t> Item<'t> for EnumValue<'t> {
+impl<'t> ListItem<'t> for EnumValue<'t> {
     ghost rule = { listed_item enum_value true (byte "}") };
 
     #[tactic(auto, unfolding(crate::specs::Rules::listed_item, crate::specs::Grammar::enum_value))]

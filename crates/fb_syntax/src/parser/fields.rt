@@ -3,13 +3,13 @@ ghost use Rattle.std.specs.Prelude.{◌<◌, ◌≤◌, length, IfOk};
 ghost use Rattle.fb_syntax.specs.Grammar.{field_type, default_part, field, table};
 ghost use Rattle.fb_syntax.specs.Stops.{Gives, Passes};
 
-use super::lists::Item;
+use super::lists::ListItem;
 use super::{Parser, Stop};
 use crate::declarations::{DefaultValue, Field, FieldType, TableDecl};
 use crate::integers::number_of;
 use crate::tokens::TokenKind::{Integer, Punct, Word};
 
-impl<'t> Item<'t> for Field<'t> {
+impl<'t> ListItem<'t> for Field<'t> {
     ghost rule = { field };
 
     #[tactic(auto, unfolding(crate::specs::Grammar::field))]

@@ -6,7 +6,7 @@ ghost use Rattle.fb_syntax.specs.Stops.{Gives, Passes};
 use super::{Parser, Stop};
 
 /// What lists consist of: fields, attributes, values, members and declarations.
-pub(super) trait Item<'t>: Drop + Sized {
+pub(super) trait ListItem<'t>: Drop + Sized {
     /// The rule of the grammar for one, and for what divides it from the next.
     ghost rule: { Rule Self };
 
@@ -26,7 +26,7 @@ impl<'t> Parser<'t, '_> {
     }
 
     /// The items before a closing sign or, with none, before the end.
-    pub(super) fn items<T: Item<'t>>(&mut self, close: Option<u8>) -> Result<Vec<T>, Stop>
+    pub(super) fn items<T: ListItem<'t>>(&mut self, close: Option<u8>) -> Result<Vec<T>, Stop>
         ensures exact { Gives (λ v. (v.items, self.new)) result (until T.rule.read (closes close) push [] self.old) }
         ensures shorter { IfOk result (λ _. length self.new ≤ length self.old) }
     {
@@ -39,7 +39,7 @@ impl<'t> Parser<'t, '_> {
     }
 
     /// Items and the closing sign after them.
-    pub(super) fn block<T: Item<'t>>(&mut self, close: u8) -> Result<Vec<T>, Stop>
+    pub(super) fn block<T: ListItem<'t>>(&mut self, close: u8) -> Result<Vec<T>, Stop>
         ensures { Passes (λ v. v.items) result (block T.rule close) self.old self.new }
     {
         let items = self.items(Some(close))?;
@@ -47,7 +47,7 @@ impl<'t> Parser<'t, '_> {
     }
 
     /// At least one item, and the closing sign.
-    pub(super) fn listed<T: Item<'t>>(&mut self, close: u8) -> Result<Vec<T>, Stop>
+    pub(super) fn listed<T: ListItem<'t>>(&mut self, close: u8) -> Result<Vec<T>, Stop>
         ensures { Passes (λ v. v.items) result (some_block T.rule close) self.old self.new }
     {
         if self.is_sign(close) {

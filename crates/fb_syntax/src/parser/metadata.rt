@@ -5,14 +5,14 @@ ghost use Rattle.fb_syntax.specs.Rules.{rule_before, listed_item};
 ghost use Rattle.fb_syntax.specs.Grammar.{attribute_value, attribute, metadata};
 ghost use Rattle.fb_syntax.specs.Stops.{Passes};
 
-use super::lists::Item;
+use super::lists::ListItem;
 use super::{Parser, Stop};
 use crate::attributes::{Attribute, built_in_attribute};
 use crate::declarations::AttributeValue;
 use crate::integers::number_of;
 use crate::tokens::TokenKind::{Integer, Quoted, Word};
 
-impl<'t> Item<'t> for Attribute<'t> {
+impl<'t> ListItem<'t> for Attribute<'t> {
     ghost rule = { listed_item attribute false (byte ")") };
 
     #[tactic(auto, unfolding(crate::specs::Rules::listed_item, crate::specs::Grammar::attribute))]

@@ -8,7 +8,7 @@ ghost use Rattle.fb_syntax.specs.Lexemes.{AreReadable};
 ghost use Rattle.fb_syntax.specs.Refusals.{StandsWithin};
 ghost use Rattle.fb_syntax.specs.Stops.{IsGrammarFault, Passes};
 
-use super::lists::Item;
+use super::lists::ListItem;
 use super::{Parser, Stop};
 use crate::declarations::Declaration::{Attribute, Directive, Namespace, Type};
 use crate::declarations::Directive::{FileExtension, FileIdentifier, RootType};
@@ -51,7 +51,7 @@ fn keyword_of(word: &str) -> Option<Keyword>
     }
 }
 
-impl<'t> Item<'t> for Declaration<'t> {
+impl<'t> ListItem<'t> for Declaration<'t> {
     ghost rule = { declaration };
 
     #[tactic(auto, unfolding(crate::specs::GrammarSchema::declaration, crate::specs::GrammarSchema::declared))]

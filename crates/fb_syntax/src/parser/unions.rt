@@ -5,12 +5,12 @@ ghost use Rattle.fb_syntax.specs.Rules.{listed_item};
 ghost use Rattle.fb_syntax.specs.Grammar.{union, union_member};
 ghost use Rattle.fb_syntax.specs.Stops.{Passes};
 
-use super::lists::Item;
+use super::lists::ListItem;
 use super::{Parser, Stop};
 use crate::declarations::{UnionDecl, UnionMember};
 use crate::tokens::TokenKind::Word;
 
-impl<'t> Item<'t> for UnionMember<'t> {
+impl<'t> ListItem<'t> for UnionMember<'t> {
     ghost rule = { listed_item union_member true (byte "}") };
 
     #[tactic(auto, unfolding(crate::specs::Rules::listed_item, crate::specs::Grammar::union_member))]

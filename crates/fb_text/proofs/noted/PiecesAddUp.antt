@@ -27,7 +27,7 @@ module _ (a b : State) (piece : List ℕ) (known : b.known ≡ a.known) (written
   left_more false left waits h = ap (λ l. l ++ piece) h ∙ sym (waits refl)
   left_more true left waits h = omega (arith, length-append left piece, h)
 
-  -- a piece that waits on the page; or any piece, once a write failed
+  -- a piece that waits in the write buffer; or any piece, once a write failed
   pub added_waiting : (a.failed ≡ false → b.waits ≡ a.waits ++ piece) → Adds a b piece
   unfolding sent_still
   added_waiting waits = record {

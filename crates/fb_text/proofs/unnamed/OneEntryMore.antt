@@ -24,9 +24,10 @@ use Rattle.fb_read.specs.declared.view.View.{View}
 use Rattle.fb_read.specs.Shows.{Shows}
 use Rattle.fb_text.specs.Unnamed.{entry_place, first_unnamed, first_in_parts, first_in_entries, nth_child, child_place}
 use Rattle.fb_text.specs.Unnamed.{unnamed_from}
-use Rattle.fb_text.specs.declared.shown.Found.{Found}
-use Rattle.fb_text.specs.declared.shown.Found.TheVariants.{Vector}
-use Rattle.fb_text.specs.declared.shown.Found.TheVariants.{Struct as StructFound, Table as TableFound, Member, Unknown}
+use Rattle.fb_text.specs.declared.shown.ValueHead.{ValueHead}
+use Rattle.fb_text.specs.declared.shown.ValueHead.TheVariants.{Vector}
+use Rattle.fb_text.specs.declared.shown.ValueHead.TheVariants.{Struct as StructFound, Table as TableFound}
+use Rattle.fb_text.specs.declared.shown.ValueHead.TheVariants.{Member, Unknown}
 use Rattle.fb_text.specs.Shown.{IsTop}
 
 -- the entry of slot k, and those behind it
@@ -119,7 +120,7 @@ children_skip at o (suc n) i j sum none =
     children_skip at o n (i + 1) j (omega (arith, sum)) (λ k past less. none k (omega (arith, past)) less)
     ∙ (ap (λ (p : Option Place). option_or p (unnamed_from at o (i + 1))) (sym here) ∙ sym (children_step at o i))
 
-found_unknown : (found : Found) (code : ℕ) → IsTop found (Some (an_unknown code)) → found ≡ Unknown
+found_unknown : (found : ValueHead) (code : ℕ) → IsTop found (Some (an_unknown code)) → found ≡ Unknown
 found_unknown Vector code top = let same = top.1 in cc
 found_unknown StructFound code top = let same = top.1 in cc
 found_unknown (TableFound t) code top = let same = top.1 in cc
@@ -128,7 +129,7 @@ found_unknown Unknown code top = refl
 found_unknown _ code top = cc
 
 -- what is no such union itself has the first of its children's
-pub from_first : (at : Place) (found : Found) (o : Option Datum) → IsTop found o → (found ≡ Unknown → ⊥)
+pub from_first : (at : Place) (found : ValueHead) (o : Option Datum) → IsTop found o → (found ≡ Unknown → ⊥)
     → unnamed_from at o 0 ≡ first_in_entry at o
 from_first at found (Some (an_unknown c)) top not = absurd (not (found_unknown found c top))
 from_first at found _ top not = refl

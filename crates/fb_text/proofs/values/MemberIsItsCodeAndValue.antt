@@ -11,8 +11,9 @@ use Rattle.fb_text.specs.declared.faults.WriteFault.{WriteFault}
 use Rattle.fb_text.specs.declared.faults.WriteFault.TheVariants.{NoMemberName}
 use Rattle.fb_text.specs.Printed.{is_entry_printed, slot_text, named_text, IfUnnamed}
 use Rattle.fb_text.specs.Shown.{IsTop}
-use Rattle.fb_text.specs.declared.shown.Found.{Found}
-use Rattle.fb_text.specs.declared.shown.Found.TheVariants.{Absent, Number, Text, Vector, Struct, Table, Member, Unknown}
+use Rattle.fb_text.specs.declared.shown.ValueHead.{ValueHead}
+use Rattle.fb_text.specs.declared.shown.ValueHead.TheVariants.{Absent, Number, Text, Vector}
+use Rattle.fb_text.specs.declared.shown.ValueHead.TheVariants.{Struct, Table, Member, Unknown}
 use Rattle.fb_text.specs.Writes.{State, Adds}
 use Rattle.fb_text.proofs.noted.PiecesAddUp.{added_then}
 
@@ -41,7 +42,7 @@ entry_added L defaults inner some f (Some d) more a b e printed code has named =
     (rw (← (has d refl)) (named d refl)))
 
 -- what was found of an entry is there
-pub found_there : (found : Found) (o : Option Datum) → (found ≡ Absent → ⊥) → IsTop found o
+pub found_there : (found : ValueHead) (o : Option Datum) → (found ≡ Absent → ⊥) → IsTop found o
     → (d : Datum) × (o ≡ Some d)
 found_there Absent o some top = absurd (some refl)
 found_there (Number n) o some top = (a_number n, top)

@@ -1,4 +1,4 @@
--- Size-prefixed buffers are told apart by their counts.
+-- Size-prefixed buffers are told apart by their size prefixes.
 use Rattle.std.proofs.Common.{◌≡◌, ℕ, zero, suc, ◌+◌, ◌≤◌, ◌++◌, Option, None, length, take, refl}
 use Rattle.std.proofs.Common.{ap, sym, ◌∙◌, arith, length-append}
 use Rattle.std.proofs.lemmas.Bool.{le-leb}

@@ -1,10 +1,10 @@
-//! Streams of size-prefixed buffers, split by their counts.
+//! Streams of size-prefixed buffers, split by their prefixes.
 use flatc_tool::split_prefixed;
 
 /// Messages of 3 and 0 bytes after their counts, and a byte.
 const STREAM: &[u8] = &[3, 0, 0, 0, 7, 8, 9, 0, 0, 0, 0, 5];
 
-/// Parts of the stream, and how many bytes the first message has with its count, or the fault's number and offset.
+/// Parts of the stream, and how many bytes the first message has with its prefix, or the fault's number and offset.
 const PARTS: &[(usize, usize, Result<usize, (u8, u64)>)] = &[
     (0, 12, Ok(7)),
     (7, 12, Ok(4)),

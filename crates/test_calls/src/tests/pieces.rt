@@ -7,7 +7,7 @@ use std::test::Fail;
 /// seem to have, a byte each. `|` is after each piece but the last, `.` after the last, and `?` is where a text isn't
 /// cut.
 #[derive(Clone, Copy)]
-enum Shown {
+enum ShownCuts {
     Runs,
     Members,
     Counts,
@@ -210,16 +210,16 @@ fn is_cut(
     alloc: Global,
     text: &[u8],
     most: usize,
-    form: Shown,
+    form: ShownCuts,
     want: &[u8],
 ) -> Result<bool, AllocError> {
     let Some(cuts) = Cuts::of(alloc, text, most)? else {
         return Ok(want == b"?".as_slice());
     };
     let shown = match form {
-        Shown::Runs => runs_of(alloc, text, 0, &cuts, false)?,
-        Shown::Counts => runs_of(alloc, text, 0, &cuts, true)?,
-        Shown::Members => members_of(alloc, text, &cuts)?,
+        ShownCuts::Runs => runs_of(alloc, text, 0, &cuts, false)?,
+        ShownCuts::Counts => runs_of(alloc, text, 0, &cuts, true)?,
+        ShownCuts::Members => members_of(alloc, text, &cuts)?,
     };
     Ok(shown.as_slice() == want)
 }
@@ -236,7 +236,7 @@ fn wrong<'r>(
     alloc: Global,
     rows: &[(&'r str, &[u8])],
     most: usize,
-    form: Shown,
+    form: ShownCuts,
 ) -> Result<Option<&'r str>, AllocError> {
     for (text, want) in rows {
         for blanks in 0..66 {
@@ -251,16 +251,16 @@ fn wrong<'r>(
 
 #[test]
 fn arrays_are_cut_behind_each_element(rt: HostRuntime) -> Result<(), Fail> {
-    assert_eq!(rt; wrong(rt.alloc(), ELEMENTS, 0, Shown::Runs)?, None);
-    assert_eq!(rt; wrong(rt.alloc(), RUNS, 5, Shown::Runs)?, None);
-    assert_eq!(rt; wrong(rt.alloc(), RUN_COUNTS, 5, Shown::Counts)?, None);
+    assert_eq!(rt; wrong(rt.alloc(), ELEMENTS, 0, ShownCuts::Runs)?, None);
+    assert_eq!(rt; wrong(rt.alloc(), RUNS, 5, ShownCuts::Runs)?, None);
+    assert_eq!(rt; wrong(rt.alloc(), RUN_COUNTS, 5, ShownCuts::Counts)?, None);
     Ok(())
 }
 
 #[test]
 fn objects_are_cut_behind_each_name_and_value(rt: HostRuntime) -> Result<(), Fail> {
     for most in [0, 5, 1_000] {
-        assert_eq!(rt; wrong(rt.alloc(), OBJECTS, most, Shown::Members)?, None);
+        assert_eq!(rt; wrong(rt.alloc(), OBJECTS, most, ShownCuts::Members)?, None);
     }
     Ok(())
 }
@@ -282,7 +282,15 @@ fn array_of(alloc: Global, elements: &[(usize, &str)]) -> Result<Vec<u8>, AllocE
 fn long_arrays_are_cut_into_runs(rt: HostRuntime) -> Result<(), Fail> {
     for (elements, most, counts) in LONG {
         let text = array_of(rt.alloc(), elements)?;
-        assert!(rt; is_cut(rt.alloc(), text.as_slice(), *most, Shown::Counts, counts)?);
+        assert!(rt;
+            is_cut(
+                rt.alloc(),
+                text.as_slice(),
+                *most,
+                ShownCuts::Counts,
+                counts
+            )?
+        );
     }
     Ok(())
 }
@@ -302,9 +310,17 @@ fn nested(alloc: Global, levels: usize) -> Result<Vec<u8>, AllocError> {
 #[test]
 fn what_is_nested_deeper_than_json_may_be_has_no_cuts(rt: HostRuntime) -> Result<(), Fail> {
     let deepest = nested(rt.alloc(), 126)?;
-    assert!(rt; is_cut(rt.alloc(), deepest.as_slice(), 0, Shown::Counts, &[1, 1])?);
+    assert!(rt;
+        is_cut(
+            rt.alloc(),
+            deepest.as_slice(),
+            0,
+            ShownCuts::Counts,
+            &[1, 1]
+        )?
+    );
     let deeper = nested(rt.alloc(), 127)?;
-    assert!(rt; is_cut(rt.alloc(), deeper.as_slice(), 0, Shown::Counts, b"?")?);
+    assert!(rt; is_cut(rt.alloc(), deeper.as_slice(), 0, ShownCuts::Counts, b"?")?);
     Ok(())
 }
 

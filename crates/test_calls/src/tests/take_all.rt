@@ -7,12 +7,12 @@ use std::io::{ErrorKind, Read};
 
 /// A reader that gives its bytes, and then fails or ends.
 #[derive(Drop)]
-struct Bytes<'b> {
+struct FailingReader<'b> {
     left: &'b [u8],
     fails: bool,
 }
 
-impl Read for Bytes<'_> {
+impl Read for FailingReader<'_> {
     fn read(&mut self, buf: &mut [u8]) -> io::Result<usize> {
         if self.left.is_empty() && self.fails {
             return Err(io::Error::from(ErrorKind::BrokenPipe));
@@ -30,7 +30,7 @@ const READERS: &[(&[u8], bool, u8)] = &[
 ];
 
 fn number_of(alloc: Global, left: &[u8], fails: bool) -> u8 {
-    let mut from = Heard::over(Bytes { left, fails });
+    let mut from = Heard::over(FailingReader { left, fails });
     let number = match take_all(alloc, &mut from, 3) {
         Ok(taken) => if taken.as_slice() == left { 0 } else { 1 },
         Err(fault) => fault.number(),

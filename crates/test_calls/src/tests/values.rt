@@ -65,7 +65,7 @@ type Sample = (&'static [u8], &'static str, &'static [u8]);
 
 /// What is known of a value.
 #[derive(Clone, Copy)]
-enum Known {
+enum KnownFact {
     /// Its cells, its depth, and whether it is whole.
     Counts(u32, u8, bool),
     /// Its room.
@@ -82,17 +82,23 @@ const FIRST: &str = "{\"u_type\":\"A\",\"u\":{}}";
 
 const SECOND_MEMBER: &str = "{\"u_type\":\"B\",\"u\":{}}";
 
-const COUNTED: &[(Sample, Known)] = &[
-    ((INT, "{\"a\":7}", INT), Known::Counts(1, 1, true)),
-    ((TEXT, "{\"s\":\"hi\"}", TEXT), Known::Counts(4, 1, true)),
-    ((TEXT, "{\"s\":\"héllo\"}", TEXT), Known::Counts(8, 1, true)),
+const COUNTED: &[(Sample, KnownFact)] = &[
+    ((INT, "{\"a\":7}", INT), KnownFact::Counts(1, 1, true)),
+    (
+        (TEXT, "{\"s\":\"hi\"}", TEXT),
+        KnownFact::Counts(4, 1, true),
+    ),
+    (
+        (TEXT, "{\"s\":\"héllo\"}", TEXT),
+        KnownFact::Counts(8, 1, true),
+    ),
     (
         (TEXTS, "{\"v\":[\"a\",\"\"]}", TEXTS),
-        Known::Counts(7, 1, true),
+        KnownFact::Counts(7, 1, true),
     ),
     (
         (STRUCT, "{\"p\":{\"x\":-1,\"q\":{\"x\":1}}}", STRUCT),
-        Known::Counts(1, 1, true),
+        KnownFact::Counts(1, 1, true),
     ),
     (
         (
@@ -100,50 +106,53 @@ const COUNTED: &[(Sample, Known)] = &[
             "{\"u_type\":\"A\",\"u\":{\"v\":[\"é\",\"b\"]}}",
             MEMBERS,
         ),
-        Known::Counts(10, 2, true),
+        KnownFact::Counts(10, 2, true),
     ),
-    ((TABLES, PAIR, TABLES), Known::Counts(6, 2, true)),
-    ((UNION, SECOND_MEMBER, NARROWER), Known::Counts(1, 1, false)),
+    ((TABLES, PAIR, TABLES), KnownFact::Counts(6, 2, true)),
+    (
+        (UNION, SECOND_MEMBER, NARROWER),
+        KnownFact::Counts(1, 1, false),
+    ),
 ];
 
-const SIZED: &[(Sample, Known)] = &[
-    ((INT, "{\"a\":7}", INT), Known::Room(28)),
-    ((TABLES, PAIR, TABLES), Known::Room(77)),
+const SIZED: &[(Sample, KnownFact)] = &[
+    ((INT, "{\"a\":7}", INT), KnownFact::Room(28)),
+    ((TABLES, PAIR, TABLES), KnownFact::Room(77)),
     (
         (
             WIDE_STRUCTS,
             "{\"s\":\"hi\",\"v\":[{\"a\":1},{\"a\":2}],\"n\":5}",
             WIDE_STRUCTS,
         ),
-        Known::Room(113),
+        KnownFact::Room(113),
     ),
-    ((UNION, SECOND_MEMBER, UNION), Known::Room(45)),
+    ((UNION, SECOND_MEMBER, UNION), KnownFact::Room(45)),
 ];
 
-const FITTING: &[(Sample, Known)] = &[
-    ((TEXT, "{\"s\":\"hi\"}", TEXT), Known::Fits(TEXT, true)),
-    ((SHORT, "{\"a\":0}", SHORT), Known::Fits(UBYTE, true)),
-    ((SHORT, "{\"a\":255}", SHORT), Known::Fits(UBYTE, true)),
-    ((SHORT, "{\"a\":256}", SHORT), Known::Fits(UBYTE, false)),
-    ((SHORT, "{\"a\":-1}", SHORT), Known::Fits(UBYTE, false)),
-    ((UNION, SECOND_MEMBER, UNION), Known::Fits(UNION, true)),
-    ((TURNED, FIRST, TURNED), Known::Fits(UNION, false)),
-    ((WIDER, SECOND_MEMBER, WIDER), Known::Fits(UNION, false)),
+const FITTING: &[(Sample, KnownFact)] = &[
+    ((TEXT, "{\"s\":\"hi\"}", TEXT), KnownFact::Fits(TEXT, true)),
+    ((SHORT, "{\"a\":0}", SHORT), KnownFact::Fits(UBYTE, true)),
+    ((SHORT, "{\"a\":255}", SHORT), KnownFact::Fits(UBYTE, true)),
+    ((SHORT, "{\"a\":256}", SHORT), KnownFact::Fits(UBYTE, false)),
+    ((SHORT, "{\"a\":-1}", SHORT), KnownFact::Fits(UBYTE, false)),
+    ((UNION, SECOND_MEMBER, UNION), KnownFact::Fits(UNION, true)),
+    ((TURNED, FIRST, TURNED), KnownFact::Fits(UNION, false)),
+    ((WIDER, SECOND_MEMBER, WIDER), KnownFact::Fits(UNION, false)),
 ];
 
 /// Two values that differ: in a number, in their type, and in that one is a code without a member.
-const DIFFERENT: &[(Sample, Known)] = &[
+const DIFFERENT: &[(Sample, KnownFact)] = &[
     (
         (INT, "{\"a\":5}", INT),
-        Known::Other((INT, "{\"a\":6}", INT)),
+        KnownFact::Other((INT, "{\"a\":6}", INT)),
     ),
     (
         (INT, "{\"a\":5}", INT),
-        Known::Other((LATER, "{\"a\":5}", LATER)),
+        KnownFact::Other((LATER, "{\"a\":5}", LATER)),
     ),
     (
         (SECOND, "{\"b\":3}", SECOND),
-        Known::Other((SECOND_UNION, "{\"u_type\":\"C\",\"u\":{}}", SECOND_NONE)),
+        KnownFact::Other((SECOND_UNION, "{\"u_type\":\"C\",\"u\":{}}", SECOND_NONE)),
     ),
 ];
 
@@ -186,18 +195,18 @@ fn room_under(alloc: Global, schema: &[u8], value: &Value) -> Option<(bool, Opti
 }
 
 /// Whether a value is as it is known; none where it can't be read.
-fn is_as_known(alloc: Global, sample: &Sample, known: Known) -> Option<bool> {
+fn is_as_known(alloc: Global, sample: &Sample, known: KnownFact) -> Option<bool> {
     let (schema, json, read_as) = *sample;
     let value = value_of(alloc, schema, json, read_as)?;
     match known {
-        Known::Counts(cells, depth, is_whole) => is_counted(
+        KnownFact::Counts(cells, depth, is_whole) => is_counted(
             alloc,
             &value,
             (cells, depth, is_whole),
         ),
-        Known::Room(most) => Some(room_under(alloc, read_as, &value)? == (true, Some(most))),
-        Known::Fits(under, does) => Some(room_under(alloc, under, &value)?.0 == does),
-        Known::Other((schema, json, read_as)) => {
+        KnownFact::Room(most) => Some(room_under(alloc, read_as, &value)? == (true, Some(most))),
+        KnownFact::Fits(under, does) => Some(room_under(alloc, under, &value)?.0 == does),
+        KnownFact::Other((schema, json, read_as)) => {
             let other = value_of(alloc, schema, json, read_as)?;
             Some(!same(&value, &other))
         }

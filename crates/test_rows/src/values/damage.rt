@@ -1,7 +1,7 @@
 //! What both readers make of a buffer that is damaged: each of its fronts, and each other value of
 //! each of its bytes.
 use crate::values::Case;
-use crate::values::readings::{Unread, value_in};
+use crate::values::readings::{ReadRefusal, value_in};
 use crate::values::texts::is_printed_alike;
 use fb_value::ReadFault;
 use std::alloc::AllocError;
@@ -49,8 +49,8 @@ impl Damage {
                 self.held = self.held.saturating_add(1);
             }
             Ok(_) => self.odd = self.odd.saturating_add(1),
-            Err(Unread::Fault(fault)) => self.refuse(fault),
-            Err(Unread::Apart) => self.apart = self.apart.saturating_add(1),
+            Err(ReadRefusal::Fault(fault)) => self.refuse(fault),
+            Err(ReadRefusal::Apart) => self.apart = self.apart.saturating_add(1),
         }
     }
 

@@ -9,7 +9,7 @@ use std::alloc::AllocError;
 
 /// Why there is no value: both readers refuse the bytes with one fault, or they differ.
 #[derive(Clone, Copy, Drop)]
-pub(crate) enum Unread {
+pub(crate) enum ReadRefusal {
     Fault(ReadFault),
     Apart,
 }
@@ -45,7 +45,7 @@ fn is_shown(case: &Case, bytes: &[u8], raw: bool, value: &Value) -> bool {
 }
 
 /// The value that bytes hold, read as a whole and shown by a view.
-pub(crate) fn value_in(case: &Case, bytes: &[u8], raw: bool) -> Result<Value, Unread> {
+pub(crate) fn value_in(case: &Case, bytes: &[u8], raw: bool) -> Result<Value, ReadRefusal> {
     let mut entries = Entries::new();
     let framing = Framing {
         raw,
@@ -60,16 +60,16 @@ pub(crate) fn value_in(case: &Case, bytes: &[u8], raw: bool) -> Result<Value, Un
         &mut entries,
     ) {
         Ok(value) if is_shown(case, bytes, raw, &value) => Ok(value),
-        Err(fault) if fault_of(case, bytes, raw) == Some(fault) => Err(Unread::Fault(fault)),
-        _ => Err(Unread::Apart),
+        Err(fault) if fault_of(case, bytes, raw) == Some(fault) => Err(ReadRefusal::Fault(fault)),
+        _ => Err(ReadRefusal::Apart),
     }
 }
 
 /// Writes why there is no value.
-pub(crate) fn write_unread(unread: Unread, line: &mut String) -> Result<(), AllocError> {
+pub(crate) fn write_unread(unread: ReadRefusal, line: &mut String) -> Result<(), AllocError> {
     match unread {
-        Unread::Fault(fault) => write!(line, "{fault:?}"),
-        Unread::Apart => line.push_str("two readers that differ"),
+        ReadRefusal::Fault(fault) => write!(line, "{fault:?}"),
+        ReadRefusal::Apart => line.push_str("two readers that differ"),
     }
 }
 

@@ -7,5 +7,6 @@ loop-i-preserved g c = c.in_ok-walk_type.ensures
 
 pub returns : goal.returns
 returns g c =
-    types_end c.args.old.now c.args.new.now g.H.Hearer.wants c.loop-i.i _ c.schema.result.now c.types-i-end.result.now
+    types_end c.args.old.now c.args.new.now g.H.DifferenceHearer.wants c.loop-i.i _ c.schema.result.now
+    c.types-i-end.result.now
     c.types-i-end.ensures.types c.schema.ensures.schema (omega (arith, c.loop-i-test.false)) c.loop-i.invariant

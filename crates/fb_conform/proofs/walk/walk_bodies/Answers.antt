@@ -28,7 +28,8 @@ returns-in-Struct-Struct g c =
     let kept = twin_decides A B t u twins c.same_struct-kept.result
     (λ v. SameStruct A B t v (body_at A.schema t) (body_at B.schema v))
     (struct_decides A B t u twins c.same_struct-kept.result _ _ own c.same_struct-kept.ensures) in
-    body_walked A B g.H.Hearer.wants _ t _ _ c.report_unless.result u twins (StructChanged c.args.type_id) refl refl
+    body_walked A B g.H.DifferenceHearer.wants _ t _ _ c.report_unless.result u twins (StructChanged c.args.type_id)
+    refl refl
     (omega arith) own c.requires.before (c.report_unless.ensures A B kept)
 
 pub returns-after-same_numbers : goal.returns-after-same_numbers
@@ -64,7 +65,8 @@ returns-after-same_numbers g c =
     (λ v. KeepsValues (body_at A.schema t) (body_at B.schema v))
     (enum_decides c.if-same_numbers.kept _ _ e.base e.other e.flags e.marks values others was is told) in
     let own : own_number (body_at A.schema t) (body_at B.schema u) ≡ 101 = rw (was, is) refl in
-    body_walked A B g.H.Hearer.wants _ t _ _ c.report_unless-in-Enum-Enum.result u twins (EnumChanged c.args.type_id)
+    body_walked A B g.H.DifferenceHearer.wants _ t _ _ c.report_unless-in-Enum-Enum.result u twins
+    (EnumChanged c.args.type_id)
     refl refl (omega arith) own c.requires.before (c.report_unless-in-Enum-Enum.ensures A B kept)
 
 pub returns-in-Union-Union : goal.returns-in-Union-Union
@@ -94,7 +96,8 @@ returns-in-Union-Union g c =
     let members_kept : IsTrue kept ↔ KeepsMembers A.schema B.schema (body_at A.schema t) (body_at B.schema u) =
     rw (was, is) (rw is at told) in
     let own : own_number (body_at A.schema t) (body_at B.schema u) ≡ 102 = rw (was, is) refl in
-    body_walked A B g.H.Hearer.wants _ t _ _ c.report_unless-in-Union-Union.result u twins (UnionChanged c.args.type_id)
+    body_walked A B g.H.DifferenceHearer.wants _ t _ _ c.report_unless-in-Union-Union.result u twins
+    (UnionChanged c.args.type_id)
     refl refl (omega arith) own c.requires.before
     (c.report_unless-in-Union-Union.ensures A B (twin_decides A B t u twins kept
     (λ v. KeepsMembers A.schema B.schema (body_at A.schema t) (body_at B.schema v)) members_kept))
@@ -111,9 +114,10 @@ returns-in_default g c =
     let seen : own_number (body_seen c.body_of-was.result.now) (body_seen c.body_of-is.result.now) ≡ 93 =
     search rules in
     let own : own_number (body_at A.schema t) (body_at B.schema u) ≡ 93 = rw (was, is) seen in
-    body_walked A B g.H.Hearer.wants _ t _ _ c.hear.result u twins (KindChanged c.args.type_id) refl refl (omega arith)
+    body_walked A B g.H.DifferenceHearer.wants _ t _ _ c.hear.result u twins (KindChanged c.args.type_id) refl refl
+    (omega arith)
     own
-    c.requires.before (reported A B g.H.Hearer.wants _ (Broken (KindChanged c.args.type_id)) _ _ c.hear.result
+    c.requires.before (reported A B g.H.DifferenceHearer.wants _ (Broken (KindChanged c.args.type_id)) _ _ c.hear.result
     (kind_stands A B t u twins own) c.hear.ensures.kept c.hear.ensures.ignored c.hear.ensures.stopped)
 
 pub walk_slots-requires-clause-tables : goal.walk_slots-requires-clause-tables

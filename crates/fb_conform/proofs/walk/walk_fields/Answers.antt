@@ -11,7 +11,7 @@ pub returns-in_err-report_unless : goal.returns-in_err-report_unless
 returns-in_err-report_unless g c =
     let A = c.args.old.now in
     let B = c.args.new.now in
-    let wants = g.H.Hearer.wants in
+    let wants = g.H.DifferenceHearer.wants in
     let slot = c.requires.slot in
     stopped_on A B wants _ _ _ _ c.from_residual.result c.from_residual.ensures (c.in_err-report_unless.ensures A B
     (shape_decides A B wants slot c.same_type-shape.ensures) (fields_start A B wants slot c.requires.before))
@@ -20,7 +20,7 @@ pub returns-in_err-report_unless-2 : goal.returns-in_err-report_unless-2
 returns-in_err-report_unless-2 g c =
     let A = c.args.old.now in
     let B = c.args.new.now in
-    let wants = g.H.Hearer.wants in
+    let wants = g.H.DifferenceHearer.wants in
     let slot = c.requires.slot in
     let after_shape = c.in_ok-report_unless.ensures A B (shape_decides A B wants slot c.same_type-shape.ensures)
     (fields_start A B wants slot c.requires.before) in
@@ -32,7 +32,7 @@ pub returns-in_err-report_unless-3 : goal.returns-in_err-report_unless-3
 returns-in_err-report_unless-3 g c =
     let A = c.args.old.now in
     let B = c.args.new.now in
-    let wants = g.H.Hearer.wants in
+    let wants = g.H.DifferenceHearer.wants in
     let slot = c.requires.slot in
     let after_shape = c.in_ok-report_unless.ensures A B (shape_decides A B wants slot c.same_type-shape.ensures)
     (fields_start A B wants slot c.requires.before) in
@@ -46,7 +46,7 @@ pub returns : goal.returns
 returns g c =
     let A = c.args.old.now in
     let B = c.args.new.now in
-    let wants = g.H.Hearer.wants in
+    let wants = g.H.DifferenceHearer.wants in
     let slot = c.requires.slot in
     let after_shape = c.in_ok-report_unless.ensures A B (shape_decides A B wants slot c.same_type-shape.ensures)
     (fields_start A B wants slot c.requires.before) in

@@ -9,7 +9,7 @@ pub returns : goal.returns
 returns g c =
     let A = c.args.old.now in
     let B = c.args.new.now in
-    let wants = g.H.Hearer.wants in
+    let wants = g.H.DifferenceHearer.wants in
     let root = c.in_ok-report_unless.ensures A B c.same_root-root.ensures (root_start A B wants _ c.requires) in
     walked_on A B wants _ (IsUpTo (Broken IdentifierChanged)) (IsOfTypesBelow 0) _ c.report_unless-2.result
     (header_end A B wants _) (c.report_unless-2.ensures A B c.same_identifier-identifier.ensures root)

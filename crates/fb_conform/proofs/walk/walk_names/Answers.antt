@@ -12,9 +12,9 @@ returns-in_err-hear g c =
     let B = c.args.new.now in
     let t = c.args.type_id.0 in
     let k = c.loop-slot.slot in
-    let wants = g.H.Hearer.wants in
-    let walked = name_walked A B wants g.H.Hearer.stops t _ _ c.hear.result k c.loop-slot.invariant
-    (reported A B wants g.H.Hearer.stops (Moved (moved_at t k)) _ _ c.hear.result
+    let wants = g.H.DifferenceHearer.wants in
+    let walked = name_walked A B wants g.H.DifferenceHearer.stops t _ _ c.hear.result k c.loop-slot.invariant
+    (reported A B wants g.H.DifferenceHearer.stops (Moved (moved_at t k)) _ _ c.hear.result
     (c.is_moved.ensures.0 c.if-is_moved.true) c.hear.ensures.kept c.hear.ensures.ignored c.hear.ensures.stopped) in
     stopped_on A B wants _ _ _ _ c.from_residual.result c.from_residual.ensures (rw c.in_err-hear.was at walked)
 
@@ -24,11 +24,11 @@ loop-slot-preserved g c =
     let B = c.args.new.now in
     let t = c.args.type_id.0 in
     let k = c.loop-slot.slot in
-    let wants = g.H.Hearer.wants in
+    let wants = g.H.DifferenceHearer.wants in
     elim c.if-is_moved.branch [
       | then-is_moved+in_ok-hear w ↦
-          let walked = name_walked A B wants g.H.Hearer.stops t _ _ w.hear.result k c.loop-slot.invariant
-          (reported A B wants g.H.Hearer.stops (Moved (moved_at t k)) _ _ w.hear.result
+          let walked = name_walked A B wants g.H.DifferenceHearer.stops t _ _ w.hear.result k c.loop-slot.invariant
+          (reported A B wants g.H.DifferenceHearer.stops (Moved (moved_at t k)) _ _ w.hear.result
           (c.is_moved.ensures.0 w.if-is_moved.true) w.hear.ensures.kept w.hear.ensures.ignored
           w.hear.ensures.stopped) in
           rw w.hearer-is (rw w.in_ok-hear.was at walked)
@@ -41,7 +41,7 @@ pub returns : goal.returns
 returns g c =
     let A = c.args.old.now in
     let B = c.args.new.now in
-    names_passed A B g.H.Hearer.wants c.args.type_id.0 c.loop-slot.slot _
+    names_passed A B g.H.DifferenceHearer.wants c.args.type_id.0 c.loop-slot.slot _
     (λ m type later wanted. no_name A B c.requires.declared m c.args.twin.0 (rw type c.requires.twins)
     (rw type (c.names_end-slot-end.ensures m.slot (omega (arith, later, c.loop-slot-test.false)))))
     c.loop-slot.invariant

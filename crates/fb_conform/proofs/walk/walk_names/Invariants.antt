@@ -3,4 +3,5 @@ use Rattle.fb_conform.proofs.walk.walk_names.Given as goal
 
 abbrev pub invariant-loop-slot : goal.invariant-loop-slot
 invariant-loop-slot g l =
-    Lists l.old l.new g.H.Hearer.wants (IsOfNamesBelow l.type_id.0 l.slot) (g.H.Hearer.heard l.hearer)
+    Lists l.old l.new g.H.DifferenceHearer.wants (IsOfNamesBelow l.type_id.0 l.slot)
+    (g.H.DifferenceHearer.heard l.hearer)

@@ -13,7 +13,7 @@ pub returns-in-Some-None : goal.returns-in-Some-None
 returns-in-Some-None g c =
     let A = c.args.old.now in
     let B = c.args.new.now in
-    let wants = g.H.Hearer.wants in
+    let wants = g.H.DifferenceHearer.wants in
     let t = c.args.at.type_id.0 in
     let k = c.args.at.slot in
     let f = field_seen c.in-Some-None.field-0-0.now in
@@ -26,7 +26,7 @@ pub returns-in-None-Some : goal.returns-in-None-Some
 returns-in-None-Some g c =
     let A = c.args.old.now in
     let B = c.args.new.now in
-    let wants = g.H.Hearer.wants in
+    let wants = g.H.DifferenceHearer.wants in
     let t = c.args.at.type_id.0 in
     let k = c.args.at.slot in
     let f = field_seen c.in-None-Some.is'.now in
@@ -40,6 +40,6 @@ pub returns-in-None-None : goal.returns-in-None-None
 returns-in-None-None g c =
     let A = c.args.old.now in
     let B = c.args.new.now in
-    let wants = g.H.Hearer.wants in
+    let wants = g.H.DifferenceHearer.wants in
     let slot : TableSlot A.schema B.schema c.args.at.type_id.0 c.args.at.slot None None = search rules in
     slot_absent A B wants c.args.at.type_id.0 c.args.at.slot _ slot c.requires.before

@@ -13,7 +13,7 @@ returns-in_default g c =
     let A = c.args.old.now in
     let B = c.args.new.now in
     let t = c.args.type_id.0 in
-    let wants = g.H.Hearer.wants in
+    let wants = g.H.DifferenceHearer.wants in
     let gone : twin A.schema B.schema t ≡ None =
     ap (λ (S : DeclaredSchema). twin S B.schema t) (sym c.schema.ensures.schema)
     ∙ ap (λ (T : DeclaredSchema). twin c.schema.result.now T t) (sym c.schema-2.ensures.schema)

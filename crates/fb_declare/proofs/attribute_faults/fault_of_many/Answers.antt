@@ -13,7 +13,7 @@ loop-attribute-preserved c =
     let met = rw text at (c.in_ok-again.ensures (map (λ b. b.name.bytes) (take i attributes))
     c.loop-attribute.invariant.met) in
     record {
-      least = rw (c.earlier-least.ensures, c.attribute_fault.ensures, met.0, c.loop-attribute.invariant.least)
+      least = rw (c.earlier_fault-least.ensures, c.attribute_fault.ensures, met.0, c.loop-attribute.invariant.least)
           (least_more (attribute_behind (is_met c.args.declared.now) c.args.host) attributes i a
           c.loop-attribute-test.true c.attribute-item.is);
       met = subst (AreMet c.meet.new.self) (sym (map-taken

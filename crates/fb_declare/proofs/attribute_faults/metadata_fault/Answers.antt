@@ -35,6 +35,6 @@ returns-in-len2 c =
     let b = c.other-item.result in
     let again : c.eq-again.result ≡ bytes_eq b.name.bytes a.name.bytes = grind rules in
     let long : length c.args.attributes.now ≡ 2 = omega (arith, c.in-len2.len_at_least, c.in-len2.len_below) in
-    c.earlier.ensures ∙ (λ j. earlier (c.attribute_fault-first.ensures j) (c.attribute_fault-in-len2.ensures j))
+    c.earlier_fault.ensures ∙ (λ j. earlier (c.attribute_fault-first.ensures j) (c.attribute_fault-in-len2.ensures j))
     ∙ two (is_met c.args.declared.now) c.args.host c.args.attributes.now a b c.eq-again.result long
     c.one-item-then-attributes-lt3.is c.other-item.is again

@@ -49,13 +49,14 @@ loop-place-preserved c =
     let again : not c.in_ok-is_new.is_new ≡ list_any (int_eq m) keys =
     rw (c.in_ok-is_new.ensures.added, not-not, to_z-of_z w128 c.resolved.inside.number own, number) refl in
     let at : c.name.inside.at ≡ v.value.name.at = grind rules in
-    let bad_name : c.when-bad_name.result ≡ least_of name_faults = rw (c.when-bad_name.ensures, named_again, at) refl in
-    let bad_number : c.when-bad_number.result ≡ least_of number_faults =
+    let bad_name : c.fault_if-bad_name.result ≡ least_of name_faults = rw
+    (c.fault_if-bad_name.ensures, named_again, at) refl in
+    let bad_number : c.fault_if-bad_number.result ≡ least_of number_faults =
     grind (rules, again, c.loop-place.invariant.numbers m) in
     record {
       least = rw (
-        c.earlier-least.ensures,
-        c.earlier.ensures,
+        c.earlier_fault-least.ensures,
+        c.earlier_fault.ensures,
         bad_name,
         bad_number,
         c.loop-place.invariant.least,

@@ -21,8 +21,8 @@ loop-field-preserved c =
     let told = c.in_ok-again.ensures before c.loop-field.invariant.met in
     record {
       least = rw (
-        c.earlier-least.ensures,
-        c.earlier.ensures,
+        c.earlier_fault-least.ensures,
+        c.earlier_fault.ensures,
         told.0,
         c.in_ok-fault.ensures,
         c.loop-field.invariant.least,

@@ -37,12 +37,13 @@ returns c = λ before met.
     let at = r.field.name.at in
     let text : c.name.inside.text.now ≡ n = grind rules in
     let place : c.name.inside.at ≡ at = grind rules in
-    let Told = λ (ns : List Name). (c.earlier.result ≡ least_of (faults_behind (name_again at) before ns))
+    let Told = λ (ns : List Name). (c.earlier_fault.result ≡ least_of (faults_behind (name_again at) before ns))
     × AreMet c.meet-2.new.self (before ++ ns) in
     let union : option_map (λ x. x.union) c.resolved.inside.code ≡ union_in r = grind rules in
     let alone : c.match-host.code_again ≡ false → c.match-host.met ≡ c.args.met.now → Told (n ∷ []) = λ none same.
     let last = rw text at (c.in_ok-again.ensures before (rw same met)) in
-    (rw (c.earlier.ensures, c.when.ensures, c.when-2.ensures, none, last.0, place, one at before n) refl, last.1) in
+    (rw (c.earlier_fault.ensures, c.fault_if.ensures, c.fault_if-2.ensures, none, last.0, place, one at before n)
+    refl, last.1) in
     elim c.match-host.branch [
       | in-Table-Some+in_ok-code_again-in-Table-Some w ↦
           let x = w.in-Table-Some in
@@ -54,9 +55,9 @@ returns c = λ before met.
           subst Told (sym (ap (λ h. names_of_field h r) x.is-0
           ∙ names_by r (Some x.code.union) (sym union ∙ ap (option_map (λ x. x.union)) x.is-1))) (
             rw (
-              c.earlier.ensures,
-              c.when.ensures,
-              c.when-2.ensures,
+              c.earlier_fault.ensures,
+              c.fault_if.ensures,
+              c.fault_if-2.ensures,
               w.code_again-is,
               first.0,
               last.0,

@@ -21,8 +21,8 @@ returns c =
     let root : c.root_fault-root.result ≡ least_of gs = grind rules in
     let identifier : c.identifier_fault-identifier.result ≡ least_of hs = grind rules in
     rw (
-      c.earlier-2.ensures,
-      c.earlier.ensures,
+      c.earlier_fault-2.ensures,
+      c.earlier_fault.ensures,
       told,
       root,
       identifier,

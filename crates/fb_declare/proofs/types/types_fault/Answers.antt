@@ -31,7 +31,7 @@ loop-number-preserved c =
     record {
       room = omega arith;
       least = rw (
-        c.earlier-least.ensures,
+        c.earlier_fault-least.ensures,
         c.in_ok-fault.ensures types lower (length-before types rs i h) natural,
         (told_type types known.repeats.now rs i r known.repeated
             (c.as_slice-types.ensures.value ∙ known.meant) h e).1,

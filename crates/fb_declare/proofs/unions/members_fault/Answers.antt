@@ -17,7 +17,7 @@ loop-number-preserved c =
     in
     record {
       least = rw (
-        c.earlier-least.ensures,
+        c.earlier_fault-least.ensures,
         c.member_fault.ensures (take i members)
             (length-take-le i members (omega (arith, h))) (sym met.0),
         c.loop-number.invariant.least,

@@ -1,7 +1,7 @@
 use Rattle.std.proofs.Common.{◌≡◌, ◌+◌, ◌*◌, ◌-◌, ◌<◌, ℕ, Some, map, slice_get}
 use Rattle.serde_json.specs.View.{members_view}
 use Rattle.fb_pieces.specs.CutTexts.{member_texts}
-use Rattle.fb_encode.specs.declared.reader.Excerpt.{Excerpt}
+use Rattle.fb_encode.specs.declared.reader.JsonExcerpt.{JsonExcerpt}
 use Rattle.fb_encode.specs.MembersRead.{object_read}
 use Rattle.fb_encode.specs.TextsRead.{IsRead}
 use Rattle.fb_encode.proofs.objects.SlotsAreFound.{brackets_in}
@@ -27,5 +27,5 @@ invariant-own_fields-loop-k l = record {
   put : AreFieldsPut l.source.layout.now l.source.unknown l.structure.0
       (object_read (l.excerpt.brackets - 1) (map (member_texts l.excerpt.text.now) l.members.items))
       (members_view l.object.entries) l.k;
-  read : (j : ℕ) (e : Excerpt) → j < l.k → slice_get l.texts.items j ≡ Some (Some e) → IsRead e.brackets e.text.now;
+  read : (j : ℕ) (e : JsonExcerpt) → j < l.k → slice_get l.texts.items j ≡ Some (Some e) → IsRead e.brackets e.text.now;
 }

@@ -6,7 +6,7 @@ use Rattle.std.proofs.lemmas.List.{length-map, map_push}
 use Rattle.serde_json.specs.View.{members_view}
 use Rattle.fb_schema.specs.Seen.{field_seen}
 use Rattle.fb_value.specs.View.{view}
-use Rattle.fb_json.specs.declared.step.Step.TheVariants.{Field}
+use Rattle.fb_json.specs.declared.step.JsonStep.TheVariants.{Field}
 use Rattle.fb_json.specs.FaultPaths.{field_spot}
 use Rattle.fb_json.specs.FaultPaths.{IsFirstAt, IsFirstIn, ToField}
 use Rattle.fb_json.specs.Meant.{look, slot_place, part_meant}

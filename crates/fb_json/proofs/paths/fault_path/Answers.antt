@@ -2,7 +2,7 @@ use Rattle.std.proofs.Common.{◌∙◌, ap, sym, Vec, Global}
 use Rattle.serde_json.specs.View.{view as tree_view}
 use Rattle.fb_schema.specs.Schema.{DeclaredSchema}
 use Rattle.fb_value.specs.View.{view}
-use Rattle.fb_json.specs.declared.step.Step.{Step}
+use Rattle.fb_json.specs.declared.step.JsonStep.{JsonStep}
 use Rattle.fb_json.specs.FaultPaths.{LeadsToFirst, tree_spot}
 use Rattle.fb_json.proofs.root.RootMeaningDecides.{at_root, from_root, means_root}
 use Rattle.fb_json.proofs.tree.TrailLeadsToTheFault.{fault_given, kept_steps}
@@ -33,6 +33,6 @@ returns-in_default-fault c =
     c.most_depth.result c.most_cells.result
     (c.root-owner.ensures ∙ ap (λ (s : DeclaredSchema). s.root) c.schema.ensures.schema) c.most_depth.ensures.exact
     c.most_cells.ensures (tree_spot t)) at found.2 in
-    kept_steps _ (λ (v : Vec Step Global). v.items) c.into_steps.result c.new-trail.result c.value.new.trail
+    kept_steps _ (λ (v : Vec JsonStep Global). v.items) c.into_steps.result c.new-trail.result c.value.new.trail
     (LeadsToFirst L c.args.limits c.args.unknown t) c.new-trail.ensures c.into_steps.ensures found.0 found.1
     (c.in-Err.fault, first, path)

@@ -5,7 +5,7 @@ use Rattle.fb_value.specs.Messages.{IsMessage}
 use Rattle.fb_value.proofs.held.MessagesAreTold.{num_before}
 use Rattle.fb_read.proofs.messages.split_prefixed.Goals as goal
 
--- What a count in front says to follow is a message with it.
+-- A size prefix and as many bytes as it says are a message.
 cut_off : (b first rest : Bytes) (count : ℕ) → count ≡ num b 0 4 → 4 + count ≤ length b → first ≡ take (4 + count) b
     → rest ≡ drop (4 + count) b → IsMessage first × (b ≡ first ++ rest)
 cut_off b first rest count is within front back =

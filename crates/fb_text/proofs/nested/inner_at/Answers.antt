@@ -54,7 +54,7 @@ returns-in-Some-clause-inner g c ds k u es more shown has less begin =
     ∙ (ap (λ (f : DeclaredField). f.shape) field ∙ has.shape) in
     let part = rw (ap (nth_part ds) same ∙ has.part) at
     (rw c.from-k.ensures at (c.child-part.ensures.shows L (Some (a_struct ds)) shown)) in
-    let found : Some c.in-Some.structure ≡ Some u = c.in-Some.ensures.known u es shape (c.find.ensures.top L _ part) in
+    let found : Some c.in-Some.structure ≡ Some u = c.in-Some.ensures.known u es shape (c.head.ensures.top L _ part) in
     let offset : slice_index (struct_at L t.0).offsets next ≡ slice_index (struct_at L t.0).offsets k =
     ap (slice_index (struct_at L t.0).offsets) same in
     let fits : c.args.byte < 2 ^ 32 = c.ranges.byte.fits in
@@ -82,5 +82,5 @@ returns-in-None-clause-inner g c ds k u es more shown has less begin =
     ∙ (ap (λ (f : DeclaredField). f.shape) field ∙ has.shape) in
     let part = rw (ap (nth_part ds) same ∙ has.part) at
     (rw c.from-k.ensures at (c.child-part.ensures.shows L (Some (a_struct ds)) shown)) in
-    let found : None ≡ Some u = c.in-None.ensures.known u es shape (c.find.ensures.top L _ part) in
+    let found : None ≡ Some u = c.in-None.ensures.known u es shape (c.head.ensures.top L _ part) in
     absurd (cc)

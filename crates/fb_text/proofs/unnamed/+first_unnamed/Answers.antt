@@ -11,13 +11,13 @@ loop-i-init g t c = record {
   within = c.next_searched-i.ensures.within;
   named = λ L o shows. children_skip c.args.place o c.next_searched-i.result 0 c.next_searched-i.result (omega arith)
       (λ k low past. c.next_searched-i.ensures.named L o (child_place c.args.place o k) k shows low past)
-      ∙ from_first c.args.place c.find-found.result o (c.find-found.ensures.top L o shows) c.in_default.not-Unknown;
+      ∙ from_first c.args.place c.head-found.result o (c.head-found.ensures.top L o shows) c.in_default.not-Unknown;
 }
 
 pub returns-then-is_some : goal.returns-then-is_some
 returns-then-is_some g t c L o shows =
     let i = c.loop-i.i in
-    let place = c.place_in.ensures o (c.find-found.ensures.top L o shows) in
+    let place = c.place_in.ensures o (c.head-found.ensures.top L o shows) in
     let found = rw place at (c.first_unnamed-unnamed.ensures L (nth_child o i) (c.child.ensures.shows L o shows)) in
     sym (found_first _ (unnamed_from c.args.place o (i + 1)) _ found (sym c.is_some.ensures ∙ c.if-is_some.true))
     ∙ (sym (children_step c.args.place o i) ∙ c.loop-i.invariant.named L o shows)
@@ -32,7 +32,7 @@ loop-i-preserved g t c = record {
       let far : (i + 1) + (next - (i + 1)) ≡ next = omega (arith, c.next_searched-i-in-loop-i.ensures.from) in
       let behind : unnamed_from at o (i + 1) ≡ unnamed_from at o i = elim c.if-is_searched.branch [
         | then-is_searched+else-is_some w ↦
-            let place = w.place_in.ensures o (c.find-found.ensures.top L o shows) in
+            let place = w.place_in.ensures o (c.head-found.ensures.top L o shows) in
             let found = rw place at (w.first_unnamed-unnamed.ensures L (nth_child o i)
             (w.child.ensures.shows L o shows)) in
             sym (found_later _ (unnamed_from at o (i + 1)) _ found (sym w.is_some.ensures ∙ w.if-is_some.false))

@@ -58,7 +58,7 @@ at_end i n m low high same = omega arith
 pub put_member-returns-clause-text : goal.put_member-returns-clause-text
 put_member-returns-clause-text g t c o shows =
     let L = c.args.style.layout.now in
-    let top = c.find-found.ensures.top L o shows in
+    let top = c.head-found.ensures.top L o shows in
     entry_added L c.args.style.defaults (blanks c.args.inner.now) c.args.some (field_seen c.args.slot.now) o
     c.put_code-some.result _ _ _ (sym c.if-not-is_printed.false ∙ c.is_printed.ensures o top)
     (λ d e. rw c.schema.ensures.schema
@@ -137,7 +137,7 @@ put_fields-loop-fields-preserved g t c =
       on = omega (arith, c.loop-fields.invariant.on);
       text = λ es behind end shows adds.
           let part = rw c.from-k.ensures at (c.child-part.ensures.shows L (Some (a_struct es)) (rw shown shows)) in
-          let top = c.find-found.ensures.top L (nth_part es k) part in
+          let top = c.head-found.ensures.top L (nth_part es k) part in
           let text = rw (c.deeper-inner.ensures, one) at (c.put_field-here.ensures.text (nth_part es k) part top) in
           c.loop-fields.invariant.text es behind end shows
           (added_as (fields_next L c.args.style.defaults (blanks c.args.indent.now) first.structure es first.depth k
@@ -164,7 +164,7 @@ put_fields-returns-in-loop-fields-clause-text g t c root ds es behind at =
     let fields = c.parts_of-fields.result.now in
     let shown = ap (λ (h : StructCursor g.row.S.Denot). h.shown) c.loop-fields.invariant.same in
     let part = rw c.from-k.ensures at (c.child-part.ensures.shows L (Some (a_struct es)) (rw shown at.0)) in
-    let (inner, is) = c.in-Some.ensures.part (nth_part es k) (c.find-found.ensures.top L _ part) in
+    let (inner, is) = c.in-Some.ensures.part (nth_part es k) (c.head-found.ensures.top L _ part) in
     let less : k < length fields = rw c.from.ensures at c.loop-fields-test.true in
     let own : x ≡ slice_index_or fields k x = rw c.from-k.ensures at c.index-fields-k.is in
     let there = rw c.parts_of-fields.ensures.parts at (seen_there fields k x less own) in

@@ -9,7 +9,7 @@ returns-in-Ok-clause-binary c =
 
 pub returns-in-Err-clause-refused : goal.returns-in-Err-clause-refused
 returns-in-Err-clause-refused c =
-    rw c.refused.ensures (text_refused c.layer_laws.ensures.laws c.args.options.now.size_prefixed c.args.json.now
+    rw c.encode_fault.ensures (text_refused c.layer_laws.ensures.laws c.args.options.now.size_prefixed c.args.json.now
     c.args.options.now.limits
     c.args.options.now.unknown_json c.args.layout.now c.in-Err.fault c.in-Err.ensures.refused)
 
@@ -17,4 +17,4 @@ pub returns-in-Err-clause-exact : goal.returns-in-Err-clause-exact
 returns-in-Err-clause-exact c rule =
     text_excludes c.layer_laws.ensures.laws c.args.options.now.size_prefixed c.args.json.now c.args.options.now.limits
     c.args.options.now.unknown_json c.args.layout.now c.in-Err.fault c.in-Err.ensures.refused
-    (rw c.refused.ensures at rule)
+    (rw c.encode_fault.ensures at rule)

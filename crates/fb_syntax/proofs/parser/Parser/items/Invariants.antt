@@ -5,7 +5,7 @@ use Rattle.fb_syntax.proofs.parser.Parser.items.Given as goal
 
 abbrev pub invariant-loop-close : goal.invariant-loop-close
 invariant-loop-close g l = record {
-  so_far : Repeats g.T.Item.rule.read (closes l.close) push [] l.initial.self l.items.items l.self;
+  so_far : Repeats g.T.ListItem.rule.read (closes l.close) push [] l.initial.self l.items.items l.self;
   within : length l.self ≤ length l.initial.self;
 }
 

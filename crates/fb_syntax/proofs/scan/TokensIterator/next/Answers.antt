@@ -3,7 +3,7 @@ use Rattle.std.proofs.Common.{length-drop}
 use Rattle.std.specs.Iterator.{MakesProgress, at_most}
 use Rattle.std.proofs.lemmas.List.{take_rest, drop-drop}
 use Rattle.std.proofs.lemmas.Grind.{common_steps}
-use Rattle.fb_syntax.specs.declared.scan.Piece.TheVariants as pieces
+use Rattle.fb_syntax.specs.declared.scan.GapOrToken.TheVariants as pieces
 use Rattle.fb_syntax.specs.declared.scan.Tokens.{Tokens}
 use Rattle.fb_syntax.specs.declared.tokens.Token.{Token}
 use Rattle.fb_syntax.specs.declared.tokens.BadToken.{BadToken}

@@ -1,6 +1,6 @@
 use Rattle.std.proofs.Common.{◌≡◌, ◌++◌, List, ℕ, refl, ap, ◌∙◌, append_assoc}
-use Rattle.fb_text.specs.Noted.{page_of}
-use Rattle.fb_text.specs.Pages.{pending}
+use Rattle.fb_text.specs.Noted.{buffer_of}
+use Rattle.fb_text.specs.WriteBuffers.{pending}
 use Rattle.fb_text.proofs.noted.PiecesAddUp.{added_waiting}
 use Rattle.fb_text.proofs.noted.Noted.put_three.Goals as goal
 
@@ -19,4 +19,4 @@ returns g c =
     let third = rw c.as_bytes-3.ensures.value at c.add-3.ensures.pending ∙ ap (λ l. l ++ three) second in
     added_waiting _ _ (one ++ (two ++ three)) refl
     (c.add-3.ensures.written ∙ (c.add-2.ensures.written ∙ c.add.ensures.written)) refl
-    (λ _. third ∙ joined (pending (page_of c.args.self.now)) one two three)
+    (λ _. third ∙ joined (pending (buffer_of c.args.self.now)) one two three)

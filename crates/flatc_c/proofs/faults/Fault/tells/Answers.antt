@@ -57,11 +57,11 @@ both_told a b f one other = (
 pub returns : goal.returns
 returns c =
     let a = c.args.self.now in
-    let b = c.told.result in
+    let b = c.c_fault.result in
     let compared : Decides c.eq.result (Same a b) = Decides-at _ _ c.eq.ensures
     (Decides-and _ _ (Decides-eqb _ _) (Decides-and _ _ (Decides-eqb _ _) (Decides-and _ _ (Decides-eqb _ _)
     (Decides-and _ _ (Decides-eqb _ _) (Decides-and _ _ (booleans_Decides _ _) (Decides-and _ _ (booleans_Decides _ _)
     (Decides-and _ _ (booleans_Decides _ _)
     (Decides-and _ _ (bytes_eq-Decides _ _) (bytes_eq-Decides _ _))))))))) in
-    let told = c.told.ensures in
+    let told = c.c_fault.ensures in
     Decides-like _ (told_too a b c.args.fault told) (λ too. both_told a b c.args.fault too told) compared

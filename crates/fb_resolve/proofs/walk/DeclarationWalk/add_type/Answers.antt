@@ -9,7 +9,7 @@ use Rattle.fb_resolve.specs.Words.{words}
 use Rattle.fb_resolve.specs.Outline.{TypeRead, word_of, name_of_type}
 use Rattle.fb_resolve.specs.Paths.{IsPath, AreNotesOf}
 use Rattle.fb_resolve.proofs.PathsKept.{path_inside, placed_grown}
-use Rattle.fb_resolve.proofs.walk.Walk.add_type.Goals as goal
+use Rattle.fb_resolve.proofs.walk.DeclarationWalk.add_type.Goals as goal
 
 pub insert_words-requires-clause-inside : goal.insert_words-requires-clause-inside
 insert_words-requires-clause-inside c =

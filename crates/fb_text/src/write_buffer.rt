@@ -1,30 +1,30 @@
 //! Bytes that are collected before they are written.
 ghost use Rattle.std.specs.Prelude.{◌≡◌, ◌≤◌, ◌+◌, [], ◌++◌, length, take, true};
-ghost use Rattle.fb_text.specs.declared.pages.TheConstants.{CAPACITY};
+ghost use Rattle.fb_text.specs.declared.write_buffer.TheConstants.{CAPACITY};
 
-/// How many bytes a page takes: as many as Rust's `BufWriter` collects. It is set to zero for each
-/// writer, which a larger page would make the most part of printing a short text.
+/// How many bytes a write buffer takes: as many as Rust's `BufWriter` collects. It is set to zero for each
+/// writer, which a larger buffer would make the most part of printing a short text.
 const CAPACITY: usize = 8_192;
 
 /// Bytes of a text that wait to be written, so that a writer gets few large pieces, and how many
 /// were written before. They take no allocation.
 #[derive(Drop)]
-pub(crate) struct Page {
+pub(crate) struct WriteBuffer {
     bytes: [u8; CAPACITY],
     len: usize,
     written: u64,
     ghost within: { len ≤ CAPACITY },
 }
 
-impl Page {
-    ghost use Rattle.fb_text.specs.Pages.{pending, written_before};
+impl WriteBuffer {
+    ghost use Rattle.fb_text.specs.WriteBuffers.{pending, written_before};
 
-    /// A page without bytes, in front of which none were written.
-    pub(crate) fn new() -> Page
+    /// A write buffer without bytes, in front of which none were written.
+    pub(crate) fn new() -> WriteBuffer
         ensures pending { pending result ≡ [] }
         ensures written { written_before result ≡ 0 }
     {
-        Page {
+        WriteBuffer {
             bytes: [0; CAPACITY],
             len: 0,
             written: 0,

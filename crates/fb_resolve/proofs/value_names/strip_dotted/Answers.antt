@@ -9,7 +9,7 @@ use Rattle.std.proofs.lemmas.Str.Pattern.{starts_text, strip_prefix_char}
 use Rattle.fb_syntax.specs.Signs.{dot}
 use Rattle.fb_schema.specs.Schema.{Name}
 use Rattle.fb_resolve.specs.EnumValues.{behind, behind_dot}
-use Rattle.fb_resolve.proofs.value_names.behind.Goals as goal
+use Rattle.fb_resolve.proofs.value_names.strip_dotted.Goals as goal
 
 -- what is left of a text that a dot begins
 left_of_dot : (name : Name) (left : Option (Bor Name))

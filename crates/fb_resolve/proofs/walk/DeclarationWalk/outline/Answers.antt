@@ -1,5 +1,5 @@
 use Rattle.fb_resolve.proofs.PathsKept.{names_numbered}
-use Rattle.fb_resolve.proofs.walk.Walk.outline.Goals as goal
+use Rattle.fb_resolve.proofs.walk.DeclarationWalk.outline.Goals as goal
 
 pub of-requires-clause-full_names : goal.of-requires-clause-full_names
 of-requires-clause-full_names c = let w = c.args.self in

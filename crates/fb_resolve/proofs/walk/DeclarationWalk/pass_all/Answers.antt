@@ -15,7 +15,7 @@ use Rattle.fb_resolve.specs.Outline.{TypeRead, name_of_type, outline_behind}
 use Rattle.fb_resolve.specs.Paths.{IsPath, walk_read}
 use Rattle.fb_resolve.specs.RepeatedNames.{again_behind}
 use Rattle.fb_resolve.proofs.PathsKept.{names_numbered}
-use Rattle.fb_resolve.proofs.walk.Walk.pass_all.Goals as goal
+use Rattle.fb_resolve.proofs.walk.DeclarationWalk.pass_all.Goals as goal
 
 -- Types of one full name are those of one path's number.
 

@@ -1,6 +1,6 @@
 use Rattle.std.proofs.Common.{◌∙◌, ap, is_some, unwrap_or, refl, arith}
 use Rattle.flatc_c.specs.Faults.{name_field}
-use Rattle.flatc_c.proofs.faults.told.Goals as goal
+use Rattle.flatc_c.proofs.faults.c_fault.Goals as goal
 
 pub returns : goal.returns
 returns c = record {

@@ -1,7 +1,7 @@
 use Rattle.std.proofs.Common.{◌≡◌, true, false, [], refl, sym, ◌∙◌, append-nil, arith}
-use Rattle.fb_text.specs.Pages.{pending}
+use Rattle.fb_text.specs.WriteBuffers.{pending}
 use Rattle.fb_text.proofs.noted.PiecesAddUp.{added_waiting, added_written}
-use Rattle.fb_text.proofs.noted.Noted.write_page.Goals as goal
+use Rattle.fb_text.proofs.noted.Noted.write_pending.Goals as goal
 
 pub returns-then-self-clause-adds : goal.returns-then-self-clause-adds
 returns-then-self-clause-adds g c =
@@ -10,7 +10,7 @@ returns-then-self-clause-adds g c =
 
 pub returns-clause-adds : goal.returns-clause-adds
 returns-clause-adds g c =
-    let waits = pending c.args.self.now.page in
+    let waits = pending c.args.self.now.buffer in
     let same = c.pending.ensures in
     added_written _ _ [] waits c.if-self.false (append-nil waits) c.restart-2.ensures.pending
     (λ fine. let (all, got) = rw same at (c.write_bytes-written.ensures.all fine) in (got, omega (arith, all)))

@@ -1,7 +1,7 @@
 use Rattle.std.proofs.Common.{sym, ap, ◌∙◌}
-use Rattle.fb_encode.specs.declared.faults.TextFault.TheVariants.{Encode}
+use Rattle.fb_encode.specs.declared.faults.JsonTextFault.TheVariants.{Encode}
 use Rattle.flatc_tool.specs.Encodes.{encode_fault}
-use Rattle.flatc_tool.proofs.buffers.refused.Goals as goal
+use Rattle.flatc_tool.proofs.buffers.encode_fault.Goals as goal
 
 pub returns-in-Encode-Json : goal.returns-in-Encode-Json
 returns-in-Encode-Json c =

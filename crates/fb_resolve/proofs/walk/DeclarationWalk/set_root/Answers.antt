@@ -2,7 +2,7 @@ use Rattle.std.proofs.Common.{rules, ◌≡◌}
 use Rattle.std.proofs.lemmas.Option.{same_Some}
 use Rattle.fb_resolve.specs.Paths.{IsNoted}
 use Rattle.fb_resolve.proofs.PathsKept.{placed_grown}
-use Rattle.fb_resolve.proofs.walk.Walk.set_root.Goals as goal
+use Rattle.fb_resolve.proofs.walk.DeclarationWalk.set_root.Goals as goal
 
 pub returns-clause-placed : goal.returns-clause-placed
 returns-clause-placed c =

@@ -1,4 +1,4 @@
--- The bound on a buffer's length has the count in front.
+-- The bound on a buffer's length includes its size prefix.
 use Rattle.std.proofs.Common.{◌≡◌, ◌+◌, Bool, true, false, refl, arith}
 use Rattle.fb_layout.specs.Laid.{LaidSchema}
 use Rattle.fb_value.specs.Datum.{Datum}

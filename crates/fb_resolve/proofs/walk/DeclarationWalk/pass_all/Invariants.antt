@@ -1,7 +1,7 @@
 use Rattle.std.proofs.Common.{ℕ, ◌≡◌, drop}
 use Rattle.fb_resolve.specs.Outline.{outline_behind}
 use Rattle.fb_resolve.specs.Paths.{walk_read, IsPlaced}
-use Rattle.fb_resolve.proofs.walk.Walk.pass_all.Given as goal
+use Rattle.fb_resolve.proofs.walk.DeclarationWalk.pass_all.Given as goal
 
 -- what is noted, and what the declarations that are left give
 abbrev pub invariant-loop-declaration : goal.invariant-loop-declaration

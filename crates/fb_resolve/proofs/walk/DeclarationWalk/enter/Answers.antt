@@ -1,6 +1,6 @@
 use Rattle.std.proofs.Common.{None, Some}
 use Rattle.fb_resolve.proofs.PathsKept.{path_inside, placed_grown}
-use Rattle.fb_resolve.proofs.walk.Walk.enter.Goals as goal
+use Rattle.fb_resolve.proofs.walk.DeclarationWalk.enter.Goals as goal
 
 pub returns-clause-placed : goal.returns-clause-placed
 returns-clause-placed c =

@@ -6,15 +6,15 @@ use std::io::{self, Write};
 
 /// A writer that counts the bytes that another one took.
 #[derive(Drop)]
-pub(crate) struct Counted<W> {
+pub(crate) struct CountingWriter<W> {
     inner: W,
     written: u64,
 }
 
-impl<W> Counted<W> {
+impl<W> CountingWriter<W> {
     /// A writer over another, which took nothing yet.
-    pub(crate) fn over(inner: W) -> Counted<W> {
-        Counted { inner, written: 0 }
+    pub(crate) fn new(inner: W) -> CountingWriter<W> {
+        CountingWriter { inner, written: 0 }
     }
 
     /// How many bytes were taken.
@@ -23,7 +23,7 @@ impl<W> Counted<W> {
     }
 }
 
-impl<W: Write> Write for Counted<W> {
+impl<W: Write> Write for CountingWriter<W> {
     ghost contents = { λ c. W.contents c.inner };
 
     fn write(&mut self, buf: &[u8]) -> io::Result<usize>
