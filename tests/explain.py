@@ -537,7 +537,7 @@ def hints(tests):
 
 
 def numbers(tests):
-    """`flatc explain NUMBER` prints what docs/FAULTS.md has."""
+    """`flatc explain` of a number or a name prints what docs/FAULTS.md has."""
     with open(f"{ROOT}/docs/FAULTS.md", encoding="utf-8") as it:
         pages = re.split(r"^### ", re.sub(r"^## .*$", "", it.read(), flags=re.M), flags=re.M)[1:]
     seen = set()
@@ -553,7 +553,15 @@ def numbers(tests):
     titles = [[it.strip() for it in page.split("\n", 3)] for page in pages]
     listed = sorted((f"{it[0]}: {it[2]}" for it in titles), key=lambda it: int(it.split()[0]))
     tests.expect("the list of all numbers", ["explain"], 0, lines(*listed))
-    for number in sorted(set(range(256)) - want) + ["256", "-1", "x", ""]:
+    by_name = {}
+    for page in pages:
+        head, _, body = page.partition("\n")
+        by_name.setdefault(head.split()[1].strip(), []).append(f"{head}\n{body.strip()}\n")
+    tests.tell("some names have several numbers", max(map(len, by_name.values())) > 1)
+    for name, texts in by_name.items():
+        for word in (name, name.lower(), name.upper()):
+            tests.expect(f"explain {word}", ["explain", word], 0, "\n".join(texts).encode())
+    for number in sorted(set(range(256)) - want) + ["256", "-1", "x", "Too", "TooDeeply", ""]:
         done = tests.run(["explain", "--", str(number)])
         tests.tell(f"no page for {number}",
         done.returncode == 2 and done.stderr.startswith(b"error: ") and not done.stdout,

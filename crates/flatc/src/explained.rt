@@ -15,7 +15,7 @@ const REFUSED: u8 = 1;
 
 const USAGE: u8 = 2;
 
-const NO_NUMBER: &str = "error: no refusal has this number
+const NO_NUMBER: &str = "error: no refusal has this number or name
 
 Usage: flatc explain [NUMBER]
 ";
@@ -193,20 +193,41 @@ pub(crate) fn list_numbers(rt: &HostRuntime) -> u8 {
     0
 }
 
-/// Prints what a number of a refusal means, and returns the status.
-pub(crate) fn explain_number(rt: &HostRuntime, number: &str) -> u8 {
-    let page = match number.parse::<u8>() {
-        Ok(number) => fault_page(number),
-        Err(_) => None,
-    };
-    match page {
-        Some(page) => match println!(rt; "{page}") {
-            Ok(()) => 0,
-            Err(_) => 1,
-        },
-        None => {
-            let _printed = eprint_usage(rt, NO_NUMBER);
-            USAGE
-        }
+/// Whether a page is on the fault that a word calls by its number or, in any case, by its name.
+fn is_page_of(number: u8, page: &str, word: &str) -> bool {
+    if let Ok(asked) = word.parse::<u8>() {
+        return asked == number;
     }
+    let title = page.lines().next().unwrap_or("");
+    match title.split_once(' ') {
+        Some((_, name)) => name.eq_ignore_ascii_case(word),
+        None => false,
+    }
+}
+
+/// Prints what a number or a name of a refusal means, and returns the status. Several numbers may have one name.
+pub(crate) fn explain_number(rt: &HostRuntime, word: &str) -> u8 {
+    let mut is_known = false;
+    for number in 0..=u8::MAX {
+        let Some(page) = fault_page(number) else {
+            continue;
+        };
+        if !is_page_of(number, page, word) {
+            continue;
+        }
+        let printed = if is_known {
+            println!(rt; "\n{page}")
+        } else {
+            println!(rt; "{page}")
+        };
+        if printed.is_err() {
+            return 1;
+        }
+        is_known = true;
+    }
+    if is_known {
+        return 0;
+    }
+    let _printed = eprint_usage(rt, NO_NUMBER);
+    USAGE
 }
