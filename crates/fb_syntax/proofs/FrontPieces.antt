@@ -103,7 +103,7 @@ pub over_token : (start : ℕ) (text : List ℕ) (at : ℕ) (rest : List ℕ) (f
     → rest ≡ drop at text → Scanned start text at found → ComesNext at rest (Some (Ok token))
     → Scanned start text (token.at + token.len) (found ++ token ∷ [])
 over_token start text at rest found token is s (after_gap n gap next) =
-  over_token start text (at + n) (drop n rest) found token (rw is (drop-drop n at text))
+    over_token start text (at + n) (drop n rest) found token (rw is (drop-drop n at text))
     (gap_passed start text at found n s (rw is at gap)) next
 over_token start text at rest found token is s (longest kind n l small) =
     (over_piece start text at found (pieces.Token kind n) s (rw is at l, rw is at small)).2

@@ -41,9 +41,11 @@ returns c = λ before met.
     × AreMet c.meet-2.new.self (before ++ ns) in
     let union : option_map (λ x. x.union) c.resolved.inside.code ≡ union_in r = grind rules in
     let alone : c.match-host.code_again ≡ false → c.match-host.met ≡ c.args.met.now → Told (n ∷ []) = λ none same.
-    let last = rw text at (c.in_ok-again.ensures before (rw same met)) in
-    (rw (c.earlier_fault.ensures, c.fault_if.ensures, c.fault_if-2.ensures, none, last.0, place, one at before n)
-    refl, last.1) in
+    let last = rw text at (c.in_ok-again.ensures before (rw same met)) in (
+      rw (c.earlier_fault.ensures, c.fault_if.ensures, c.fault_if-2.ensures, none, last.0, place, one at before n)
+          refl,
+      last.1,
+    ) in
     elim c.match-host.branch [
       | in-Table-Some+in_ok-code_again-in-Table-Some w ↦
           let x = w.in-Table-Some in

@@ -3,6 +3,12 @@ use Rattle.fb_declare.proofs.root.root_fault.Goals as goal
 
 pub returns : goal.returns
 returns c =
-    rw (c.in-Some.is, ← c.root.view_is, least_of_append, c.earlier_fault.ensures, c.use_fault.ensures,
-    c.fault_if-bad_root.ensures)
+    rw (
+      c.in-Some.is,
+      ← c.root.view_is,
+      least_of_append,
+      c.earlier_fault.ensures,
+      c.use_fault.ensures,
+      c.fault_if-bad_root.ensures,
+    )
     cc
