@@ -41,6 +41,10 @@ UNION = (
 FILES = {
     "one.fbs": ONE,
     "two.fbs": b"table T { a:int = 2; } root_type T;",
+    "one_b.fbs": b"table T { a:int; b:int; } root_type T;",
+    "one_c.fbs": b"table T { a:int; b:int; c:int; } root_type T;",
+    "moved.fbs": b"table T { b:int; a:int; } root_type T;",
+    "line\nfeed.fbs": b"table T { a:int = 2; } root_type T;",
     "seven.json": b'{"a":7}',
     "seven.bin": SEVEN,
     "bad.json": b'{"a":',
@@ -87,7 +91,36 @@ check --keep-going s b
 inspect b
 inspect --header s b
 inspect --header --raw-binary b
-inspect - -""".splitlines()
+inspect - -
+conform a b c
+conform --chain
+conform --chain a
+conform --chain --old-name n a b
+conform --chain - a -
+conform --chain a /dev/stdin b -
+conform --schemas a b
+check --schemas
+check --schemas - a -
+check --schemas --raw-binary s
+check --schemas --size-prefixed s
+check --schemas --lines s b
+check --schemas --keep-going s
+check --schemas --lines --keep-going s b
+check --chain a b""".splitlines()
+
+# Lines that are no command, and what the error says.
+ERRORS = [
+    (["conform", "a", "b", "c"], b"unexpected argument 'c' found"),
+    (["conform", "--chain", "--old-name", "n", "a", "b"],
+     b"the argument '--chain' cannot be used with '--old-name <NAME>'"),
+    (["conform", "--chain", "-", "-"], b"standard input is read once, and two paths name it"),
+    (["check", "--schemas", "--raw-binary", "s"], b"the argument '--schemas' cannot be used with '--raw-binary'"),
+    (["check", "--schemas", "--keep-going", "s"], b"the argument '--schemas' cannot be used with '--keep-going'"),
+    ([b"check", b"\xff.fbs"], b"argument 2 isn't valid UTF-8: '\\xff.fbs'"),
+    ([b"check", b"--", b"a.fbs", b"b\xc3\nc"], b"argument 4 isn't valid UTF-8: 'b\\xc3\\u{a}c'"),
+]
+
+FORMATS = ("line", "human", "short", "json")
 
 passed = 0
 failed = 0
@@ -205,6 +238,83 @@ def comparisons():
     refused("an empty old schema", ["conform", "empty", "one.fbs"], b"old: 21 BadRoot at 0")
     refused("the new schema is refused", ["conform", "one.fbs", "not_utf8.fbs"], b"new: 1 NotUtf8 at 19")
     refused("a missing new schema", ["conform", "one.fbs", "missing"], b"110 FileRead")
+
+
+def chains():
+    row("a chain of two", ["conform", "--chain", "one.fbs", "one_b.fbs"], 0, b"conforms\n")
+    row("a chain of three", ["conform", "--chain", "one.fbs", "one_b.fbs", "one_c.fbs"], 0, b"conforms\n")
+    refused("the last step of a chain", ["conform", "--chain", "one.fbs", "one.fbs", "two.fbs"],
+            b"one.fbs to two.fbs: 97 DefaultChanged in type 0 slot 0")
+    refused("the first step of a chain", ["conform", "--chain", "one_c.fbs", "one_b.fbs", "one_b.fbs"],
+            b"one_c.fbs to one_b.fbs: 95 SlotGone in type 0 slot 2")
+    refused("all steps of a chain", ["conform", "--chain", "one.fbs", "two.fbs", "one.fbs", "test.fbs"],
+            b"one.fbs to two.fbs: 97 DefaultChanged in type 0 slot 0\n"
+            b"two.fbs to one.fbs: 97 DefaultChanged in type 0 slot 0\n"
+            b"one.fbs to test.fbs: 91 IdentifierChanged")
+    row("moved names of a chain, without --names", ["conform", "--chain", "one_b.fbs", "moved.fbs", "one_b.fbs"], 0,
+        b"conforms\n")
+    refused("names of a chain", ["conform", "--chain", "--names", "one.fbs", "one_b.fbs", "moved.fbs"],
+            b"one_b.fbs to moved.fbs: 103 NameMoved in type 0 slot 0")
+    refused("a version that is no schema", ["conform", "--chain", "one.fbs", "empty", "two.fbs"],
+            b"empty: 21 BadRoot at 0")
+    refused("a version that is missing", ["conform", "--chain", "one.fbs", "missing", "two.fbs"],
+            b"missing: 110 FileRead")
+    refused("the steps after a version that is no schema",
+            ["conform", "--chain", "one.fbs", "empty", "one.fbs", "two.fbs"],
+            b"empty: 21 BadRoot at 0\none.fbs to two.fbs: 97 DefaultChanged in type 0 slot 0")
+    refused("the first version is no schema, nor is the last",
+            ["conform", "--chain", "empty", "one.fbs", "one_b.fbs", "not_utf8.fbs"],
+            b"empty: 21 BadRoot at 0\nnot_utf8.fbs: 1 NotUtf8 at 19")
+    refused("standard input as a version", ["conform", "--chain", "one.fbs", "-", "one.fbs"], b"-: 21 BadRoot at 0")
+    refused("a line feed in a version's path", ["conform", "--chain", "one.fbs", "line\nfeed.fbs", "one.fbs"],
+            b"one.fbs to line\\u{a}feed.fbs: 97 DefaultChanged in type 0 slot 0\n"
+            b"line\\u{a}feed.fbs to one.fbs: 97 DefaultChanged in type 0 slot 0")
+
+
+def schemas():
+    row("one schema of several", ["check", "--schemas", "one.fbs"], 0, b"ok\n")
+    row("several schemas", ["check", "--schemas", "one.fbs", "two.fbs", "structs.fbs"], 0, b"ok\n")
+    row("the same schema twice", ["check", "one.fbs", "one.fbs", "--schemas"], 0, b"ok\n")
+    refused("the first schema of several", ["check", "--schemas", "empty", "one.fbs"], b"empty: 21 BadRoot at 0")
+    refused("the last schema of several", ["check", "--schemas", "one.fbs", "two.fbs", "empty"],
+            b"empty: 21 BadRoot at 0")
+    refused("schemas after one that is refused",
+            ["check", "--schemas", "not_utf8.fbs", "one.fbs", "missing", "empty", "two.fbs"],
+            b"not_utf8.fbs: 1 NotUtf8 at 19\nmissing: 110 FileRead\nempty: 21 BadRoot at 0")
+    refused("standard input as a schema", ["check", "--schemas", "one.fbs", "-"], b"-: 21 BadRoot at 0")
+    row("a buffer is no schema", ["check", "--schemas", "one.fbs", "seven.bin"], 1, b"", None)
+
+
+def shown_alike(name, words, before, alone):
+    """A line over several schemas shows a refusal as `alone` does: after `before` where its line comes first."""
+    for form in FORMATS:
+        several = run([words[0], "--error-format", form, *words[1:]])
+        one = run([alone[0], "--error-format", form, *alone[1:]])
+        want = (before if form in ("line", "human") else b"") + one.stderr
+        good = (several.returncode, several.stdout, several.stderr) == (one.returncode, one.stdout, want)
+        tell(f"{name} in {form}", good, f"{several}, not {one}"[:600])
+
+
+def formats():
+    shown_alike("a step", ["conform", "--chain", "one.fbs", "one_b.fbs", "two.fbs"], b"one_b.fbs to two.fbs: ",
+                ["conform", "one_b.fbs", "two.fbs"])
+    shown_alike("a warning", ["conform", "--chain", "one.fbs", "one_b.fbs", "moved.fbs"], b"",
+                ["conform", "one_b.fbs", "moved.fbs"])
+    shown_alike("a version", ["conform", "--chain", "one.fbs", "not_utf8.fbs", "one.fbs"], b"not_utf8.fbs: ",
+                ["check", "not_utf8.fbs"])
+    shown_alike("a schema", ["check", "--schemas", "one.fbs", "not_utf8.fbs"], b"not_utf8.fbs: ",
+                ["check", "not_utf8.fbs"])
+    done = run(["conform", "--chain", "--error-format", "short", "one.fbs", "one_b.fbs", "two.fbs"])
+    found = [(line.partition(b":1:")[0], line.split(b"[")[-1]) for line in done.stderr.splitlines()]
+    want = [(b"two.fbs", b"97 DefaultChanged]"), (b"two.fbs", b"95 SlotGone]")]
+    tell("each finding of a step", found == want, f"{done}")
+    done = run(["conform", "--chain", "--error-format", "short", "one.fbs", "one_b.fbs", "moved.fbs"])
+    warned = [line.startswith(b"moved.fbs:1:") and b": warning: " in line for line in done.stderr.splitlines()]
+    tell("warnings of a step", (done.returncode, warned) == (0, [True, True]), f"{done}")
+    for words in (["check", "--schemas", "one.fbs", "missing"], ["conform", "--chain", "one.fbs", "missing"]):
+        done = run([words[0], "--error-format", "short", *words[1:]])
+        good = done.returncode == 1 and done.stderr.startswith(b"missing:1:1: error: ")
+        tell(f"a missing file of {words[:2]}", good and b"no other file" not in done.stderr, f"{done}")
 
 
 def compared(name, words, want):
@@ -346,6 +456,10 @@ def usage():
     misused("words that are no UTF-8", [b"check", b"\xff"])
     for line in MISUSED:
         misused(f"the line {line}", line.split())
+    for words, part in ERRORS:
+        done = run(words)
+        good = (done.returncode, done.stdout) == (2, b"") and done.stderr.startswith(b"error: " + part)
+        tell(f"the error of {words}", good, f"{done}")
 
 
 def examples():
@@ -376,6 +490,12 @@ def shown():
     tell("the example that make run shows", done.returncode == 0, f"{done}")
 
 
+PARTS = (
+    jobs, refusals, unions, comparisons, pairs, chains, schemas, formats, files, streams, nesting, usage, examples,
+    shown,
+)
+
+
 def main():
     with tempfile.TemporaryDirectory() as folder:
         os.chdir(folder)
@@ -388,7 +508,7 @@ def main():
         for name, length in (("over", LONGEST + 1), ("longest", LONGEST)):
             with open(name, "wb") as file:
                 file.truncate(length)
-        for part in (jobs, refusals, unions, comparisons, pairs, files, streams, nesting, usage, examples, shown):
+        for part in PARTS:
             try:
                 part()
             except Exception as problem:

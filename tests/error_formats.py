@@ -149,6 +149,26 @@ def breaches(tests):
     tests.tell("old places in json", others == want, f"{others}, not {want}")
 
 
+def several(tests):
+    """Each finding of a line over several schemas is at its own place: of a chain in the step's new version."""
+    write("v1.fbs", BREACHES[0])
+    write("v2.fbs", BREACHES[0])
+    write("v3.fbs", BREACHES[1])
+    write("bad.fbs", b"table T { a:ubyte = 300; } root_type T;")
+    bad = {12: ("bad.fbs", 1)}
+    step = {number: ("v3.fbs", line) for number, line in WANTED.items()}
+    for words, want in (
+        (["conform", "--chain", "v1.fbs", "v2.fbs", "v3.fbs", "bad.fbs"], {**step, **bad}),
+        (["check", "--schemas", "v1.fbs", "bad.fbs", "v3.fbs"], bad),
+    ):
+        done = Tests.run(tests, [words[0], "--error-format", "short", *words[1:]])
+        found = {it[4]: (it[0], it[1]) for it in tests.read_short(words, done.stderr)}
+        tests.tell(f"{words[1]} in short", done.returncode == 1 and found == want, f"{found}, not {want}")
+        done = Tests.run(tests, [words[0], "--error-format", "json", *words[1:]])
+        found = {it["number"]: (it["file"], it["line"]) for it in tests.read_json(words, done.stderr)}
+        tests.tell(f"{words[1]} in json", done.returncode == 1 and found == want, f"{found}, not {want}")
+
+
 def editors(tests):
     """vim's own errorformat, and the matcher for GitHub."""
     write("old.fbs", BREACHES[0])
@@ -224,7 +244,7 @@ def streams(tests):
 PARTS = [
     explain.schemas, explain.ids, explain.sizes, explain.unsupported, explain.texts, explain.values, explain.flags,
     explain.kinds, explain.changes, explain.buffers, explain.limits, explain.unnamed, explain.files,
-    breaches, editors, usage, names, streams,
+    breaches, several, editors, usage, names, streams,
 ]
 
 if __name__ == "__main__":

@@ -147,22 +147,31 @@ fn batch_layout<'j>(
     layout_of(rt, texts)
 }
 
-/// Writes the path of a file that is refused, before its line.
-fn tell_path(rt: &HostRuntime, file: &str) {
+/// Writes the path of a file that is refused, and what is between it and the line of its refusal.
+fn tell_path(rt: &HostRuntime, file: &str, after: &str) {
     if !file.chars().any(|character| character.is_control()) {
-        let _path = eprint!(rt; "{file}: ");
+        let _path = eprint!(rt; "{file}{after}");
         return;
     }
     let mut shown = String::new(rt.alloc());
     if push_escaped(&mut shown, file).is_ok() {
-        let _path = eprint!(rt; "{shown}: ");
+        let _path = eprint!(rt; "{shown}{after}");
     }
 }
 
-/// Reports why a file of a batch is refused: a line after the file's path, or findings, which have it.
-fn refuse_file(rt: &HostRuntime, format: ErrorFormat, file: &str, refusal: Refusal<'_>) {
+/// Reports why a file of several is refused: a line after the file's path, or findings, which have it.
+pub(crate) fn refuse_file(rt: &HostRuntime, format: ErrorFormat, file: &str, refusal: Refusal<'_>) {
     if matches!(format, ErrorFormat::Line | ErrorFormat::Human) {
-        tell_path(rt, file);
+        tell_path(rt, file, ": ");
+    }
+    let _status = refuse(rt, format, refusal);
+}
+
+/// Reports why a step of a chain is refused: a line after the paths of its versions, or findings, which have them.
+pub(crate) fn refuse_step(rt: &HostRuntime, format: ErrorFormat, refusal: Refusal<'_>) {
+    if matches!(format, ErrorFormat::Line | ErrorFormat::Human) {
+        tell_path(rt, refusal.texts.schema.path, " to ");
+        tell_path(rt, refusal.texts.input.path, ": ");
     }
     let _status = refuse(rt, format, refusal);
 }
@@ -196,12 +205,12 @@ fn do_files<'j>(
         }
     }
     progress.clear(rt);
-    tell_end(rt, task.verb, status)
+    tell_end(rt, end_of(task.verb, status))
 }
 
 /// Prints what a run over many inputs ends with, and returns the status.
-pub(crate) fn tell_end(rt: &HostRuntime, verb: Verb, status: RunStatus) -> u8 {
-    match end_of(verb, status) {
+pub(crate) fn tell_end(rt: &HostRuntime, end: Result<&'static str, u8>) -> u8 {
+    match end {
         Ok(text) => tell(rt, Ok(text)),
         Err(code) => code,
     }

@@ -9,6 +9,7 @@ mod hints;
 mod inspected;
 mod messages;
 mod program_name;
+mod schemas;
 mod terminal;
 
 use crate::batches::do_batch;
@@ -18,12 +19,13 @@ use crate::hints::hint_for;
 use crate::inspected::inspect;
 use crate::messages::do_stream;
 use crate::program_name::{eprint_bad_argument, eprint_hint, print_error};
+use crate::schemas::{check_schemas, do_chain};
 use crate::terminal::error_format;
 use clap::Error;
 use clap::error::ErrorKind;
 use flatc_cli::{Comparison, ErrorFormat, Inputs, Output, Request, Task, Verb, request_of};
 use flatc_files::{Reasoned, Texts, write_out};
-use flatc_jobs::{Flags, compared, encoded, limits, verdict_of, verified};
+use flatc_jobs::{Flags, compared, conforms_line, encoded, limits, verdict_of, verified};
 use flatc_tool::command::report_noted;
 use flatc_tool::{Layout, Noted, ToolFault, decode_to, schema_of, to_binary, to_json};
 use std::alloc::Global;
@@ -169,7 +171,7 @@ fn conform_files<'j>(
     let old = texts.schema.bytes.as_slice();
     let new = texts.input.bytes.as_slice();
     compared(rt.alloc(), old, new, comparison.names)?;
-    Ok("conforms\n")
+    Ok(conforms_line())
 }
 
 /// OUT of a line, or the name of standard output.
@@ -298,6 +300,10 @@ fn do_request(rt: &HostRuntime, request: &Request, words: &[String]) -> u8 {
         Request::Do(task, format) => do_task(rt, task, error_format(rt, *format), words),
         Request::Conform(comparison, format) => {
             do_conform(rt, comparison, error_format(rt, *format))
+        }
+        Request::ConformChain(chain, format) => do_chain(rt, chain, error_format(rt, *format)),
+        Request::CheckSchemas(schemas, format) => {
+            check_schemas(rt, schemas.as_slice(), error_format(rt, *format))
         }
         Request::Inspect(inspection, format) => {
             inspect(rt, inspection, error_format(rt, *format))

@@ -7,7 +7,7 @@ use crate::{layout_of, out_path};
 use fb_explain_records::StreamMessage;
 use flatc_cli::{ErrorFormat, Task, Verb};
 use flatc_files::{Content, RunStatus, Texts, Window, write_out};
-use flatc_jobs::{Flags, Outcome, next_output};
+use flatc_jobs::{Flags, Outcome, end_of, next_output};
 use flatc_tool::{Layout, ToolFault, WriteFault};
 use std::io::{self, BufWriter, Write};
 
@@ -300,6 +300,6 @@ pub(crate) fn do_stream(
             let refusal = Refusal::of_files(fault, stream.flags(), &run.texts);
             refuse(rt, format, refusal)
         }
-        _ => tell_end(rt, task.verb, run.status),
+        _ => tell_end(rt, end_of(task.verb, run.status)),
     }
 }

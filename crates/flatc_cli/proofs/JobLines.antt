@@ -1,7 +1,7 @@
 -- Lines that are none of the four over one file each.
 use Rattle.std.proofs.Common.{◌≡◌, ◌≢◌, ◌≤◌, ◌||◌, if◌then◌else◌, ◌&&◌, Bool, true, false, not, List, ◌++◌, []}
-use Rattle.std.proofs.Common.{Option, Some, None, length, refl, ap, nat_lt, codes, String, string_bytes}
-use Rattle.std.proofs.Common.{append-nil, bytes_eq, is_some, map, option_map, rules, ◌∙◌}
+use Rattle.std.proofs.Common.{Vec, Option, Some, None, length, refl, ap, nat_lt, codes, String, string_bytes}
+use Rattle.std.proofs.Common.{append-nil, bytes_eq, is_some, map, option_map, ◌∙◌}
 use Rattle.std.specs.Option.{option_map_or}
 use Rattle.std.proofs.lemmas.Bool.{le-ltb}
 use Rattle.std.proofs.lemmas.List.{length-map}
@@ -9,7 +9,7 @@ use Rattle.clap.specs.Words.{Row, Text, first_of}
 use Rattle.std.specs.declared.alloc.Global.{Global}
 use Rattle.flatc_cli.specs.Lines.{is_set, format_in, has_dir, paths_in, is_line_of, is_line, is_streamed}
 use Rattle.flatc_cli.specs.Lines.{AreFiles, Fit, IsVerb, IsInspection, IsRequestOf}
-use Rattle.flatc_cli.specs.Jobs.{is_single, has_no_format, has_no_name, is_of_one, is_job_of, is_job_line}
+use Rattle.flatc_cli.specs.Jobs.{is_single, has_no_format, has_no_name, is_no_list, is_of_one, is_job_of, is_job_line}
 use Rattle.flatc_cli.specs.Requests.{usual_form, format_named}
 use Rattle.flatc_cli.specs.declared.request.Verb.{Verb}
 use Rattle.flatc_cli.specs.declared.request.Verb.TheVariants.{Binary, Json, Check}
@@ -20,11 +20,12 @@ use Rattle.flatc_cli.specs.declared.request.Output.TheVariants.{Standard, File, 
 use Rattle.flatc_cli.specs.declared.request.Form.{Form}
 use Rattle.flatc_cli.specs.declared.request.Task.{Task}
 use Rattle.flatc_cli.specs.declared.request.Comparison.{Comparison}
+use Rattle.flatc_cli.specs.declared.request.Chain.{Chain}
 use Rattle.flatc_cli.specs.declared.request.Inspection.{Inspection}
 use Rattle.flatc_cli.specs.declared.request.Inspection.TheVariants.{Bytes, Header}
 use Rattle.flatc_cli.specs.declared.request.ErrorFormat.{ErrorFormat}
 use Rattle.flatc_cli.specs.declared.request.ErrorFormat.TheVariants.{Line, Human}
-use Rattle.flatc_cli.specs.declared.request.Request.TheVariants.{Do, Conform, Inspect, Explain}
+use Rattle.flatc_cli.specs.declared.request.Request.TheVariants.{Do, Conform, ConformChain, CheckSchemas, Inspect, Explain}
 
 and_no : (a b : Bool) → b ≡ false → (a && b) ≡ false
 and_no true b fails = fails
@@ -40,7 +41,8 @@ no_word false true name format same = refl
 no_word false false (Some name) format same = refl
 no_word false false None format same = cc
 
-not_plain : (name : Text) (rows : List Row) → (has_no_format rows && (has_no_name rows && is_of_one name rows)) ≡ false
+not_plain : (name : Text) (rows : List Row)
+    → (has_no_format rows && (has_no_name rows && (is_no_list rows && is_of_one name rows))) ≡ false
     → is_job_of name rows ≡ false
 not_plain name rows fails =
     and_no (is_line_of name rows) _ (and_no (not (bytes_eq name (codes "explain"))) _
@@ -53,7 +55,7 @@ and_first false b fails = refl
 formatted : (name : Text) (rows : List Row) (format : ErrorFormat) → Some format ≡ format_in rows
     → is_job_of name rows ≡ false
 formatted name rows format same =
-    not_plain name rows (and_first (has_no_format rows) (has_no_name rows && is_of_one name rows)
+    not_plain name rows (and_first (has_no_format rows) (has_no_name rows && (is_no_list rows && is_of_one name rows))
     (no_word (is_set (codes "terse") rows) (is_set (codes "explain") rows) (first_of (codes "FORMAT") rows) format
     same))
 
@@ -74,14 +76,44 @@ pub named_is_no_job : (line : Option (Text × List Row)) (comparison : Compariso
     → comparison.old_name ≡ Some name → IsRequestOf line (Conform comparison None) → is_job_line line ≡ false
 named_is_no_job None comparison name same is = absurd is
 named_is_no_job (Some p) comparison name same is =
-    not_plain p.0 p.1 (and_no (has_no_format p.1) _ (and_first (has_no_name p.1) (is_of_one p.0 p.1)
+    not_plain p.0 p.1 (and_no (has_no_format p.1) _ (and_first (has_no_name p.1) (is_no_list p.1 && is_of_one p.0 p.1)
     (named p.1 (string_bytes name) (is.0.4 ∙ ap (option_map string_bytes) same))))
+
+-- ---- a chain, or a list of schemas
+
+no_list : (chain schemas : Bool) → (chain || schemas) ≡ true → (not chain && not schemas) ≡ false
+no_list true schemas is = refl
+no_list false true is = refl
+no_list false false is = cc
+
+listed : (name : Text) (rows : List Row) → (is_set (codes "chain") rows || is_set (codes "schemas") rows) ≡ true
+    → is_job_of name rows ≡ false
+listed name rows is =
+    not_plain name rows (and_no (has_no_format rows) _ (and_no (has_no_name rows) _
+    (and_first (is_no_list rows) (is_of_one name rows)
+    (no_list (is_set (codes "chain") rows) (is_set (codes "schemas") rows) is))))
+
+or_second : (a b : Bool) → b ≡ true → (a || b) ≡ true
+or_second true b is = refl
+or_second false b is = is
+
+pub chain_is_no_job : (line : Option (Text × List Row)) (chain : Chain) (format : Option ErrorFormat)
+    → IsRequestOf line (ConformChain chain format) → is_job_line line ≡ false
+chain_is_no_job None chain format is = absurd is
+chain_is_no_job (Some p) chain format is = listed p.0 p.1 (rw is.0.1 refl)
+
+pub schemas_are_no_job : (line : Option (Text × List Row)) (schemas : Vec (String Global) Global)
+    (format : Option ErrorFormat) → IsRequestOf line (CheckSchemas schemas format) → is_job_line line ≡ false
+schemas_are_no_job None schemas format is = absurd is
+schemas_are_no_job (Some p) schemas format is =
+    listed p.0 p.1 (or_second (is_set (codes "chain") p.1) (is_set (codes "schemas") p.1) is.0.1)
 
 -- ---- a stream, a form, a directory, or more than one file
 
 not_one : (name : Text) (rows : List Row) → is_of_one name rows ≡ false → is_job_of name rows ≡ false
 not_one name rows fails =
-    not_plain name rows (and_no (has_no_format rows) _ (and_no (has_no_name rows) (is_of_one name rows) fails))
+    not_plain name rows (and_no (has_no_format rows) _ (and_no (has_no_name rows) _
+    (and_no (is_no_list rows) (is_of_one name rows) fails)))
 
 no_form : (lines prefixed compact rest : Bool) (form : Form)
     → form ≡ record { size_prefixed = lines || prefixed; compact = lines || compact } → form ≢ usual_form

@@ -3,7 +3,7 @@ use Rattle.std.proofs.Common.{◌≡◌, if◌then◌else◌, ◌&&◌, ◌∷�
 use Rattle.std.proofs.Common.{codes, is_some, String, string_bytes}
 use Rattle.std.specs.declared.alloc.Global.{Global}
 use Rattle.clap.specs.Words.{Row, Text, first_of}
-use Rattle.flatc_cli.specs.Lines.{Fit, IsOneFile, are_allowed, has_dir, is_format_allowed, is_header_allowed, is_set}
+use Rattle.flatc_cli.specs.Lines.{Fit, IsOneFile, are_allowed, are_schemas_allowed, has_dir, is_set}
 use Rattle.flatc_cli.specs.Lines.{is_stream_allowed, is_streamed, paths_in}
 use Rattle.flatc_cli.specs.Requests.{input_paths, output_paths}
 use Rattle.flatc_cli.specs.declared.request.Verb.TheVariants.{Binary, Json}
@@ -50,6 +50,10 @@ and_left : (a b : Bool) → (a && b) ≡ true → a ≡ true
 and_left true b both = refl
 and_left false b both = both
 
+and_right : (a b : Bool) → (a && b) ≡ true → b ≡ true
+and_right true b both = both
+and_right false b both = cc
+
 pub stream_allowed : (rows : List Row) → are_allowed rows ≡ true → is_stream_allowed rows ≡ true
 stream_allowed rows allowed =
-    and_left (is_stream_allowed rows) (is_header_allowed rows && is_format_allowed rows) allowed
+    and_left (is_stream_allowed rows) _ (and_right (are_schemas_allowed rows) _ allowed)

@@ -62,12 +62,13 @@ abbrev pub json_app : App
 json_app = with_files json_flags (paths_rule (codes "BIN") true)
 
 abbrev pub check_app : App
-check_app = with_rule (with_path (with_formats (with_streaming (with_flag
-    (with_flag (new_app (codes "check")) (codes "raw-binary")) (codes "size-prefixed")))) (codes "SCHEMA"))
-    (paths_rule (codes "BIN") false)
+check_app = with_rule (with_path (with_formats (with_flag (with_streaming (with_flag
+    (with_flag (new_app (codes "check")) (codes "raw-binary")) (codes "size-prefixed"))) (codes "schemas")))
+    (codes "SCHEMA")) (paths_rule (codes "BIN") false)
 
 abbrev pub conform_app : App
-conform_app = with_path (with_path (with_formats (with_rule (with_flag (new_app (codes "conform")) (codes "names"))
+conform_app = with_paths (with_path (with_formats (with_rule (with_flag
+    (with_flag (new_app (codes "conform")) (codes "names")) (codes "chain"))
     (value_rule (codes "NAME") (codes "old-name")))) (codes "OLD")) (codes "NEW")
 
 -- the schema's path and the buffer's, or with `--header` the buffer's alone

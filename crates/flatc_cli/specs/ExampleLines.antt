@@ -1,5 +1,5 @@
 -- Lines of words that clap takes, and what they ask for.
-use Rattle.std.specs.Prelude.{◌≡◌, true, false, refl, List, [], ◌∷◌, None, Some, codes, String, string_bytes}
+use Rattle.std.specs.Prelude.{◌≡◌, true, false, refl, List, [], ◌∷◌, None, Some, Vec, codes, map, String, string_bytes}
 use Rattle.std.specs.declared.alloc.Global.{Global}
 use Rattle.clap.specs.Words.{Text, takes, subcommand_of}
 use Rattle.clap.specs.Walk.{walked}
@@ -14,7 +14,7 @@ use Rattle.flatc_cli.specs.declared.request.Inputs.TheVariants.{One}
 use Rattle.flatc_cli.specs.declared.request.Output.TheVariants.{File}
 use Rattle.flatc_cli.specs.declared.request.ErrorFormat.TheVariants.{Line, Human, Short}
 use Rattle.flatc_cli.specs.declared.request.Inspection.TheVariants.{Header}
-use Rattle.flatc_cli.specs.declared.request.Request.TheVariants.{Do, Conform, Inspect, Explain}
+use Rattle.flatc_cli.specs.declared.request.Request.TheVariants.{Do, Conform, ConformChain, CheckSchemas, Inspect, Explain}
 
 -- flatc check s
 abbrev pub check_line : List Text
@@ -28,7 +28,7 @@ pub check_is_a_job : (s : String Global) → string_bytes s ≡ codes "s"
     → IsRequestOf (subcommand_of flatc_app check_line) (request_of_job (Check s None false))
 unfolding walked
 check_is_a_job s same =
-    (((refl, refl), cc, record { fit = tt; paths = refl; directory = tt; streamed = refl }, refl), refl)
+    (((refl, refl, refl), cc, record { fit = tt; paths = refl; directory = tt; streamed = refl }, refl), refl)
 
 -- flatc binary --unknown-json --explain s j o
 abbrev pub binary_line : List Text
@@ -63,7 +63,7 @@ pub names_are_asked_for : (a b : String Global) → string_bytes a ≡ codes "a"
       old_name = None;
     }) (Some Line))
 unfolding walked
-names_are_asked_for a b old new = ((refl, cc, cc, refl, refl), refl)
+names_are_asked_for a b old new = ((refl, cc, cc, refl, refl, refl), refl)
 
 -- flatc explain
 abbrev pub list_line : List Text
@@ -170,7 +170,7 @@ pub format_is_asked_for : (a b n : String Global) → string_bytes a ≡ codes "
       old_name = Some n;
     }) (Some Short))
 unfolding walked format_named
-format_is_asked_for a b n old new name = ((refl, cc, cc, refl, cc), refl)
+format_is_asked_for a b n old new name = ((refl, cc, cc, refl, cc, refl), refl)
 
 pub format_is_no_job : is_job_line (subcommand_of flatc_app format_line) ≡ false
 unfolding walked format_named
@@ -191,3 +191,70 @@ two_formats_line = codes "check" ∷ codes "--error-format=line" ∷ codes "--te
 pub two_formats_are_no_line : is_line (subcommand_of flatc_app two_formats_line) ≡ false
 unfolding walked format_named
 two_formats_are_no_line = refl
+
+-- flatc conform --names --chain a b c
+abbrev pub chain_line : List Text
+chain_line = codes "conform" ∷ codes "--names" ∷ codes "--chain" ∷ codes "a" ∷ codes "b" ∷ codes "c" ∷ []
+
+pub chain_is_taken : takes flatc_app chain_line ≡ true
+unfolding walked walk_passes
+chain_is_taken = refl
+
+pub chain_is_asked_for : (versions : Vec (String Global) Global)
+    → map string_bytes versions.items ≡ codes "a" ∷ codes "b" ∷ codes "c" ∷ []
+    → IsRequestOf (subcommand_of flatc_app chain_line) (ConformChain (record {
+      versions = versions;
+      names = true;
+    }) None)
+unfolding walked
+chain_is_asked_for versions are = ((refl, refl, are, refl), refl)
+
+pub chain_is_a_line : is_line (subcommand_of flatc_app chain_line) ≡ true
+unfolding walked
+chain_is_a_line = refl
+
+pub chain_is_no_job : is_job_line (subcommand_of flatc_app chain_line) ≡ false
+unfolding walked
+chain_is_no_job = refl
+
+-- flatc conform a b c, which clap takes
+abbrev pub third_line : List Text
+third_line = codes "conform" ∷ codes "a" ∷ codes "b" ∷ codes "c" ∷ []
+
+pub third_is_no_line : is_line (subcommand_of flatc_app third_line) ≡ false
+unfolding walked
+third_is_no_line = refl
+
+-- flatc conform --chain --old-name n a b, which clap takes
+abbrev pub named_chain_line : List Text
+named_chain_line = codes "conform" ∷ codes "--chain" ∷ codes "--old-name" ∷ codes "n" ∷ codes "a" ∷ codes "b" ∷ []
+
+pub named_chain_is_no_line : is_line (subcommand_of flatc_app named_chain_line) ≡ false
+unfolding walked
+named_chain_is_no_line = refl
+
+-- flatc check --schemas a b
+abbrev pub schemas_line : List Text
+schemas_line = codes "check" ∷ codes "--schemas" ∷ codes "a" ∷ codes "b" ∷ []
+
+pub schemas_are_asked_for : (schemas : Vec (String Global) Global)
+    → map string_bytes schemas.items ≡ codes "a" ∷ codes "b" ∷ []
+    → IsRequestOf (subcommand_of flatc_app schemas_line) (CheckSchemas schemas None)
+unfolding walked
+schemas_are_asked_for schemas are = ((refl, refl, are), refl)
+
+pub schemas_are_a_line : is_line (subcommand_of flatc_app schemas_line) ≡ true
+unfolding walked
+schemas_are_a_line = refl
+
+pub schemas_are_no_job : is_job_line (subcommand_of flatc_app schemas_line) ≡ false
+unfolding walked
+schemas_are_no_job = refl
+
+-- flatc check --schemas --raw-binary a, which clap takes
+abbrev pub raw_schemas_line : List Text
+raw_schemas_line = codes "check" ∷ codes "--schemas" ∷ codes "--raw-binary" ∷ codes "a" ∷ []
+
+pub raw_schemas_are_no_line : is_line (subcommand_of flatc_app raw_schemas_line) ≡ false
+unfolding walked
+raw_schemas_are_no_line = refl

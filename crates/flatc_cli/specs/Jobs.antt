@@ -62,6 +62,10 @@ has_no_format rows = not (is_set (codes "terse") rows) && (not (is_set (codes "e
 abbrev pub has_no_name : List Row → Bool
 has_no_name rows = not (is_some (first_of (codes "NAME") rows))
 
+-- two schemas that are compared at most, and one that is checked
+abbrev pub is_no_list : List Row → Bool
+is_no_list rows = not (is_set (codes "chain") rows) && not (is_set (codes "schemas") rows)
+
 -- no word on streams and forms, no directory, and one buffer at most
 abbrev pub is_of_one : Text → List Row → Bool
 is_of_one name rows = not (is_streamed rows) && (not (is_set (codes "size-prefixed") rows)
@@ -70,7 +74,8 @@ is_of_one name rows = not (is_streamed rows) && (not (is_set (codes "size-prefix
 -- one of the four lines over one file each, without a word on error formats, names, streams and forms
 abbrev pub is_job_of : Text → List Row → Bool
 is_job_of name rows = is_line_of name rows && (not (bytes_eq name (codes "explain"))
-    && (not (bytes_eq name (codes "inspect")) && (has_no_format rows && (has_no_name rows && is_of_one name rows))))
+    && (not (bytes_eq name (codes "inspect")) && (has_no_format rows && (has_no_name rows && (is_no_list rows
+    && is_of_one name rows)))))
 
 abbrev pub is_job_line : Option (Text × List Row) → Bool
 is_job_line None = false

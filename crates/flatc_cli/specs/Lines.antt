@@ -1,7 +1,7 @@
 -- What the matches of a command line ask for.
 use Rattle.std.specs.Prelude.{◌≡◌, ◌==◌, ◌&&◌, ◌||◌, ◌≤◌, ◌++◌, ⊤, Bool, true, false, not, List, [], ◌∷◌, Option}
 use Rattle.std.specs.Prelude.{Some, None}
-use Rattle.std.specs.Prelude.{codes, String, string_bytes, length, option_map, take, unwrap_or, is_some}
+use Rattle.std.specs.Prelude.{Vec, codes, String, string_bytes, length, map, option_map, take, unwrap_or, is_some}
 use Rattle.std.specs.Prelude.{if◌then◌else◌}
 use Rattle.std.specs.Option.{option_map_or}
 use Rattle.std.specs.Str.{bytes_eq}
@@ -18,12 +18,13 @@ use Rattle.flatc_cli.specs.declared.request.Output.TheVariants.{Standard, File, 
 use Rattle.flatc_cli.specs.declared.request.Form.{Form}
 use Rattle.flatc_cli.specs.declared.request.Task.{Task}
 use Rattle.flatc_cli.specs.declared.request.Comparison.{Comparison}
+use Rattle.flatc_cli.specs.declared.request.Chain.{Chain}
 use Rattle.flatc_cli.specs.declared.request.Inspection.{Inspection}
 use Rattle.flatc_cli.specs.declared.request.Inspection.TheVariants.{Bytes, Header}
 use Rattle.flatc_cli.specs.declared.request.ErrorFormat.{ErrorFormat}
 use Rattle.flatc_cli.specs.declared.request.ErrorFormat.TheVariants.{Line, Human}
 use Rattle.flatc_cli.specs.declared.request.Request.{Request}
-use Rattle.flatc_cli.specs.declared.request.Request.TheVariants.{Do, Conform, Inspect, Explain}
+use Rattle.flatc_cli.specs.declared.request.Request.TheVariants.{Do, Conform, ConformChain, CheckSchemas, Inspect, Explain}
 
 -- ---- what the rows have
 
@@ -49,6 +50,7 @@ IsVerb name rows (Binary unknown) = (name ≡ codes "binary") × (unknown ≡ is
 IsVerb name rows (Json raw defaults) = (name ≡ codes "json")
     × (raw ≡ is_set (codes "raw-binary") rows) × (defaults ≡ is_set (codes "defaults-json") rows)
 IsVerb name rows (Check raw) = (name ≡ codes "check") × (raw ≡ is_set (codes "raw-binary") rows)
+    × (is_set (codes "schemas") rows ≡ false)
 
 -- the id of the paths after the schema's
 abbrev pub files_id : Verb → Text
@@ -106,6 +108,21 @@ IsComparison name rows comparison = (name ≡ codes "conform")
     × IsPath (codes "OLD") rows comparison.old × IsPath (codes "NEW") rows comparison.new
     × (comparison.names ≡ is_set (codes "names") rows)
     × (first_of (codes "NAME") rows ≡ option_map string_bytes comparison.old_name)
+    × (is_set (codes "chain") rows ≡ false)
+
+abbrev pub first_text : Text → List Row → Text
+first_text id rows = unwrap_or (first_of id rows) []
+
+-- with `--chain` all paths are versions, in the order of the words
+abbrev pub IsChain : Text → List Row → Chain → Type 0
+IsChain name rows chain = (name ≡ codes "conform") × (is_set (codes "chain") rows ≡ true)
+    × (map string_bytes chain.versions.items ≡ first_text (codes "OLD") rows ∷ paths_in (codes "NEW") rows)
+    × (chain.names ≡ is_set (codes "names") rows)
+
+-- with `--schemas` all paths are schemas, in the order of the words
+abbrev pub AreSchemas : Text → List Row → Vec (String Global) Global → Type 0
+AreSchemas name rows schemas = (name ≡ codes "check") × (is_set (codes "schemas") rows ≡ true)
+    × (map string_bytes schemas.items ≡ first_text (codes "SCHEMA") rows ∷ paths_in (codes "BIN") rows)
 
 abbrev pub IsInspection : Text → List Row → Inspection → Type 0
 IsInspection name rows (Bytes schema bin raw size_prefixed) = (name ≡ codes "inspect")
@@ -122,11 +139,13 @@ format_in rows =
     else if is_set (codes "explain") rows then Some Human
     else option_map_or format_named (first_of (codes "FORMAT") rows) None
 
--- a task, a comparison or an inspection, and the format of its refusals if the line has one, or the number of a refusal
--- if the line has one
+-- a task, a comparison, a chain, schemas or an inspection, and the format of its refusals if the line has one, or the
+-- number of a refusal if the line has one
 abbrev pub IsRequest : Text → List Row → Request → Type 0
 IsRequest name rows (Do task format) = IsTask name rows task × (format ≡ format_in rows)
 IsRequest name rows (Conform comparison format) = IsComparison name rows comparison × (format ≡ format_in rows)
+IsRequest name rows (ConformChain chain format) = IsChain name rows chain × (format ≡ format_in rows)
+IsRequest name rows (CheckSchemas schemas format) = AreSchemas name rows schemas × (format ≡ format_in rows)
 IsRequest name rows (Inspect inspection format) = IsInspection name rows inspection × (format ≡ format_in rows)
 IsRequest name rows (Explain number) = (name ≡ codes "explain")
     × (first_of (codes "NUMBER") rows ≡ option_map string_bytes number)
@@ -157,22 +176,31 @@ abbrev pub is_format_allowed : List Row → Bool
 is_format_allowed rows = option_map_or (λ name. is_some (format_named name) && (not (is_set (codes "explain") rows)
     && not (is_set (codes "terse") rows))) (first_of (codes "FORMAT") rows) true
 
+-- of a chain no version is the old schema alone
+abbrev pub is_chain_allowed : List Row → Bool
+is_chain_allowed rows = not (is_set (codes "chain") rows && is_some (first_of (codes "NAME") rows))
+
+-- a schema is no buffer, so no word on buffers goes with `--schemas`
+abbrev pub are_schemas_allowed : List Row → Bool
+are_schemas_allowed rows = not (is_set (codes "schemas") rows) || (not (is_set (codes "raw-binary") rows)
+    && (not (is_set (codes "size-prefixed") rows) && (not (is_streamed rows)
+    && not (is_set (codes "keep-going") rows))))
+
 -- no flag rules out another, or lacks another, and each value is one of those that its flag takes
 abbrev pub are_allowed : List Row → Bool
-are_allowed rows = is_stream_allowed rows && (is_header_allowed rows && is_format_allowed rows)
+are_allowed rows = are_schemas_allowed rows && (is_stream_allowed rows && (is_header_allowed rows
+    && (is_chain_allowed rows && is_format_allowed rows)))
 
--- as many paths as the line takes: without a directory JSON and OUT, or one BIN; of a stream one BIN; with `--header`
--- one, else two
+-- as many paths as the line takes: without a directory JSON and OUT, or one BIN; of a stream one BIN; without `--chain`
+-- one NEW; with `--header` one, else two
 abbrev pub is_counted : Text → List Row → Bool
 is_counted name rows = if bytes_eq name (codes "binary") then has_dir rows || length (paths_in (codes "JSON") rows) == 2
     else if bytes_eq name (codes "json") then has_dir rows || length (paths_in (codes "BIN") rows) == 1
     else if bytes_eq name (codes "check") then not (is_streamed rows) || length (paths_in (codes "BIN") rows) == 1
+    else if bytes_eq name (codes "conform") then is_set (codes "chain") rows || length (paths_in (codes "NEW") rows) == 1
     else if bytes_eq name (codes "inspect") then length (paths_in (codes "FILE") rows) == (if is_set (codes "header")
     rows then 1 else 2)
     else true
-
-abbrev pub first_text : Text → List Row → Text
-first_text id rows = unwrap_or (first_of id rows) []
 
 -- the paths that are read: not OUT, the last of a line without a directory
 abbrev pub inputs_in : Text → List Row → List Text
@@ -182,7 +210,7 @@ inputs_in name rows =
     (paths_in (codes "JSON") rows))
     else if bytes_eq name (codes "json") then first_text (codes "SCHEMA") rows ∷ paths_in (codes "BIN") rows
     else if bytes_eq name (codes "check") then first_text (codes "SCHEMA") rows ∷ paths_in (codes "BIN") rows
-    else if bytes_eq name (codes "conform") then first_text (codes "OLD") rows ∷ first_text (codes "NEW") rows ∷ []
+    else if bytes_eq name (codes "conform") then first_text (codes "OLD") rows ∷ paths_in (codes "NEW") rows
     else if bytes_eq name (codes "inspect") then paths_in (codes "FILE") rows
     else []
 

@@ -19,7 +19,11 @@ const JSON_USAGE: &str = "flatc json [OPTIONS] <SCHEMA> <BIN>
        flatc json [OPTIONS] --lines <SCHEMA> <BIN>";
 
 const CHECK_USAGE: &str = "flatc check [OPTIONS] <SCHEMA> [BIN]...
-       flatc check [OPTIONS] --lines <SCHEMA> <BIN>";
+       flatc check [OPTIONS] --lines <SCHEMA> <BIN>
+       flatc check [OPTIONS] --schemas <SCHEMA>...";
+
+const CONFORM_USAGE: &str = "flatc conform [OPTIONS] <OLD> <NEW>
+       flatc conform [OPTIONS] --chain <OLD> <NEW>...";
 
 const INSPECT_USAGE: &str = "flatc inspect [OPTIONS] <SCHEMA> <BIN>
        flatc inspect [OPTIONS] --header <BIN>";
@@ -155,21 +159,27 @@ pub(crate) const CHECK: &JobWords = &JobWords {
         PREFIXED,
         Argument::Flag("lines", "Check each buffer of a size-prefixed stream"),
         GOING,
+        Argument::Flag("schemas", "Check each path as a schema"),
         EXPLAIN,
         TERSE,
         FORMAT,
         SCHEMA,
-        Argument::Paths("BIN", false, "The buffer, or several"),
+        Argument::Paths(
+            "BIN",
+            false,
+            "The buffer, or several; with --schemas further schemas",
+        ),
     ],
 };
 
 pub(crate) const CONFORM: &JobWords = &JobWords {
     name: "conform",
     about: "Check that a new schema reads data of an old one",
-    usage: None,
+    usage: Some(CONFORM_USAGE),
     notes: Some(DASH),
     arguments: &[
         NAMES,
+        Argument::Flag("chain", "Compare each version with the next, oldest first"),
         Argument::Value(
             "NAME",
             "old-name",
@@ -179,7 +189,11 @@ pub(crate) const CONFORM: &JobWords = &JobWords {
         TERSE,
         FORMAT,
         Argument::Path("OLD", true, "The old schema text"),
-        Argument::Path("NEW", true, "The new schema text"),
+        Argument::Paths(
+            "NEW",
+            true,
+            "The new schema text; with --chain all later versions",
+        ),
     ],
 };
 

@@ -2,7 +2,8 @@
 ghost use Rattle.std.specs.Prelude.{◌≡◌, OnOk, OnErr, true, false};
 ghost use Rattle.clap.specs.Words.{found_of, rows_of};
 ghost use Rattle.flatc_cli.specs.Lines.{is_streamed, format_in, form_in};
-ghost use Rattle.flatc_cli.specs.Lines.{is_stream_allowed, is_header_allowed, is_format_allowed, are_allowed};
+ghost use Rattle.flatc_cli.specs.Lines.{is_stream_allowed, is_header_allowed, is_format_allowed, is_chain_allowed};
+ghost use Rattle.flatc_cli.specs.Lines.{are_schemas_allowed, are_allowed};
 
 use crate::matches::{flag_of, text_of};
 use crate::misuse::Misuse;
@@ -78,6 +79,38 @@ fn check_header_flags(found: &ArgMatches<'_>) -> Result<(), Misuse<'static>>
     Ok(())
 }
 
+fn check_chain_flags(found: &ArgMatches<'_>) -> Result<(), Misuse<'static>>
+    ensures ok { OnOk result (is_chain_allowed (rows_of (found_of found.now)) ≡ true) }
+    ensures refusal { OnErr result (is_chain_allowed (rows_of (found_of found.now)) ≡ false) }
+{
+    if flag_of(found, "chain") && text_of(found, "NAME").is_some() {
+        return Err(Misuse::Conflict("--chain", "--old-name <NAME>"));
+    }
+    Ok(())
+}
+
+fn check_schemas_flags(found: &ArgMatches<'_>) -> Result<(), Misuse<'static>>
+    ensures ok { OnOk result (are_schemas_allowed (rows_of (found_of found.now)) ≡ true) }
+    ensures refusal { OnErr result (are_schemas_allowed (rows_of (found_of found.now)) ≡ false) }
+{
+    if !flag_of(found, "schemas") {
+        return Ok(());
+    }
+    if flag_of(found, "raw-binary") {
+        return Err(Misuse::Conflict("--schemas", "--raw-binary"));
+    }
+    if flag_of(found, "size-prefixed") {
+        return Err(Misuse::Conflict("--schemas", "--size-prefixed"));
+    }
+    if is_streamed(found) {
+        return Err(Misuse::Conflict("--schemas", "--lines"));
+    }
+    if flag_of(found, "keep-going") {
+        return Err(Misuse::Conflict("--schemas", "--keep-going"));
+    }
+    Ok(())
+}
+
 fn check_format_flags<'a>(found: &ArgMatches<'a>) -> Result<(), Misuse<'a>>
     ensures ok { OnOk result (is_format_allowed (rows_of (found_of found.now)) ≡ true) }
     ensures refusal { OnErr result (is_format_allowed (rows_of (found_of found.now)) ≡ false) }
@@ -102,7 +135,9 @@ pub(crate) fn check_flags<'a>(found: &ArgMatches<'a>) -> Result<(), Misuse<'a>>
     ensures ok { OnOk result (are_allowed (rows_of (found_of found.now)) ≡ true) }
     ensures refusal { OnErr result (are_allowed (rows_of (found_of found.now)) ≡ false) }
 {
+    check_schemas_flags(found)?;
     check_stream_flags(found)?;
     check_header_flags(found)?;
+    check_chain_flags(found)?;
     check_format_flags(found)
 }

@@ -3,7 +3,7 @@ ghost use Rattle.std.specs.Prelude.{◌≡◌, IfOk, IfErr, OnOk, true, false, c
 ghost use Rattle.clap.specs.Words.{found_of, rows_of};
 ghost use Rattle.flatc_cli.specs.Lines.{IsInspection, has_inputs, is_set};
 
-use crate::matches::{check_read_once, flag_of, only_bin, two_paths};
+use crate::matches::{check_read_once, flag_of, only_path, two_paths};
 use crate::misuse::Misuse;
 use crate::request::Inspection;
 use clap::ArgMatches;
@@ -35,7 +35,7 @@ fn header_of<'a>(alloc: Global, found: &ArgMatches<'a>) -> Result<Inspection, Mi
     ensures refusal { IfErr result (λ m.
         has_inputs (codes "inspect") (rows_of (found_of found.now)) ≡ true → m ≡ Misuse.Memory) }
 {
-    let bin = only_bin(found, "FILE")?;
+    let bin = only_path(found, "FILE", "<BIN>")?;
     Ok(Inspection::Header {
         bin: String::from_str(alloc, bin)?,
     })

@@ -112,6 +112,8 @@ fn job_of_request(request: Request) -> Option<Job>
         Request::Conform(comparison, None) => job_of_comparison(comparison),
         Request::Do(_, Some(_)) => None,
         Request::Conform(_, Some(_)) => None,
+        Request::ConformChain(_, _) => None,
+        Request::CheckSchemas(_, _) => None,
         Request::Inspect(_, _) => None,
         Request::Explain(_) => None,
     }

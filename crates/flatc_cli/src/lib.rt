@@ -16,4 +16,6 @@ pub use commands::VERSION;
 pub use job::{Job, job_of};
 pub use line::request_of;
 pub use misuse::usage_error;
-pub use request::{Comparison, ErrorFormat, Form, Inputs, Inspection, Output, Request, Task, Verb};
+pub use request::{
+    Chain, Comparison, ErrorFormat, Form, Inputs, Inspection, Output, Request, Task, Verb,
+};

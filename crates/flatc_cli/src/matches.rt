@@ -67,6 +67,17 @@ pub(crate) fn strings_of(alloc: Global, texts: &[&str]) -> Result<Vec<String>, A
     Ok(strings)
 }
 
+/// A text and those after it.
+fn strings_from(alloc: Global, first: &str, rest: &[&str]) -> Result<Vec<String>, AllocError>
+    ensures { IfOk result (λ strings. map string_bytes strings.items
+        ≡ first.now ∷ map (λ text. text.now) rest.now) }
+{
+    let mut strings = Vec::new(alloc);
+    strings.push(String::from_str(alloc, first)?)?;
+    strings.append(&mut strings_of(alloc, rest)?)?;
+    Ok(strings)
+}
+
 pub(crate) fn check_read_once(schema: &str, files: &[&str]) -> Result<(), Misuse<'static>>
     ensures ok { OnOk result (is_read_once (schema.now ∷ map (λ f. f.now) files.now) ≡ true) }
     ensures refusal { OnErr result (is_read_once (schema.now ∷ map (λ f. f.now) files.now) ≡ false) }
@@ -104,14 +115,38 @@ pub(crate) fn two_paths<'a>(
     }
 }
 
-/// BIN, where an id has this path alone.
-pub(crate) fn only_bin<'a>(found: &ArgMatches<'a>, id: &str) -> Result<&'a str, Misuse<'a>>
-    ensures ok { IfOk result (λ bin. paths_in id.now (rows_of (found_of found.now)) ≡ bin.now ∷ []) }
+/// The path of an id, where it is one, of this name.
+pub(crate) fn only_path<'a>(
+    found: &ArgMatches<'a>,
+    id: &str,
+    name: &'static str,
+) -> Result<&'a str, Misuse<'a>>
+    ensures ok { IfOk result (λ path. paths_in id.now (rows_of (found_of found.now)) ≡ path.now ∷ []) }
     ensures refusal { OnErr result (length (paths_in id.now (rows_of (found_of found.now))) ≢ 1) }
 {
     match texts_of(found, id) {
-        Some([bin]) => Ok(bin),
+        Some([path]) => Ok(path),
         Some([_, extra, ..]) => Err(Misuse::Extra(extra)),
-        _ => Err(Misuse::Missing("<BIN>")),
+        _ => Err(Misuse::Missing(name)),
     }
+}
+
+/// The path of an id and all of another, each of which is read.
+pub(crate) fn all_paths<'a>(
+    alloc: Global,
+    found: &ArgMatches<'a>,
+    first: &str,
+    rest: &str,
+) -> Result<Vec<String>, Misuse<'a>>
+    ensures paths { IfOk result (λ paths. map string_bytes paths.items
+        ≡ first_text first.now (rows_of (found_of found.now)) ∷ paths_in rest.now (rows_of (found_of found.now))) }
+    ensures line { OnOk result (is_read_once (first_text first.now (rows_of (found_of found.now))
+        ∷ paths_in rest.now (rows_of (found_of found.now))) ≡ true) }
+    ensures refusal { IfErr result (λ m. is_read_once (first_text first.now (rows_of (found_of found.now))
+        ∷ paths_in rest.now (rows_of (found_of found.now))) ≡ true → m ≡ Misuse.Memory) }
+{
+    let first = text_of(found, first).ok_or(Misuse::Memory)?;
+    let rest = texts_of(found, rest).unwrap_or(&[]);
+    check_read_once(first, rest)?;
+    Ok(strings_from(alloc, first, rest)?)
 }

@@ -6,8 +6,8 @@ ghost use Rattle.flatc_cli.specs.Misuses.{IsRefusal};
 use crate::commands::{
     BINARY, CHECK, CONFORM, INSPECT, JSON, JobWords, flatc_command, job_command,
 };
+use clap::Error;
 use clap::error::ErrorKind;
-use clap::{Command, Error};
 use std::alloc::{AllocError, Global};
 
 /// Why a line that clap takes asks for nothing.
@@ -48,12 +48,6 @@ fn words_of(job: &str) -> &'static JobWords {
     }
 }
 
-/// The command of a job, whose usage an error shows. That of `conform` is made by clap, of this name;
-/// the others have their own.
-fn command_of<'a>(alloc: Global, job: &str) -> Result<Command<'a>, AllocError> {
-    job_command(alloc, words_of(job))?.bin_name("flatc conform")
-}
-
 fn try_usage_error(
     alloc: Global,
     job: &str,
@@ -62,7 +56,7 @@ fn try_usage_error(
 ) -> Result<Error, AllocError>
     ensures { IfOk result (λ e. kind_of e ≡ kind) }
 {
-    command_of(alloc, job)?.error(kind, message)
+    job_command(alloc, words_of(job))?.error(kind, message)
 }
 
 /// An error about a line of a job, in clap's form and with the job's usage.

@@ -110,6 +110,15 @@ pub struct Comparison {
     pub old_name: Option<String>,
 }
 
+/// Versions of a schema, each of which is compared with the next: `--chain`.
+#[derive(Debug, PartialEq, Eq, Drop)]
+pub struct Chain {
+    /// Their paths, oldest first.
+    pub versions: Vec<String>,
+    /// Whether each name must mean what it meant: `--names`.
+    pub names: bool,
+}
+
 /// What of a buffer is shown.
 #[derive(Debug, PartialEq, Eq, Drop)]
 pub enum Inspection {
@@ -161,6 +170,11 @@ pub enum Request {
     Do(Task, Option<ErrorFormat>),
     /// Whether a schema reads the data of another, and how refusals are shown, where the line says it.
     Conform(Comparison, Option<ErrorFormat>),
+    /// Whether each version of a schema reads the data of the one before it, and how refusals are shown, where the
+    /// line says it.
+    ConformChain(Chain, Option<ErrorFormat>),
+    /// Whether each of these texts is a schema, by their paths, and how refusals are shown, where the line says it.
+    CheckSchemas(Vec<String>, Option<ErrorFormat>),
     /// What the bytes of a buffer are, and how refusals are shown, where the line says it.
     Inspect(Inspection, Option<ErrorFormat>),
     /// What the number of a refusal means, as the line writes it; all numbers where it writes none.

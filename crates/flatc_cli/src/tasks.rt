@@ -1,13 +1,13 @@
 //! From the matches of a line `binary`, `json` or `check` to its task.
-ghost use Rattle.std.specs.Prelude.{◌≡◌, ◌∷◌, [], IfOk, IfErr, OnOk, true, codes, map, string_bytes};
+ghost use Rattle.std.specs.Prelude.{◌≡◌, ◌∷◌, [], IfOk, IfErr, OnOk, true, false, codes, map, string_bytes};
 ghost use Rattle.clap.specs.Words.{found_of, rows_of};
 ghost use Rattle.flatc_cli.specs.Lines.{AreFiles, IsOneFile, IsStreamed, IsTask, IsVerb};
-ghost use Rattle.flatc_cli.specs.Lines.{has_inputs, is_stream_allowed, paths_in};
+ghost use Rattle.flatc_cli.specs.Lines.{has_inputs, is_set, is_stream_allowed, paths_in};
 ghost use Rattle.flatc_cli.specs.Requests.{input_paths};
 
 use crate::flags::{form_of, is_streamed};
 use crate::matches::{
-    check_inputs, flag_of, only_bin, path_of, paths_of, strings_of, text_of, texts_of, two_paths,
+    check_inputs, flag_of, only_path, path_of, paths_of, strings_of, text_of, texts_of, two_paths,
 };
 use crate::misuse::Misuse;
 use crate::request::{Inputs, Output, Task, Verb};
@@ -95,7 +95,7 @@ pub(crate) fn json_task<'a>(alloc: Global, found: &ArgMatches<'a>) -> Result<Tas
         let output = Output::Directory(String::from_str(alloc, dir)?);
         return Ok(task_with(alloc, found, verb, inputs, output)?);
     }
-    let bin = only_bin(found, "BIN")?;
+    let bin = only_path(found, "BIN", "<BIN>")?;
     check_inputs(found, &[bin])?;
     let inputs = one_file(alloc, found, bin)?;
     Ok(task_with(alloc, found, verb, inputs, Output::Standard)?)
@@ -110,7 +110,7 @@ fn checked_inputs<'a>(alloc: Global, found: &ArgMatches<'a>) -> Result<Inputs, M
         has_inputs (codes "check") (rows_of (found_of found.now)) ≡ true → m ≡ Misuse.Memory) }
 {
     if is_streamed(found) {
-        let bin = only_bin(found, "BIN")?;
+        let bin = only_path(found, "BIN", "<BIN>")?;
         check_inputs(found, &[bin])?;
         return Ok(one_file(alloc, found, bin)?);
     }
@@ -128,6 +128,7 @@ fn checked_inputs<'a>(alloc: Global, found: &ArgMatches<'a>) -> Result<Inputs, M
 
 /// What a line `check` asks for.
 pub(crate) fn check_task<'a>(alloc: Global, found: &ArgMatches<'a>) -> Result<Task, Misuse<'a>>
+    requires { is_set (codes "schemas") (rows_of (found_of found.now)) ≡ false }
     ensures task { IfOk result (IsTask (codes "check") (rows_of (found_of found.now))) }
     ensures line { OnOk result (has_inputs (codes "check") (rows_of (found_of found.now)) ≡ true) }
     ensures refusal { IfErr result (λ m.

@@ -80,16 +80,17 @@ impl<'j> Texts<'j> {
 
     /// Reads the schema text, which is the first file that a job reads.
     pub fn read_schema(&mut self, rt: &HostRuntime, path: &'j str) -> Result<(), TakeFault> {
-        match self.read(rt, path) {
-            Ok(schema) => {
-                self.schema = schema;
-                Ok(())
-            }
-            Err(fault) => {
-                self.say_alone();
-                Err(fault)
-            }
+        let read = self.read_one_schema(rt, path);
+        if read.is_err() {
+            self.say_alone();
         }
+        read
+    }
+
+    /// Reads one of several schema texts, each of which is read even after one that couldn't be.
+    pub fn read_one_schema(&mut self, rt: &HostRuntime, path: &'j str) -> Result<(), TakeFault> {
+        self.schema = self.read(rt, path)?;
+        Ok(())
     }
 
     /// Adds to why a file failed that no other was read, where there is memory for that.

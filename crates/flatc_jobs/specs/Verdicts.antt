@@ -34,3 +34,7 @@ IsConformRefused false old new f = ConformRefused old new f
 abbrev pub verdict_of : Verb → List ℕ
 verdict_of (Check raw) = codes "ok" ++ 10 ∷ []
 verdict_of verb = []
+
+-- what is printed where a comparison, or each step of a chain, conforms
+abbrev pub conforms_line : List ℕ
+conforms_line = codes "conforms" ++ 10 ∷ []

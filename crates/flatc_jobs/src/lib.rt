@@ -7,4 +7,4 @@ mod verdicts;
 
 pub use flags::{Flags, limits};
 pub use messages::{Outcome, next_output};
-pub use verdicts::{compared, encoded, end_of, verdict_of, verified};
+pub use verdicts::{chain_end, compared, conforms_line, encoded, end_of, verdict_of, verified};

@@ -1,7 +1,7 @@
 //! What a job finds, with the flags of its line.
 ghost use Rattle.std.specs.Prelude.{◌≡◌, ◌<◌, Bool, IfErr, IfOk, List, MatchResult, OnOk};
 ghost use Rattle.flatc_files.specs.Runs.{IsStatusOf, status_of};
-ghost use Rattle.flatc_jobs.specs.Verdicts.{Conform, IsConformRefused, IsHeld, IsRefused, verdict_of};
+ghost use Rattle.flatc_jobs.specs.Verdicts.{Conform, IsConformRefused, IsHeld, IsRefused, conforms_line, verdict_of};
 ghost use Rattle.flatc_tool.specs.Encodes.{IsOfJson};
 ghost use Rattle.flatc_tool.specs.Jobs.{BinaryRefused, IsBinary, IsNotMemory, MayBeBinary};
 ghost use Rattle.flatc_tool.specs.Options.{usual_limits};
@@ -74,14 +74,39 @@ pub fn verdict_of(verb: Verb) -> &'static str
     }
 }
 
+/// What is printed where a new schema conforms to an old one, or each version of a chain to the one before it.
+pub fn conforms_line() -> &'static str
+    ensures { result.now ≡ conforms_line }
+{
+    "conforms\n"
+}
+
+/// The text that a run over many inputs ends with; the status instead where one of them was refused.
+fn end_with(text: &'static str, status: RunStatus) -> Result<&'static str, u8>
+    ensures text { IfOk result (λ end. end.now ≡ text.now) }
+    ensures status { (done : List Bool) → IsStatusOf status done → MatchResult result (λ _. status_of done ≡ 0)
+        (λ code. (code ≡ status_of done) × (0 < code)) }
+{
+    match status.code() {
+        0 => Ok(text),
+        code => Err(code),
+    }
+}
+
 /// What is printed at the end of a run over many inputs; the status instead where one of them was refused.
 pub fn end_of(verb: Verb, status: RunStatus) -> Result<&'static str, u8>
     ensures text { IfOk result (λ text. text.now ≡ verdict_of verb) }
     ensures status { (done : List Bool) → IsStatusOf status done → MatchResult result (λ _. status_of done ≡ 0)
         (λ code. (code ≡ status_of done) × (0 < code)) }
 {
-    match status.code() {
-        0 => Ok(verdict_of(verb)),
-        code => Err(code),
-    }
+    end_with(verdict_of(verb), status)
+}
+
+/// What is printed at the end of a chain; the status instead where a version or a step was refused.
+pub fn chain_end(status: RunStatus) -> Result<&'static str, u8>
+    ensures text { IfOk result (λ text. text.now ≡ conforms_line) }
+    ensures status { (done : List Bool) → IsStatusOf status done → MatchResult result (λ _. status_of done ≡ 0)
+        (λ code. (code ≡ status_of done) × (0 < code)) }
+{
+    end_with(conforms_line(), status)
 }

@@ -1,4 +1,4 @@
-use Rattle.std.proofs.Common.{rules, refl}
+use Rattle.std.proofs.Common.{rules}
 use Rattle.flatc_cli.specs.Requests.{format_named}
 use Rattle.flatc_cli.proofs.request.ErrorFormat.named.Goals as goal
 
