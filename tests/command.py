@@ -456,6 +456,10 @@ def usage():
     misused("words that are no UTF-8", [b"check", b"\xff"])
     for line in MISUSED:
         misused(f"the line {line}", line.split())
+    for words in (["json", "--pretty", "s", "b"], ["--pretty", "json", "s", "b"]):
+        done = run(words)
+        good = done.returncode == 2 and b"'--pretty' found\n\nUsage: flatc" in done.stderr and b"tip" not in done.stderr
+        tell(f"no tip to pass an option as a value: {words}", good, f"{done}")
     for words, part in ERRORS:
         done = run(words)
         good = (done.returncode, done.stdout) == (2, b"") and done.stderr.startswith(b"error: " + part)

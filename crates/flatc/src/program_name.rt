@@ -2,7 +2,7 @@
 use clap::Error;
 use fb_explain_records::push_escaped;
 use fb_findings::Note;
-use std::alloc::AllocError;
+use std::alloc::{AllocError, Global};
 use std::env::{Env, FillError};
 use std::io;
 
@@ -22,6 +22,9 @@ For more information, try '--help'.
 
 /// What is before the name in a usage, which begins a line and may go on in more lines.
 const IN_USAGE: &[&str] = &["\nUsage: ", "\n       "];
+
+/// How clap's tip begins to pass an unknown option as a value. No command takes values that look like options.
+const VALUE_TIP: &str = "\n\n  tip: to pass '";
 
 /// What is before the name in a hint.
 const IN_HINT: &[&str] = &[": "];
@@ -59,15 +62,28 @@ fn with_program_name(rt: &HostRuntime, text: &str, before: &[&str]) -> Result<St
     Ok(named)
 }
 
+/// A message of clap without the tip to pass an unknown option as a value.
+fn without_value_tip(alloc: Global, message: &str) -> Result<String, AllocError> {
+    let Some((before, tip)) = message.split_once(VALUE_TIP) else {
+        return String::from_str(alloc, message);
+    };
+    let after = tip.find('\n').and_then(|end| tip.get(end..)).unwrap_or("");
+    format!(in alloc; "{before}{after}")
+}
+
+/// A message of clap as it is printed.
+fn printed_message(rt: &HostRuntime, error: &Error) -> Result<String, AllocError> {
+    let message = format!(in rt.alloc(); "{error}")?;
+    let message = without_value_tip(rt.alloc(), message.as_str())?;
+    with_program_name(rt, message.as_str(), IN_USAGE)
+}
+
 /// Prints clap's message to the stream that it belongs on, under the program's name. Without memory for that it has the
 /// usual one.
 pub(crate) fn print_error(rt: &HostRuntime, error: &Error) -> io::Result<()> {
-    let Ok(text) = format!(in rt.alloc(); "{error}") else {
-        return error.print(rt);
-    };
-    match with_program_name(rt, text.as_str(), IN_USAGE) {
-        Ok(named) if error.use_stderr() => eprint!(rt; "{named}"),
-        Ok(named) => print!(rt; "{named}"),
+    match printed_message(rt, error) {
+        Ok(message) if error.use_stderr() => eprint!(rt; "{message}"),
+        Ok(message) => print!(rt; "{message}"),
         Err(_) => error.print(rt),
     }
 }

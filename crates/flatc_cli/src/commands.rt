@@ -219,13 +219,13 @@ pub(crate) const INSPECT: &JobWords = &JobWords {
 
 const NUMBERS: &JobWords = &JobWords {
     name: "explain",
-    about: "Explain the number of a refusal, or list all of them",
+    about: "Explain the number or name of a refusal, or list all of them",
     usage: None,
     notes: None,
     arguments: &[Argument::Path(
         "NUMBER",
         false,
-        "The number of a refusal; without it all are listed",
+        "The number or name of a refusal; without it all are listed",
     )],
 };
 
