@@ -169,9 +169,10 @@ pub(crate) fn refuse_file(rt: &HostRuntime, format: ErrorFormat, file: &str, ref
 
 /// Reports why a step of a chain is refused: a line after the paths of its versions, or findings, which have them.
 pub(crate) fn refuse_step(rt: &HostRuntime, format: ErrorFormat, refusal: Refusal<'_>) {
+    let step = refusal.texts;
     if matches!(format, ErrorFormat::Line | ErrorFormat::Human) {
-        tell_path(rt, refusal.texts.schema.path, " to ");
-        tell_path(rt, refusal.texts.input.path, ": ");
+        tell_path(rt, step.schema.path, " to ");
+        tell_path(rt, step.input.path, ": ");
     }
     let _status = refuse(rt, format, refusal);
 }

@@ -62,17 +62,12 @@ pub(crate) fn do_chain(rt: &HostRuntime, chain: &Chain, format: ErrorFormat) -> 
     for path in &chain.versions {
         let version = read_schema(rt, path.as_str(), format);
         status.note(version.is_some());
-        older = match (older, version) {
-            (Some(old), Some(new)) => {
-                let step = Texts {
-                    schema: old,
-                    input: new,
-                    failure: None,
-                };
+        older = match Texts::of_step(older, version) {
+            Ok(step) => {
                 status.note(compare_step(rt, &step, chain.names, format));
                 Some(step.input)
             }
-            (_, version) => version,
+            Err(version) => version,
         };
     }
     tell_end(rt, chain_end(status))

@@ -1,4 +1,6 @@
 //! What a job reads, and why a file failed.
+ghost use Rattle.std.specs.Prelude.{◌≡◌, ◌⊎◌, IfErr, IfOk, None, Some};
+
 use crate::inputs::Input;
 use fb_heard::TakeFault;
 use std::alloc::AllocError;
@@ -31,6 +33,25 @@ impl<'j> Texts<'j> {
             schema: Input::nothing(rt),
             input: Input::nothing(rt),
             failure: None,
+        }
+    }
+
+    /// A step of a chain, where both versions are schemas. Else what the next step begins with: the newer version, if
+    /// that is a schema.
+    pub fn of_step(
+        older: Option<Input<'j>>,
+        newer: Option<Input<'j>>,
+    ) -> Result<Texts<'j>, Option<Input<'j>>>
+        ensures step { IfOk result (λ step. (older.entry ≡ Some step.schema) × (newer.entry ≡ Some step.input)) }
+        ensures rest { IfErr result (λ rest. (rest ≡ newer.entry) × ((older.entry ≡ None) ⊎ (newer.entry ≡ None))) }
+    {
+        match (older, newer) {
+            (Some(schema), Some(input)) => Ok(Texts {
+                schema,
+                input,
+                failure: None,
+            }),
+            (_, newer) => Err(newer),
         }
     }
 

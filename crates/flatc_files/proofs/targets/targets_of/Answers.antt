@@ -1,4 +1,4 @@
-use Rattle.std.proofs.Common.{◌≡◌, ◌∙◌, map}
+use Rattle.std.proofs.Common.{◌∙◌, map}
 use Rattle.std.specs.Path.{path_buf_bytes}
 use Rattle.flatc_files.specs.Targets.{AreApart, AreDistinct, inputs_of}
 use Rattle.flatc_files.proofs.targets.targets_of.Goals as goal
