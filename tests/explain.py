@@ -13,7 +13,7 @@ import sys
 import textwrap
 
 from explain_rows import (
-    BY_NAME, CHANGES, COLUMNS, FLAGS, FLAG_VALUES, HINTS, HP, IDS, MARK, MONSTER, NAMES, OLD_BUFFERS, SCHEMAS,
+    BY_NAME, CHANGES, COLUMNS, FLAGS, FLAG_VALUES, HINTS, HP, IDS, MARK, MONSTER, NAMES, OLD_BUFFERS, PAIRS, SCHEMAS,
     SEVERAL, SEVERAL_SENTENCES, TEXTS, VALUES,
 )
 from harness import ROOT, Tests, content, program_of, write
@@ -89,11 +89,14 @@ def unsupported(tests):
     write("s.fbs", text)
     want = lines(
         "18 Unsupported at 14",
-        "s.fbs:2:5: floats aren't supported",
+        *wrap("s.fbs:2:5: floats aren't supported; int, a whole number of the same width, keeps the field's place in "
+              "buffers"),
         " |   s:float;",
         " |     ^",
-        "s.fbs:3:13: this attribute isn't supported",
-        "s.fbs:4:6: floats aren't supported",
+        *wrap("s.fbs:3:13: the attribute 'key' isn't supported: without it the same is stored, but Google's flatc "
+              "sorts vectors by keys"),
+        *wrap("s.fbs:4:6: floats aren't supported; long, a whole number of the same width, keeps the field's place in "
+              "buffers"),
     )
     tests.expect("all that isn't supported", ["check", "--explain", "s.fbs"], 1, err=want)
 
@@ -168,6 +171,10 @@ KINDS = [
     ("a buffer and a schema in the wrong order", ["json", "b.bin", "s.fbs"], "2 BadByte at 0",
      "b.bin: this looks like a buffer: SCHEMA comes first"),
     ("a buffer for JSON", ["binary", "s.fbs", "b.bin", "out.bin"], "113 BadJson",
+    ("JSON for the new one of two schemas", ["conform", "s.fbs", "v.json"], "new: 5 Unexpected at 0",
+     "v.json: this looks like JSON: conform compares two schemas"),
+    ("a buffer for the old one of two schemas", ["conform", "b.bin", "s.fbs"], "old: 2 BadByte at 0",
+     "b.bin: this looks like a buffer: conform compares two schemas"),
      "b.bin: this looks like a buffer: 'flatc json' makes JSON of it"),
     ("a schema for JSON", ["binary", "s.fbs", "s.fbs", "out.bin"], "113 BadJson",
      "s.fbs: this looks like a schema: SCHEMA comes first, then JSON"),
@@ -193,6 +200,12 @@ def changes(tests):
         want = lines(fault, *[piece for sentence in sentences for piece in wrap(sentence)])
         tests.expect(name, ["conform", "--explain", "old.fbs", "new.fbs"], 1, err=want)
     new = MONSTER
+    for name, old, new, fault, sentences in PAIRS:
+        write("old.fbs", old.encode())
+        write("new.fbs", new.encode())
+        want = lines(fault, *[piece for sentence in sentences for piece in wrap(sentence)])
+        tests.expect(name, ["conform", "--explain", "old.fbs", "new.fbs"], 1, err=want)
+    write("old.fbs", MONSTER.encode())
     for was, now in SEVERAL:
         new = new.replace(was, now)
     write("new.fbs", new.encode())
