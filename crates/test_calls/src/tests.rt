@@ -3,6 +3,7 @@ use flatc_tool::{EncodeOptions, Limits};
 use std::alloc::AllocError;
 
 mod check;
+mod describe;
 mod examples;
 mod faults;
 mod integers;

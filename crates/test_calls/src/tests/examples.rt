@@ -1,4 +1,5 @@
 //! The examples of the crates' READMEs.
+use fb_describe::description_of;
 use fb_owned::{cells, copy, read, same};
 use fb_pieces::{Cuts, cut_array};
 use flatc_tool::{
@@ -72,5 +73,20 @@ fn a_long_array_is_cut_into_runs(rt: HostRuntime) -> Result<(), Fail> {
         let runs = cut_array(rt.alloc(), text, 0, &cuts)?;
         assert!(rt; runs.map(|runs| runs.len()) == Some(2)); // 1,{} and 3,4
     }
+    Ok(())
+}
+
+#[test]
+fn the_numbers_of_a_schema_are_described(rt: HostRuntime) -> Result<(), Fail> {
+    let schema = b"table Orc { name:string (required); hp:short = 100; } root_type Orc;";
+    let layout = schema_of(rt.alloc(), schema)?;
+    let text = description_of(rt.alloc(), &layout, 120)?;
+    let lines = "root type 0, Orc
+
+type 0: table Orc
+  slot 0: name, string, required
+  slot 1: hp, short = 100 (2 bytes, aligned to 2)
+";
+    assert!(rt; text.as_str() == lines);
     Ok(())
 }
