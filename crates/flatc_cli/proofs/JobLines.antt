@@ -25,7 +25,8 @@ use Rattle.flatc_cli.specs.declared.request.Inspection.{Inspection}
 use Rattle.flatc_cli.specs.declared.request.Inspection.TheVariants.{Bytes, Header}
 use Rattle.flatc_cli.specs.declared.request.ErrorFormat.{ErrorFormat}
 use Rattle.flatc_cli.specs.declared.request.ErrorFormat.TheVariants.{Line, Human}
-use Rattle.flatc_cli.specs.declared.request.Request.TheVariants.{Do, Conform, ConformChain, CheckSchemas, Inspect, Explain}
+use Rattle.flatc_cli.specs.declared.request.Request.TheVariants.{Do, Conform, ConformChain, CheckSchemas}
+use Rattle.flatc_cli.specs.declared.request.Request.TheVariants.{Inspect, Describe, Explain}
 
 and_no : (a b : Bool) → b ≡ false → (a && b) ≡ false
 and_no true b fails = fails
@@ -46,7 +47,7 @@ not_plain : (name : Text) (rows : List Row)
     → is_job_of name rows ≡ false
 not_plain name rows fails =
     and_no (is_line_of name rows) _ (and_no (not (bytes_eq name (codes "explain"))) _
-    (and_no (not (bytes_eq name (codes "inspect"))) _ fails))
+    (and_no (not (bytes_eq name (codes "inspect"))) _ (and_no (not (bytes_eq name (codes "describe"))) _ fails)))
 
 and_first : (a b : Bool) → a ≡ false → (a && b) ≡ false
 and_first true b fails = cc
@@ -230,7 +231,7 @@ pub no_job : (task : Task) (line : Option (Text × List Row))
 no_job task None other is = absurd is
 no_job task (Some p) other is = not_one p.0 p.1 (other p.0 p.1 is.0.0 is.0.2)
 
--- ---- an inspection or a number
+-- ---- an inspection, a description or a number
 
 of_a_number : (rows : List Row) → is_job_of (codes "explain") rows ≡ false
 of_a_number rows = and_no (is_line_of (codes "explain") rows) false refl
@@ -248,6 +249,14 @@ pub inspection_is_no_job : (line : Option (Text × List Row)) (inspection : Insp
 inspection_is_no_job None inspection format is = absurd is
 inspection_is_no_job (Some p) inspection format is =
     rw (is_named_inspect p.0 p.1 inspection is.0) (of_an_inspection p.1)
+
+of_a_description : (rows : List Row) → is_job_of (codes "describe") rows ≡ false
+of_a_description rows = and_no (is_line_of (codes "describe") rows) false refl
+
+pub description_is_no_job : (line : Option (Text × List Row)) (schema : String Global) (format : Option ErrorFormat)
+    → IsRequestOf line (Describe schema format) → is_job_line line ≡ false
+description_is_no_job None schema format is = absurd is
+description_is_no_job (Some p) schema format is = rw is.0 (of_a_description p.1)
 
 pub number_is_no_job : (line : Option (Text × List Row)) (number : Option (String Global))
     → IsRequestOf line (Explain number) → is_job_line line ≡ false

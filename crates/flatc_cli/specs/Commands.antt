@@ -77,6 +77,9 @@ inspect_app = with_paths (with_formats (with_flag (with_flag
     (with_flag (new_app (codes "inspect")) (codes "raw-binary")) (codes "size-prefixed")) (codes "header")))
     (codes "FILE")
 
+abbrev pub describe_app : App
+describe_app = with_path (with_formats (new_app (codes "describe"))) (codes "SCHEMA")
+
 abbrev pub explain_app : App
 explain_app = with_rule (new_app (codes "explain")) (path_rule (codes "NUMBER") false)
 
@@ -87,9 +90,9 @@ plain_app = record (new_app (codes "flatc")) {
 }
 
 abbrev pub flatc_app : App
-flatc_app = with_subcommand (with_subcommand (with_subcommand (with_subcommand
+flatc_app = with_subcommand (with_subcommand (with_subcommand (with_subcommand (with_subcommand
     (with_subcommand (with_subcommand plain_app binary_app.top) json_app.top) check_app.top) conform_app.top)
-    inspect_app.top) explain_app.top
+    inspect_app.top) describe_app.top) explain_app.top
 
 -- a command that clap sees as this one, none of whose arguments is global
 abbrev pub HasApp : App → Command → Type 0

@@ -14,7 +14,8 @@ use Rattle.flatc_cli.specs.declared.request.Inputs.TheVariants.{One}
 use Rattle.flatc_cli.specs.declared.request.Output.TheVariants.{File}
 use Rattle.flatc_cli.specs.declared.request.ErrorFormat.TheVariants.{Line, Human, Short}
 use Rattle.flatc_cli.specs.declared.request.Inspection.TheVariants.{Header}
-use Rattle.flatc_cli.specs.declared.request.Request.TheVariants.{Do, Conform, ConformChain, CheckSchemas, Inspect, Explain}
+use Rattle.flatc_cli.specs.declared.request.Request.TheVariants.{Do, Conform, ConformChain, CheckSchemas}
+use Rattle.flatc_cli.specs.declared.request.Request.TheVariants.{Inspect, Describe, Explain}
 
 -- flatc check s
 abbrev pub check_line : List Text
@@ -258,3 +259,24 @@ raw_schemas_line = codes "check" ∷ codes "--schemas" ∷ codes "--raw-binary" 
 pub raw_schemas_are_no_line : is_line (subcommand_of flatc_app raw_schemas_line) ≡ false
 unfolding walked
 raw_schemas_are_no_line = refl
+
+-- flatc describe --terse s
+abbrev pub describe_line : List Text
+describe_line = codes "describe" ∷ codes "--terse" ∷ codes "s" ∷ []
+
+pub describe_is_taken : takes flatc_app describe_line ≡ true
+unfolding walked walk_passes
+describe_is_taken = refl
+
+pub description_is_asked_for : (s : String Global) → string_bytes s ≡ codes "s"
+    → IsRequestOf (subcommand_of flatc_app describe_line) (Describe s (Some Line))
+unfolding walked
+description_is_asked_for s same = (refl, cc, refl)
+
+pub describe_is_a_line : is_line (subcommand_of flatc_app describe_line) ≡ true
+unfolding walked
+describe_is_a_line = refl
+
+pub describe_is_no_job : is_job_line (subcommand_of flatc_app describe_line) ≡ false
+unfolding walked
+describe_is_no_job = refl

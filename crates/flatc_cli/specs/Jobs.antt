@@ -74,8 +74,8 @@ is_of_one name rows = not (is_streamed rows) && (not (is_set (codes "size-prefix
 -- one of the four lines over one file each, without a word on error formats, names, streams and forms
 abbrev pub is_job_of : Text → List Row → Bool
 is_job_of name rows = is_line_of name rows && (not (bytes_eq name (codes "explain"))
-    && (not (bytes_eq name (codes "inspect")) && (has_no_format rows && (has_no_name rows && (is_no_list rows
-    && is_of_one name rows)))))
+    && (not (bytes_eq name (codes "inspect")) && (not (bytes_eq name (codes "describe")) && (has_no_format rows
+    && (has_no_name rows && (is_no_list rows && is_of_one name rows))))))
 
 abbrev pub is_job_line : Option (Text × List Row) → Bool
 is_job_line None = false

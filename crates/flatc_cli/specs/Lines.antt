@@ -24,7 +24,8 @@ use Rattle.flatc_cli.specs.declared.request.Inspection.TheVariants.{Bytes, Heade
 use Rattle.flatc_cli.specs.declared.request.ErrorFormat.{ErrorFormat}
 use Rattle.flatc_cli.specs.declared.request.ErrorFormat.TheVariants.{Line, Human}
 use Rattle.flatc_cli.specs.declared.request.Request.{Request}
-use Rattle.flatc_cli.specs.declared.request.Request.TheVariants.{Do, Conform, ConformChain, CheckSchemas, Inspect, Explain}
+use Rattle.flatc_cli.specs.declared.request.Request.TheVariants.{Do, Conform, ConformChain, CheckSchemas}
+use Rattle.flatc_cli.specs.declared.request.Request.TheVariants.{Inspect, Describe, Explain}
 
 -- ---- what the rows have
 
@@ -139,14 +140,16 @@ format_in rows =
     else if is_set (codes "explain") rows then Some Human
     else option_map_or format_named (first_of (codes "FORMAT") rows) None
 
--- a task, a comparison, a chain, schemas or an inspection, and the format of its refusals if the line has one, or the
--- number of a refusal if the line has one
+-- a task, a comparison, a chain, schemas, an inspection or a description, and the format of its refusals if the line has
+-- one, or the number of a refusal if the line has one
 abbrev pub IsRequest : Text → List Row → Request → Type 0
 IsRequest name rows (Do task format) = IsTask name rows task × (format ≡ format_in rows)
 IsRequest name rows (Conform comparison format) = IsComparison name rows comparison × (format ≡ format_in rows)
 IsRequest name rows (ConformChain chain format) = IsChain name rows chain × (format ≡ format_in rows)
 IsRequest name rows (CheckSchemas schemas format) = AreSchemas name rows schemas × (format ≡ format_in rows)
 IsRequest name rows (Inspect inspection format) = IsInspection name rows inspection × (format ≡ format_in rows)
+IsRequest name rows (Describe schema format) = (name ≡ codes "describe") × IsPath (codes "SCHEMA") rows schema
+    × (format ≡ format_in rows)
 IsRequest name rows (Explain number) = (name ≡ codes "explain")
     × (first_of (codes "NUMBER") rows ≡ option_map string_bytes number)
 

@@ -28,6 +28,8 @@ const CONFORM_USAGE: &str = "flatc conform [OPTIONS] <OLD> <NEW>
 const INSPECT_USAGE: &str = "flatc inspect [OPTIONS] <SCHEMA> <BIN>
        flatc inspect [OPTIONS] --header <BIN>";
 
+const DESCRIBE_USAGE: &str = "flatc describe [OPTIONS] <SCHEMA>";
+
 const DASH: &str = "The path - is standard input; ./- is a file of that name.";
 
 const DASHES: &str =
@@ -217,6 +219,14 @@ pub(crate) const INSPECT: &JobWords = &JobWords {
     ],
 };
 
+pub(crate) const DESCRIBE: &JobWords = &JobWords {
+    name: "describe",
+    about: "List the types and slots of a schema by number",
+    usage: Some(DESCRIBE_USAGE),
+    notes: Some(DASH),
+    arguments: &[EXPLAIN, TERSE, FORMAT, SCHEMA],
+};
+
 const NUMBERS: &JobWords = &JobWords {
     name: "explain",
     about: "Explain the number or name of a refusal, or list all of them",
@@ -314,7 +324,7 @@ fn with_jobs<'a>(
     Ok(command)
 }
 
-/// The command with its four jobs, what shows a buffer's bytes, and what explains a number.
+/// The command with its four jobs, what lists a buffer's bytes or a schema's types, and what explains a number.
 pub(crate) fn flatc_command<'a>(alloc: Global) -> Result<Command<'a>, AllocError>
     ensures { IfOk result (HasApp flatc_app) }
 {
@@ -322,6 +332,6 @@ pub(crate) fn flatc_command<'a>(alloc: Global) -> Result<Command<'a>, AllocError
     with_jobs(
         alloc,
         command,
-        &[BINARY, JSON, CHECK, CONFORM, INSPECT, NUMBERS],
+        &[BINARY, JSON, CHECK, CONFORM, INSPECT, DESCRIBE, NUMBERS],
     )
 }

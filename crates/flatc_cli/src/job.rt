@@ -115,6 +115,7 @@ fn job_of_request(request: Request) -> Option<Job>
         Request::ConformChain(_, _) => None,
         Request::CheckSchemas(_, _) => None,
         Request::Inspect(_, _) => None,
+        Request::Describe(_, _) => None,
         Request::Explain(_) => None,
     }
 }

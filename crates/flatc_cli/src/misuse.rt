@@ -4,7 +4,7 @@ ghost use Rattle.clap.specs.Words.{kind_of};
 ghost use Rattle.flatc_cli.specs.Misuses.{IsRefusal};
 
 use crate::commands::{
-    BINARY, CHECK, CONFORM, INSPECT, JSON, JobWords, flatc_command, job_command,
+    BINARY, CHECK, CONFORM, DESCRIBE, INSPECT, JSON, JobWords, flatc_command, job_command,
 };
 use clap::Error;
 use clap::error::ErrorKind;
@@ -44,6 +44,7 @@ fn words_of(job: &str) -> &'static JobWords {
         "json" => JSON,
         "check" => CHECK,
         "inspect" => INSPECT,
+        "describe" => DESCRIBE,
         _ => CONFORM,
     }
 }

@@ -177,6 +177,9 @@ pub enum Request {
     CheckSchemas(Vec<String>, Option<ErrorFormat>),
     /// What the bytes of a buffer are, and how refusals are shown, where the line says it.
     Inspect(Inspection, Option<ErrorFormat>),
+    /// What the numbers of types and slots mean in a schema, by its path, and how refusals are shown, where the line
+    /// says it.
+    Describe(String, Option<ErrorFormat>),
     /// What the number of a refusal means, as the line writes it; all numbers where it writes none.
     Explain(Option<String>),
 }

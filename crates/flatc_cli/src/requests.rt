@@ -96,6 +96,7 @@ pub(crate) fn request_at<'a>(
         }
         "conform" => Ok(Request::Conform(comparison_of(alloc, found)?, format)),
         "inspect" => Ok(Request::Inspect(inspection_of(alloc, found)?, format)),
+        "describe" => Ok(Request::Describe(path_of(alloc, found, "SCHEMA")?, format)),
         "explain" => Ok(Request::Explain(string_of(alloc, found, "NUMBER")?)),
         _ => Err(Misuse::Memory),
     }
