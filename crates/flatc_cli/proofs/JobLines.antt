@@ -25,7 +25,8 @@ use Rattle.flatc_cli.specs.declared.request.Inspection.{Inspection}
 use Rattle.flatc_cli.specs.declared.request.Inspection.TheVariants.{Bytes, Header}
 use Rattle.flatc_cli.specs.declared.request.ErrorFormat.{ErrorFormat}
 use Rattle.flatc_cli.specs.declared.request.ErrorFormat.TheVariants.{Line, Human}
-use Rattle.flatc_cli.specs.declared.request.Request.TheVariants.{Do, Conform, ConformChain, CheckSchemas, Inspect, Explain}
+use Rattle.flatc_cli.specs.declared.request.Request.TheVariants.{Do, Conform, ConformChain, CheckSchemas}
+use Rattle.flatc_cli.specs.declared.request.Request.TheVariants.{Inspect, Explain}
 
 and_no : (a b : Bool) → b ≡ false → (a && b) ≡ false
 and_no true b fails = fails

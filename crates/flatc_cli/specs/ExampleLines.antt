@@ -14,7 +14,8 @@ use Rattle.flatc_cli.specs.declared.request.Inputs.TheVariants.{One}
 use Rattle.flatc_cli.specs.declared.request.Output.TheVariants.{File}
 use Rattle.flatc_cli.specs.declared.request.ErrorFormat.TheVariants.{Line, Human, Short}
 use Rattle.flatc_cli.specs.declared.request.Inspection.TheVariants.{Header}
-use Rattle.flatc_cli.specs.declared.request.Request.TheVariants.{Do, Conform, ConformChain, CheckSchemas, Inspect, Explain}
+use Rattle.flatc_cli.specs.declared.request.Request.TheVariants.{Do, Conform, ConformChain, CheckSchemas}
+use Rattle.flatc_cli.specs.declared.request.Request.TheVariants.{Inspect, Explain}
 
 -- flatc check s
 abbrev pub check_line : List Text

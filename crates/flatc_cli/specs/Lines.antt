@@ -24,7 +24,8 @@ use Rattle.flatc_cli.specs.declared.request.Inspection.TheVariants.{Bytes, Heade
 use Rattle.flatc_cli.specs.declared.request.ErrorFormat.{ErrorFormat}
 use Rattle.flatc_cli.specs.declared.request.ErrorFormat.TheVariants.{Line, Human}
 use Rattle.flatc_cli.specs.declared.request.Request.{Request}
-use Rattle.flatc_cli.specs.declared.request.Request.TheVariants.{Do, Conform, ConformChain, CheckSchemas, Inspect, Explain}
+use Rattle.flatc_cli.specs.declared.request.Request.TheVariants.{Do, Conform, ConformChain, CheckSchemas}
+use Rattle.flatc_cli.specs.declared.request.Request.TheVariants.{Inspect, Explain}
 
 -- ---- what the rows have
 
@@ -197,7 +198,8 @@ abbrev pub is_counted : Text → List Row → Bool
 is_counted name rows = if bytes_eq name (codes "binary") then has_dir rows || length (paths_in (codes "JSON") rows) == 2
     else if bytes_eq name (codes "json") then has_dir rows || length (paths_in (codes "BIN") rows) == 1
     else if bytes_eq name (codes "check") then not (is_streamed rows) || length (paths_in (codes "BIN") rows) == 1
-    else if bytes_eq name (codes "conform") then is_set (codes "chain") rows || length (paths_in (codes "NEW") rows) == 1
+    else if bytes_eq name (codes "conform") then is_set (codes "chain") rows
+    || length (paths_in (codes "NEW") rows) == 1
     else if bytes_eq name (codes "inspect") then length (paths_in (codes "FILE") rows) == (if is_set (codes "header")
     rows then 1 else 2)
     else true
