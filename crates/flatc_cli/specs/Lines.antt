@@ -200,7 +200,8 @@ abbrev pub is_counted : Text → List Row → Bool
 is_counted name rows = if bytes_eq name (codes "binary") then has_dir rows || length (paths_in (codes "JSON") rows) == 2
     else if bytes_eq name (codes "json") then has_dir rows || length (paths_in (codes "BIN") rows) == 1
     else if bytes_eq name (codes "check") then not (is_streamed rows) || length (paths_in (codes "BIN") rows) == 1
-    else if bytes_eq name (codes "conform") then is_set (codes "chain") rows || length (paths_in (codes "NEW") rows) == 1
+    else if bytes_eq name (codes "conform") then is_set (codes "chain") rows
+    || length (paths_in (codes "NEW") rows) == 1
     else if bytes_eq name (codes "inspect") then length (paths_in (codes "FILE") rows) == (if is_set (codes "header")
     rows then 1 else 2)
     else true
