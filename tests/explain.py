@@ -89,11 +89,14 @@ def unsupported(tests):
     write("s.fbs", text)
     want = lines(
         "18 Unsupported at 14",
-        "s.fbs:2:5: floats aren't supported",
+        *wrap("s.fbs:2:5: floats aren't supported; int, a whole number of the same width, keeps the field's place in "
+              "buffers"),
         "    s:float;",
         "      ^",
-        "s.fbs:3:13: this attribute isn't supported",
-        "s.fbs:4:6: floats aren't supported",
+        *wrap("s.fbs:3:13: the attribute 'key' isn't supported: without it the same is stored, but Google's flatc "
+              "sorts vectors by keys"),
+        *wrap("s.fbs:4:6: floats aren't supported; long, a whole number of the same width, keeps the field's place in "
+              "buffers"),
     )
     tests.expect("all that isn't supported", ["check", "--explain", "s.fbs"], 1, err=want)
 
@@ -167,6 +170,10 @@ KINDS = [
      "v.json: this looks like JSON: SCHEMA comes first"),
     ("a buffer and a schema in the wrong order", ["json", "b.bin", "s.fbs"], "2 BadByte at 0",
      "b.bin: this looks like a buffer: SCHEMA comes first"),
+    ("JSON for the new one of two schemas", ["conform", "s.fbs", "v.json"], "new: 5 Unexpected at 0",
+     "v.json: this looks like JSON: conform compares two schemas"),
+    ("a buffer for the old one of two schemas", ["conform", "b.bin", "s.fbs"], "old: 2 BadByte at 0",
+     "b.bin: this looks like a buffer: conform compares two schemas"),
     ("a buffer for JSON", ["binary", "s.fbs", "b.bin", "out.bin"], "113 BadJson",
      "b.bin: this looks like a buffer: 'flatc json' makes JSON of it"),
     ("a schema for JSON", ["binary", "s.fbs", "s.fbs", "out.bin"], "113 BadJson",

@@ -13,9 +13,11 @@ mod missing_signs;
 mod refusals;
 mod schema_faults;
 mod schema_tokens;
+mod statements;
 mod struct_fields;
 mod syntax_faults;
 mod type_names;
+mod unexpected_tokens;
 mod unknown_types;
 mod unsupported;
 

@@ -10,7 +10,9 @@ use crate::layouts::memory_use_of_schema;
 use crate::refusals::Which;
 use crate::schema_tokens::{name_at, token_at};
 use crate::syntax_faults::{another_kind, push_syntax_sentence};
-use crate::unsupported::{add_others, is_unsupported_attribute, unsupported_at};
+use crate::unsupported::{
+    add_others, attribute_sentence, is_unsupported_attribute, unsupported_at,
+};
 use fb_declare::{SchemaFault, SchemaTextFault};
 use fb_faults::ToolFault;
 use fb_findings::{Finding, Note, Source, value_of};
@@ -64,7 +66,7 @@ fn push_unsupported(note: &mut Note, decls: &Decls<'_>, text: &[u8], offset: u64
         return;
     }
     if is_unsupported_attribute(token) {
-        note.push_str("this attribute isn't supported");
+        note.push_str(attribute_sentence(token));
         return;
     }
     note.push_name(name_at(text, place));
@@ -99,6 +101,18 @@ fn push_named(note: &mut Note, front: &str, token: &[u8], rest: &str) {
     note.push_str(rest);
 }
 
+/// Adds that an attribute isn't declared, with the declaration.
+fn push_undeclared(note: &mut Note, attribute: &[u8]) {
+    push_named(
+        note,
+        "the attribute ",
+        attribute,
+        " isn't declared: add 'attribute ",
+    );
+    note.push_cut(attribute);
+    note.push_str(";', or remove it");
+}
+
 /// The rule that is broken, where it is explained by what names and numbers mean.
 fn rule_of(fault: SchemaFault) -> Option<Rule> {
     match fault {
@@ -128,12 +142,7 @@ fn push_schema_sentence(
         SchemaFault::BadDefault(_) => push_bad_default(note, decls, name, offset),
         SchemaFault::EmptyStruct(_) => push_named(note, "the struct ", token, " has no field"),
         SchemaFault::BadAttribute(_) => { push_named(note, "the attribute ", token, use_of(token)) }
-        SchemaFault::UnknownAttribute(_) => push_named(
-            note,
-            "the attribute ",
-            token,
-            " isn't declared: add 'attribute NAME;' with its name, or remove it",
-        ),
+        SchemaFault::UnknownAttribute(_) => push_undeclared(note, token),
         SchemaFault::Unsupported(_) => push_unsupported(note, decls, text, offset),
         SchemaFault::BadMember(_) => push_bad_member(note, decls, name, offset),
         SchemaFault::BadRoot(_) => push_bad_root(note, name),
@@ -177,9 +186,9 @@ fn push_refusal(note: &mut Note, text: &[u8], offset: u64, fault: SchemaTextFaul
 }
 
 /// What a file is that isn't a schema at all, where a text can't be parsed.
-fn another_kind_of(text: &[u8], fault: SchemaTextFault) -> Option<&'static str> {
+fn another_kind_of(text: &[u8], which: Which, fault: SchemaTextFault) -> Option<&'static str> {
     match fault {
-        SchemaTextFault::Syntax(_) => another_kind(text),
+        SchemaTextFault::Syntax(_) => another_kind(text, which),
         _ => None,
     }
 }
@@ -198,7 +207,7 @@ fn finding_at<'s>(
 {
     let refusal = which.refusal(fault);
     let mut note = Note::new(alloc);
-    if let Some(what) = another_kind_of(source.bytes, fault) {
+    if let Some(what) = another_kind_of(source.bytes, which, fault) {
         note.push_str(what);
         return Finding::in_file(refusal, source.path, Some(offset), note);
     }
@@ -241,9 +250,10 @@ fn layout_finding<'s>(
 }
 
 /// Whether other places of a text are listed too: all at which something isn't supported.
-fn lists_others(text: &[u8], offset: u64, fault: SchemaTextFault) -> bool {
+fn lists_others(text: &[u8], offset: u64, which: Which, fault: SchemaTextFault) -> bool {
     matches!(fault, SchemaTextFault::Schema(SchemaFault::Unsupported(_)))
-        || another_kind_of(text, fault).is_none() && unsupported_at(text, offset as usize).is_some()
+        || another_kind_of(text, which, fault).is_none()
+            && unsupported_at(text, offset as usize).is_some()
 }
 
 /// The finding of the refusal itself.
@@ -277,7 +287,7 @@ fn add_unsupported<'s>(
     ensures { OnOk result (AddsPlaced source.entry.bytes.now findings.old.items findings.new.items) }
 {
     match fault.offset() {
-        Some(offset) if lists_others(source.bytes, offset, fault) => {
+        Some(offset) if lists_others(source.bytes, offset, which, fault) => {
             add_others(findings, alloc, source, which, offset as usize)
         }
         _ => Ok(()),

@@ -59,6 +59,18 @@ pub(crate) fn token_at(text: &[u8], at: usize) -> &[u8] {
     }
 }
 
+/// The token after the one at an offset; empty at the text's end.
+pub(crate) fn token_after(text: &[u8], at: usize) -> &[u8] {
+    let mut tokens = Tokens(fb_syntax::Tokens { text, at });
+    let Some(_) = tokens.next() else {
+        return &[];
+    };
+    match tokens.next() {
+        Some(token) => token.bytes,
+        None => &[],
+    }
+}
+
 /// The words at an offset with the dots between them; the token there where it is no word.
 pub(crate) fn name_at(text: &[u8], at: usize) -> &[u8] {
     let token = token_at(text, at);

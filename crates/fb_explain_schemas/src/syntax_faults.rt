@@ -1,8 +1,9 @@
 //! What is wrong with the tokens and the grammar of a schema text.
 use crate::file_kinds::{FileKind, kind_of_file};
-use crate::missing_signs::expected_at;
-use crate::schema_tokens::{is_word, token_at};
+use crate::refusals::Which;
+use crate::schema_tokens::{is_word, token_after, token_at};
 use crate::type_names::is_base;
+use crate::unexpected_tokens::push_reason;
 use crate::unsupported::{Before, before_at, unsupported_at};
 use fb_findings::{Note, is_one_of};
 use fb_syntax::SyntaxFault;
@@ -21,13 +22,53 @@ fn question_sentence(last: &[u8]) -> &'static str {
     " may not be here: a table's field is optional already, and an enum with '= null' after its type"
 }
 
+/// What other languages call a map.
+const MAPS: &[&str] = &[
+    "map",
+    "Map",
+    "unordered_map",
+    "HashMap",
+    "dict",
+    "Dict",
+    "Dictionary",
+];
+
+/// What other languages call a vector.
+const VECTORS: &[&str] = &["vector", "Vector", "Vec", "list", "List", "array", "Array"];
+
+/// Adds how a vector of a type is written.
+fn push_vector(note: &mut Note, element: &[u8]) {
+    note.push_str("a vector of ");
+    note.push_name(element);
+    note.push_str(" is written [");
+    note.push_cut(element);
+    note.push_str("]")
+}
+
+/// What to say of a sign that begins no token, by itself and the token before it.
+fn bad_byte_sentence(token: &[u8], last: &[u8]) -> &'static str {
+    match token.first() {
+        Some(b'?') => question_sentence(last),
+        Some(b'#') => " may not be here: comments begin with //",
+        Some(b'<') if is_one_of(MAPS, last) => {
+            " may not be here: a map is written as a vector of tables, each with a key and a value"
+        }
+        Some(b'-') if is_word(last) => " may not be here: a name has letters, digits and '_'",
+        _ => " may not be here: no word, number or sign of the language begins with it",
+    }
+}
+
 fn push_bad_byte(note: &mut Note, text: &[u8], offset: usize) {
     let token = token_at(text, offset);
+    let last = before_at(text, offset).last;
+    let next = token_after(text, offset);
     note.push_name(token);
-    note.push_str(match token.first() {
-        Some(b'?') => question_sentence(before_at(text, offset).last),
-        _ => " may not be here: no word, number or sign of the language begins with it",
-    })
+    if matches!(token.first(), Some(b'<')) && is_one_of(VECTORS, last) && is_word(next) {
+        note.push_str(" may not be here: ");
+        push_vector(note, next);
+        return;
+    }
+    note.push_str(bad_byte_sentence(token, last));
 }
 
 /// Whether a bracket is opened here after a type's name, as other languages write vectors.
@@ -51,14 +92,11 @@ fn push_unexpected(note: &mut Note, text: &[u8], offset: usize) {
     note.push_str(" isn't expected here");
     let before = before_at(text, offset);
     if is_array_of(token, before) {
-        note.push_str(": a vector of ");
-        note.push_name(before.last);
-        note.push_str(" is written [");
-        note.push_cut(before.last);
-        note.push_str("]");
+        note.push_str(": ");
+        push_vector(note, before.last);
         return;
     }
-    note.push_str(expected_at(text, offset).unwrap_or(""));
+    push_reason(note, text, token, offset);
 }
 
 /// Adds what is wrong with a schema text that can't be parsed.
@@ -89,10 +127,12 @@ pub(crate) fn push_syntax_sentence(
 }
 
 /// What a file is that isn't a schema at all.
-pub(crate) fn another_kind(text: &[u8]) -> Option<&'static str> {
-    match kind_of_file(text)? {
-        FileKind::Json => Some("this looks like JSON: SCHEMA comes first"),
-        FileKind::Buffer => Some("this looks like a buffer: SCHEMA comes first"),
-        FileKind::Schema => None,
+pub(crate) fn another_kind(text: &[u8], which: Which) -> Option<&'static str> {
+    match (kind_of_file(text)?, which) {
+        (FileKind::Json, Which::Only) => Some("this looks like JSON: SCHEMA comes first"),
+        (FileKind::Json, _) => Some("this looks like JSON: conform compares two schemas"),
+        (FileKind::Buffer, Which::Only) => Some("this looks like a buffer: SCHEMA comes first"),
+        (FileKind::Buffer, _) => Some("this looks like a buffer: conform compares two schemas"),
+        (FileKind::Schema, _) => None,
     }
 }

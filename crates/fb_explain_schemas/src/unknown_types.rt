@@ -1,6 +1,6 @@
 //! A name that no type has, and the one that was meant.
 use crate::first_names::types_read;
-use fb_findings::{Note, last_word, nearest, push_few, push_meant, value_of};
+use fb_findings::{Note, is_one_of, last_word, nearest, push_few, push_meant, value_of};
 use fb_resolve::{BASIC_TYPES, Outline, TypeRead, name_of_type, word_of};
 use std::alloc::{AllocError, Global};
 
@@ -31,6 +31,18 @@ const FOREIGN: &[(&str, &str)] = &[
     ("u64", "uint64"),
     ("uint64_t", "uint64"),
     ("size_t", "uint64"),
+];
+
+/// What other languages call integers that are wider than FlatBuffers has them.
+const TOO_WIDE: &[&str] = &[
+    "int128",
+    "uint128",
+    "int128_t",
+    "uint128_t",
+    "i128",
+    "u128",
+    "int256",
+    "uint256",
 ];
 
 /// The namespace in force at an offset among types.
@@ -128,6 +140,10 @@ fn meant<'n>(
 
 /// Adds the type that was meant by a name, else the few that there are.
 fn push_known<'n>(note: &mut Note, whole: &[&'n str], words: &[&'n str], wanted: &str) {
+    if is_one_of(TOO_WIDE, wanted.as_bytes()) {
+        note.push_str("; an integer has 64 bits at most");
+        return;
+    }
     let near = meant(note, whole, words, wanted);
     match (near, value_of(FOREIGN, wanted.as_bytes())) {
         (Some(name), _) | (None, Some(name)) => push_meant(note, name),

@@ -7,7 +7,7 @@ ghost use Rattle.fb_declare.specs.TextFaultTable.{offset_of};
 
 use crate::refusals::Which;
 use crate::schema_tokens::{Token, Tokens, token_at};
-use crate::type_names::{is_base, is_float_type};
+use crate::type_names::is_base;
 use fb_declare::{SchemaFault, SchemaTextFault};
 use fb_findings::{Finding, LineStarts, Location, Source, value_of};
 use fb_resolve::is_left_out;
@@ -37,6 +37,68 @@ const QUOTED_DEFAULTS: &[(&str, &str)] = &[
         "the default of a bool is true or false, without quotes",
     ),
 ];
+
+/// The floating-point types, and what to say of each.
+const FLOATS: &[(&str, &str)] = &[
+    ("float", FLOAT),
+    ("float32", FLOAT),
+    ("double", DOUBLE),
+    ("float64", DOUBLE),
+];
+
+const FLOAT: &str =
+    "floats aren't supported; int, a whole number of the same width, keeps the field's place in buffers";
+
+const DOUBLE: &str =
+    "floats aren't supported; long, a whole number of the same width, keeps the field's place in buffers";
+
+/// The attributes that aren't supported, and what is stored without them.
+const ATTRIBUTES: &[(&str, &str)] = &[
+    (
+        "key",
+        "the attribute 'key' isn't supported: without it the same is stored, but Google's flatc sorts vectors by keys",
+    ),
+    (
+        "hash",
+        "the attribute 'hash' isn't supported: without it the same is stored, but JSON must have the hash as a number",
+    ),
+    (
+        "shared",
+        "the attribute 'shared' isn't supported: without it equal strings may be stored more than once",
+    ),
+    (
+        "nested_flatbuffer",
+        "the attribute 'nested_flatbuffer' isn't supported: without it the same is stored, but JSON has its bytes",
+    ),
+    (
+        "flexbuffer",
+        "the attribute 'flexbuffer' isn't supported: without it the same is stored, but JSON has its bytes",
+    ),
+    (
+        "native_inline",
+        "the attribute 'native_inline' isn't supported: it is for generated code, and without it the same is stored",
+    ),
+    (
+        "native_default",
+        "the attribute 'native_default' isn't supported: it is for generated code, and without it the same is stored",
+    ),
+    (
+        "native_custom_alloc",
+        "the attribute 'native_custom_alloc' isn't supported: it is for generated code, and without it the same is \
+         stored",
+    ),
+    (
+        "native_type",
+        "the attribute 'native_type' isn't supported: it is for generated code, and without it the same is stored",
+    ),
+];
+
+/// What to say of an attribute that isn't supported.
+pub(crate) fn attribute_sentence(attribute: &[u8]) -> &'static str {
+    value_of(ATTRIBUTES, attribute).unwrap_or(
+        "this attribute isn't supported: it is for generated code, and without it the same is stored",
+    )
+}
 
 /// The tokens before a token, the nearest first.
 #[derive(Clone, Copy)]
@@ -109,11 +171,12 @@ fn unsupported_word(word: &[u8], before: Before<'_>) -> Option<Unsupported> {
             let sentence = value_of(DECLARATIONS, word)?;
             Some(Unsupported::by_grammar(sentence))
         }
-        Some(b':' | b'[') if is_float_type(word) => {
-            Some(Unsupported::by_rule("floats aren't supported"))
+        Some(b':' | b'[') => {
+            let sentence = value_of(FLOATS, word)?;
+            Some(Unsupported::by_rule(sentence))
         }
         Some(b'(' | b',') if before.in_attributes && is_unsupported_attribute(word) => {
-            Some(Unsupported::by_rule("this attribute isn't supported"))
+            Some(Unsupported::by_rule(attribute_sentence(word)))
         }
         _ => None,
     }
