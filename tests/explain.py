@@ -13,7 +13,7 @@ import sys
 import textwrap
 
 from explain_rows import (
-    BY_NAME, CHANGES, COLUMNS, FLAGS, FLAG_VALUES, HINTS, HP, IDS, MARK, MONSTER, NAMES, OLD_BUFFERS, SCHEMAS,
+    BY_NAME, CHANGES, COLUMNS, FLAGS, FLAG_VALUES, HINTS, HP, IDS, MARK, MONSTER, NAMES, OLD_BUFFERS, PAIRS, SCHEMAS,
     SEVERAL, SEVERAL_SENTENCES, TEXTS, VALUES,
 )
 from harness import ROOT, Tests, content, program_of, write
@@ -199,6 +199,12 @@ def changes(tests):
         write("new.fbs", MONSTER.replace(was, now).encode())
         want = lines(fault, *[piece for sentence in sentences for piece in wrap(sentence)])
         tests.expect(name, ["conform", "--explain", "old.fbs", "new.fbs"], 1, err=want)
+    for name, old, new, fault, sentences in PAIRS:
+        write("old.fbs", old.encode())
+        write("new.fbs", new.encode())
+        want = lines(fault, *[piece for sentence in sentences for piece in wrap(sentence)])
+        tests.expect(name, ["conform", "--explain", "old.fbs", "new.fbs"], 1, err=want)
+    write("old.fbs", MONSTER.encode())
     new = MONSTER
     for was, now in SEVERAL:
         new = new.replace(was, now)

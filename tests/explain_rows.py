@@ -410,6 +410,8 @@ FLAG_VALUES = [
     ("flags with two spaces between them", "Fly  Swim", "'': flags are separated by one space each"),
 ]
 
+ANOTHER_STRUCT = "a struct never changes: declare another one, and new fields of it in tables"
+
 # Changes of MONSTER's schema, the line, and what follows.
 CHANGES = [
     ("another default", "hp:ubyte = 100", "hp:ubyte = 90", "97 DefaultChanged in type 5 slot 1",
@@ -437,7 +439,38 @@ CHANGES = [
     ("a struct that is a table", "struct Pos", "table Pos", "93 KindChanged in type 1",
      ["'Pos' was a struct (old.fbs:2), is a table (new.fbs:2) [93 KindChanged]"]),
     ("a struct that has grown", "y:int;", "y:int; z:int;", "94 StructChanged in type 1",
-     ["'Pos' has fields of other types, or another alignment (old.fbs:2) -> (new.fbs:2) [94 StructChanged]"]),
+     ["'Pos' has fields of other types, or another alignment (old.fbs:2) -> (new.fbs:2) [94 StructChanged]",
+      "  'z' is new", ANOTHER_STRUCT]),
+    ("a struct's field of another type", "x:int; y:int;", "x:int; y:long;", "94 StructChanged in type 1",
+     ["'Pos' has fields of other types, or another alignment (old.fbs:2) -> (new.fbs:2) [94 StructChanged]",
+      "  'y' was int, is long", "  the alignment was 4, is 8", ANOTHER_STRUCT]),
+    ("a struct's field that is gone", "x:int; y:int;", "x:int;", "94 StructChanged in type 1",
+     ["'Pos' has fields of other types, or another alignment (old.fbs:2) -> (new.fbs:2) [94 StructChanged]",
+      "  'y' is gone", ANOTHER_STRUCT]),
+    ("a struct of another alignment", "struct Pos {", "struct Pos (force_align: 8) {", "94 StructChanged in type 1",
+     ["'Pos' has fields of other types, or another alignment (old.fbs:2) -> (new.fbs:2) [94 StructChanged]",
+      "  the alignment was 4, is 8", ANOTHER_STRUCT]),
+    ("an enum of another type", "enum Color:byte", "enum Color:short", "101 EnumChanged in type 0",
+     ["'Color' has lost a value, or its type or mark changed (old.fbs:1) -> (new.fbs:1) [101 EnumChanged]",
+      "  the type was byte, is short: declare another enum"]),
+    ("a required field that is deprecated now", "name:string (required)", "name:string (required, deprecated)",
+     "98 RequiredChanged in type 5 slot 0",
+     ["Monster.name: was required (old.fbs:7), is not required, since it is deprecated (new.fbs:7); a required field "
+      "stays in use [98 RequiredChanged]"]),
+    ("a deprecated field whose place another takes", "old:int (deprecated)", "fresh:int",
+     "99 DeprecatedTakenBack in type 5 slot 7",
+     ["Monster.old: was deprecated (old.fbs:13), is not deprecated (new.fbs:13); 'fresh' has its place: leave it "
+      "deprecated, and put new fields after the others [99 DeprecatedTakenBack]"]),
+    ("two fields that changed places", "  hp:ubyte = 100;\n  color:Color;\n", "  color:Color;\n  hp:ubyte = 100;\n",
+     "96 FieldTypeChanged in type 5 slot 1",
+     ["Monster.hp (old.fbs:8) and color (old.fbs:9) changed places (new.fbs:8): fields keep their order, or each field "
+      "has an (id: ..) [96 FieldTypeChanged]"]),
+    ("a field that was moved after others", "  hp:ubyte = 100;\n  color:Color;\n  pos:Pos;\n  weapons:[Weapon];\n"
+     "  equipped:Equipment;\n  old:int (deprecated);\n  big:ulong;\n  ok:bool;\n",
+     "  color:Color;\n  pos:Pos;\n  weapons:[Weapon];\n  equipped:Equipment;\n  old:int (deprecated);\n"
+     "  big:ulong;\n  ok:bool;\n  hp:ubyte = 100;\n", "96 FieldTypeChanged in type 5 slot 1",
+     ["Monster.hp was moved after others (old.fbs:8): later fields take its place; fields keep their order, or each "
+      "field has an (id: ..) [96 FieldTypeChanged]"]),
     ("values that changed places", "Red, Green, Blue", "Red, Blue, Green", "101 EnumChanged in type 0",
      ["'Color' has lost a value, or its type or mark changed (old.fbs:1) -> (new.fbs:1) [101 EnumChanged]",
       "  'Green' was 1, is 2", "  'Blue' was 2, is 1"]),
@@ -467,6 +500,28 @@ CHANGES = [
      ["Monster.mana was inserted (new.fbs:8): later fields lose their places; new fields go after the others, or each "
       "field has an (id: ..) [96 FieldTypeChanged]",
       "Monster.more: is new and required (new.fbs:17); old data doesn't have it [100 NewRequired]"]),
+]
+
+# Two schema texts, the fault, and the sentences.
+FLAGGED = "enum F:ubyte { A, B }\ntable T {\n  f:F = B;\n}\nroot_type T;\n"
+PLACES = "struct P { x:int; y:long; }\ntable T { p:P; }\nroot_type T;\n"
+PAIRS = [
+    ("an enum that has bit_flags now", FLAGGED, FLAGGED.replace("ubyte", "ubyte (bit_flags)"),
+     "101 EnumChanged in type 0",
+     ["'F' has lost a value, or its type or mark changed (old.fbs:1) -> (new.fbs:1) [101 EnumChanged]",
+      "  it has bit_flags now, so that its numbers are 1, 2, 4 and so on: declare another enum",
+      "  'A' was 0, is 1", "  'B' was 1, is 2",
+      "T.f: the default was B = 1 (old.fbs:3), is B = 2 (new.fbs:3) [97 DefaultChanged]"]),
+    ("an enum that has no bit_flags any more", FLAGGED.replace("ubyte", "ubyte (bit_flags)"), FLAGGED,
+     "101 EnumChanged in type 0",
+     ["'F' has lost a value, or its type or mark changed (old.fbs:1) -> (new.fbs:1) [101 EnumChanged]",
+      "  it has no bit_flags any more, so that its numbers are 0, 1, 2 and so on: declare another enum",
+      "  'A' was 1, is 0", "  'B' was 2, is 1",
+      "T.f: the default was B = 2 (old.fbs:3), is B = 1 (new.fbs:3) [97 DefaultChanged]"]),
+    ("a struct's fields that changed places", PLACES, PLACES.replace("x:int; y:long;", "y:long; x:int;"),
+     "94 StructChanged in type 0",
+     ["'P' has fields of other types, or another alignment (old.fbs:1) -> (new.fbs:1) [94 StructChanged]",
+      "  'x' was field 0, is field 1", "  'y' was field 1, is field 0", ANOTHER_STRUCT]),
 ]
 
 HP = "table U {\n  hp:int;\n  mp:int;\n}\nroot_type U;\n"
@@ -522,6 +577,8 @@ SEVERAL_SENTENCES = [
     "'Color' has lost a value, or its type or mark changed (old.fbs:1) -> (new.fbs:1) [101 EnumChanged]",
     "  'Blue' was 2, is gone",
     "'Pos' has fields of other types, or another alignment (old.fbs:2) -> (new.fbs:2) [94 StructChanged]",
+    "  'z' is new",
+    ANOTHER_STRUCT,
     "Weapon.damage: the type was short (old.fbs:4), is int (new.fbs:4) [96 FieldTypeChanged]",
     "Monster.name: was required (old.fbs:7), is not required (new.fbs:7) [98 RequiredChanged]",
     "Monster.hp: the type was ubyte (old.fbs:8), is short (new.fbs:8) [96 FieldTypeChanged]",

@@ -21,7 +21,13 @@ fn front_of(compared: Compared) -> &'static str {
     }
 }
 
-/// Adds a field's default.
+/// Adds a field's type as its schema writes it.
+pub(crate) fn push_type_of_field(note: &mut Note, schema: &Schema, field: &FieldInfo) {
+    let name = kind_name(schema, kind_in(field.shape));
+    push_shape(note, field.shape, name)
+}
+
+/// Adds a field's default, of an enum's value with its number.
 fn push_default(note: &mut Note, schema: &Schema, field: &FieldInfo) {
     if field.optional {
         note.push_str("null");
@@ -31,23 +37,43 @@ fn push_default(note: &mut Note, schema: &Schema, field: &FieldInfo) {
         && let Some(name) = schema.name_of_number(number, field.default)
     {
         note.push_str(name);
-        return;
+        note.push_str(" = ");
     }
     note.push_integer(field.default);
 }
 
+/// Whether a field may be absent, and why.
+fn presence_of(field: &FieldInfo) -> &'static str {
+    match (field.required, field.deprecated) {
+        (true, true) => "not required, since it is deprecated",
+        (true, false) => "required",
+        (false, _) => "not required",
+    }
+}
+
 fn push_compared(note: &mut Note, schema: &Schema, field: &FieldInfo, compared: Compared) {
     match compared {
-        Compared::Type => {
-            let name = kind_name(schema, kind_in(field.shape));
-            push_shape(note, field.shape, name)
-        }
+        Compared::Type => push_type_of_field(note, schema, field),
         Compared::Default => push_default(note, schema, field),
-        Compared::Required if field.required && !field.deprecated => note.push_str("required"),
-        Compared::Required => note.push_str("not required"),
+        Compared::Required => note.push_str(presence_of(field)),
         Compared::Deprecated if field.deprecated => note.push_str("deprecated"),
         Compared::Deprecated => note.push_str("not deprecated"),
     }
+}
+
+/// Whether a field isn't required any more because it is deprecated.
+fn is_retired(is: &FieldInfo, compared: Compared) -> bool {
+    matches!(compared, Compared::Required) && is.required && is.deprecated
+}
+
+/// Adds which field has the place of one that was deprecated.
+fn push_new_owner(note: &mut Note, was: &FieldInfo, is: &FieldInfo) {
+    if !was.deprecated || was.name == is.name {
+        return;
+    }
+    note.push_str("; '");
+    note.push_cut(is.name.as_bytes());
+    note.push_str("' has its place: leave it deprecated, and put new fields after the others");
 }
 
 impl<'l, 's> Sides<'l, 's> {
@@ -83,6 +109,10 @@ impl<'l, 's> Sides<'l, 's> {
         note.push_str(", is ");
         push_compared(note, self.new.schema(), is, compared);
         self.new.push_field_line(note, twin.new, is.slot);
+        push_new_owner(note, was, is);
+        if is_retired(is, compared) {
+            note.push_str("; a required field stays in use");
+        }
     }
 
     /// Adds that a slot is gone.

@@ -69,12 +69,12 @@ fn code_at(index: usize) -> Option<u8> {
 }
 
 impl<'l, 's> Sides<'l, 's> {
-    /// What of an enum's values is gone or has another number, each in a sentence.
+    /// What of an enum changed: its type, its mark, and which values are gone or have another number.
     fn changed_values(&self, alloc: Global, old: TypeId) -> Result<Vec<String>, AllocError> {
-        let mut changed = Vec::new(alloc);
         let Some(twin) = self.twin(old) else {
-            return Ok(changed);
+            return Ok(Vec::new(alloc));
         };
+        let mut changed = self.changed_mark(alloc, twin)?;
         for (name, number) in values_of(self.old.schema(), old) {
             let is = self.new.schema().number_of_name(twin.new, name.as_str());
             if is != Some(*number) {
@@ -135,6 +135,7 @@ impl<'l, 's> Sides<'l, 's> {
         match breach {
             Breach::EnumChanged(old) => self.changed_values(alloc, old),
             Breach::UnionChanged(old) => self.changed_members(alloc, old),
+            Breach::StructChanged(old) => self.changed_parts(alloc, old),
             _ => Ok(Vec::new(alloc)),
         }
     }

@@ -17,6 +17,10 @@ use fb_layout::Layout;
 use fb_schema::Schema;
 use std::alloc::{AllocError, Global};
 
+/// What to do where a struct has changed.
+const IN_PLACE_OF_A_STRUCT: &str =
+    "a struct never changes: declare another one, and new fields of it in tables";
+
 /// A schema text's layout, and where it declares what.
 #[derive(Drop)]
 struct Known<'s> {
@@ -85,6 +89,9 @@ impl<'l, 's> Sides<'l, 's> {
         finding.old_place = Some(places.old);
         finding.sentence = note.into_text()?;
         finding.details = self.breach_details(alloc, breach)?;
+        if let Breach::StructChanged(_) = breach {
+            finding.advice = String::from_str(alloc, IN_PLACE_OF_A_STRUCT)?;
+        }
         finding.is_covered = matches!(part, PartOfShift::Further);
         finding.name_place(alloc, self.old.schema())?;
         if let Breach::NewRequired(old, slot) = breach {

@@ -8,5 +8,6 @@ mod moved_names;
 mod places;
 mod shifts;
 mod sides;
+mod type_details;
 
 pub use comparisons::{breach_findings, moved_findings};

@@ -1,4 +1,5 @@
-//! A field that was removed or inserted before others: each later slot breaks with the old one, and the mistake is one.
+//! Fields that were removed or inserted before others, or changed places: many slots break with the old ones, and the
+//! mistake is one.
 use crate::sides::{Sides, Twin};
 use fb_conform::Breach;
 use fb_findings::Note;
@@ -13,6 +14,8 @@ pub(crate) enum Change {
     Removed,
     /// New slots before old ones.
     Inserted,
+    /// Two slots that have each other's fields; the second is the last of the shift.
+    Swapped,
 }
 
 /// Slots of a table that were removed or inserted, with those after them as they were.
@@ -31,6 +34,44 @@ impl Shift {
         let end = self.first.saturating_add(self.count);
         fields.get(self.first..end).unwrap_or(&[])
     }
+
+    /// Whether a slot breaks by it.
+    fn breaks(self, slot: usize) -> bool {
+        match self.change {
+            Change::Swapped => slot == self.first || slot == self.last(),
+            Change::Removed | Change::Inserted => (self.first..self.end).contains(&slot),
+        }
+    }
+
+    fn last(self) -> usize {
+        self.end.saturating_sub(1)
+    }
+}
+
+/// The slot of the field with a name.
+fn slot_of_name(fields: &[FieldInfo], name: &str) -> Option<usize> {
+    for (slot, field) in fields.iter().enumerate() {
+        if field.name.as_str() == name {
+            return Some(slot);
+        }
+    }
+    None
+}
+
+/// The field of the first slot and one after it that have each other's slots.
+fn swap_from(old: &[FieldInfo], new: &[FieldInfo], first: usize) -> Option<Shift> {
+    let was = old.get(first)?;
+    let is = new.get(first)?;
+    let second = slot_of_name(new, was.name.as_str())?;
+    if slot_of_name(old, is.name.as_str())? != second {
+        return None;
+    }
+    Some(Shift {
+        change: Change::Swapped,
+        first,
+        count: 1,
+        end: second.saturating_add(1),
+    })
 }
 
 /// Whether all fields of the first list are called like those that the second begins with.
@@ -70,12 +111,16 @@ fn shift_by(old: &[FieldInfo], new: &[FieldInfo], first: usize, count: usize) ->
     None
 }
 
-/// Which slots were removed or inserted, where that is the only change of order.
+/// Which slots were removed, inserted or swapped, where that is the only change of order.
 fn shift_of(old: &[FieldInfo], new: &[FieldInfo]) -> Option<Shift> {
     let first = old
         .iter()
         .zip(new)
         .position(|(was, is)| was.name != is.name)?;
+    let swap = swap_from(old, new, first);
+    if swap.is_some() {
+        return swap;
+    }
     (1..=MOST).find_map(|count| shift_by(old, new, first, count))
 }
 
@@ -125,7 +170,7 @@ impl Shifts {
         let Some(shift) = self.of(sides, old) else {
             return PartOfShift::Nothing;
         };
-        if !(shift.first..shift.end).contains(&usize::from(slot)) {
+        if !shift.breaks(usize::from(slot)) {
             return PartOfShift::Nothing;
         }
         if self.is_met {
@@ -171,13 +216,27 @@ impl<'l, 's> Sides<'l, 's> {
         false
     }
 
+    /// Whether the new table has a field of this name.
+    fn has_new_field(&self, twin: Twin, field: &FieldInfo) -> bool {
+        let found = self
+            .new
+            .schema()
+            .field_by_name(twin.new, field.name.as_str());
+        found.is_some()
+    }
+
     fn push_removed(&self, note: &mut Note, twin: Twin, shift: Shift) {
         let fields = shift.of(fields_of(self.old.schema(), twin.old));
         let is_one = self.push_shifted(note, twin.old, fields);
-        note.push_str(if is_one {
-            " was removed"
-        } else {
-            " were removed"
+        let is_moved = match fields.first() {
+            Some(field) => self.has_new_field(twin, field),
+            None => false,
+        };
+        note.push_str(match (is_one, is_moved) {
+            (true, false) => " was removed",
+            (false, false) => " were removed",
+            (true, true) => " was moved after others",
+            (false, true) => " were moved after others",
         });
         self.old.push_field_line(note, twin.old, shift.first as u64);
         note.push_str(if is_one {
@@ -185,7 +244,11 @@ impl<'l, 's> Sides<'l, 's> {
         } else {
             ": later fields take their places"
         });
-        note.push_str("; a field is never removed, but marked (deprecated)");
+        note.push_str(if is_moved {
+            "; fields keep their order, or each field has an (id: ..)"
+        } else {
+            "; a field is never removed, but marked (deprecated)"
+        });
     }
 
     fn push_inserted(&self, note: &mut Note, twin: Twin, shift: Shift) {
@@ -201,7 +264,26 @@ impl<'l, 's> Sides<'l, 's> {
         note.push_str("new fields go after the others, or each field has an (id: ..)");
     }
 
-    /// Adds what was removed or inserted, and where.
+    /// Adds a slot's field by its name.
+    fn push_name_at(&self, note: &mut Note, twin: Twin, slot: usize) {
+        if let Some(field) = fields_of(self.old.schema(), twin.old).get(slot) {
+            note.push_cut(field.name.as_bytes());
+        }
+        self.old.push_field_line(note, twin.old, slot as u64);
+    }
+
+    fn push_swapped(&self, note: &mut Note, twin: Twin, shift: Shift) {
+        note.push_cut(type_name(self.old.schema(), twin.old).as_bytes());
+        note.push_str(".");
+        self.push_name_at(note, twin, shift.first);
+        note.push_str(" and ");
+        self.push_name_at(note, twin, shift.last());
+        note.push_str(" changed places");
+        self.new.push_field_line(note, twin.new, shift.first as u64);
+        note.push_str(": fields keep their order, or each field has an (id: ..)");
+    }
+
+    /// Adds what was removed, inserted or swapped, and where.
     pub(crate) fn push_shift(&self, note: &mut Note, old: TypeId, shift: Shift) {
         let Some(twin) = self.twin(old) else {
             return;
@@ -209,6 +291,7 @@ impl<'l, 's> Sides<'l, 's> {
         match shift.change {
             Change::Removed => self.push_removed(note, twin, shift),
             Change::Inserted => self.push_inserted(note, twin, shift),
+            Change::Swapped => self.push_swapped(note, twin, shift),
         }
     }
 }
