@@ -135,7 +135,7 @@ def texts(tests):
     for name, text, sentence in TEXTS:
         text, offset = marked(text)
         write("v.json", text)
-        want = lines("113 BadJson", place("v.json", text, offset) + sentence, *excerpt(text, offset))
+        want = lines("113 BadJson", *wrap(place("v.json", text, offset) + sentence), *excerpt(text, offset))
         tests.expect(name, ["binary", "--explain", "s.fbs", "v.json", "out.bin"], 1, err=want)
     write("v.json", b'{"name":"\xff"}')
     want = lines("113 BadJson", "v.json:1:10: the text isn't UTF-8 from here on", '  {"name":"\\xff"}', "           ^")

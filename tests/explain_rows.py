@@ -297,7 +297,13 @@ TEXTS = [
      "half of a pair of escapes is no character: both are needed, as in \\ud83d\\ude00"),
     ("a comma that is missing", '{\n  "name": "Orc"\n  ¦"hp": 3\n}', "a comma is missing before this"),
     ("a comma that is missing between elements", '{ "weapons": [{ } ¦{ }] }', "a comma is missing before this"),
-    ("a second value", '{ "name": "Orc" }\n¦{ "name": "Ogre" }', "a JSON text is one value, and this is after it"),
+    ("a second value", '{ "name": "Orc" }\n¦{ "name": "Ogre" }',
+     "a JSON text is one value, and this is after it: --lines reads one value a line, as jq -c . or jq -c '.[]' writes "
+     "them"),
+    ("values with a comma between them", '{ "name": "Orc" }¦, { "name": "Ogre" }',
+     "a JSON text is one value, and this is after it: --lines reads one value a line, as jq -c . or jq -c '.[]' writes "
+     "them"),
+    ("a sign after the value", '{ "name": "Orc" }¦;', "a JSON text is one value, and this is after it"),
     ("a byte order mark", '¦\ufeff{ "name": "Orc" }',
      "a byte order mark may not be before JSON: save the file without one"),
     ("a colon that is missing", '{ "name" ¦"Orc" }', "a colon is missing between a name and its value"),
@@ -381,6 +387,8 @@ VALUES = [
      "pos.y: Pos needs the field 'y': a struct has all its fields"),
     ("a required field that is missing", '¦{ "hp": 3 }', "76 MissingRequired in type 5 slot 0",
      "name: Monster needs the field 'name': it is required"),
+    ("null for a required field", '{ "hp": 3, "name": ¦null }', "76 MissingRequired in type 5 slot 0",
+     "name: Monster needs the field 'name': it is required, and null counts as absent"),
     ("a name that is repeated", '{ "name": "Orc", "hp": 3, "hp": ¦"4" }', "70 WrongShape in type 5 slot 1",
      "hp: a text where a number must be: the field's type is ubyte"),
     ("a name with an escape", '{ "name": "Orc", "\\u0068p": ¦"4" }', "70 WrongShape in type 5 slot 1",
