@@ -6,6 +6,7 @@ usage: tests/explain.py PROGRAM
 Each run with --explain is made without it too: the status, what is printed and the line of the fault are the same. The
 last line is 'N passed, M failed'.
 """
+import gzip
 import os
 import re
 import struct
@@ -134,7 +135,7 @@ def texts(tests):
     for name, text, sentence in TEXTS:
         text, offset = marked(text)
         write("v.json", text)
-        want = lines("113 BadJson", place("v.json", text, offset) + sentence, *excerpt(text, offset))
+        want = lines("113 BadJson", *wrap(place("v.json", text, offset) + sentence), *excerpt(text, offset))
         tests.expect(name, ["binary", "--explain", "s.fbs", "v.json", "out.bin"], 1, err=want)
     write("v.json", b'{"name":"\xff"}')
     want = lines("113 BadJson", "v.json:1:10: the text isn't UTF-8 from here on", ' | {"name":"\\xff"}', " |          ^")
@@ -170,11 +171,11 @@ KINDS = [
      "v.json: this looks like JSON: SCHEMA comes first"),
     ("a buffer and a schema in the wrong order", ["json", "b.bin", "s.fbs"], "2 BadByte at 0",
      "b.bin: this looks like a buffer: SCHEMA comes first"),
-    ("a buffer for JSON", ["binary", "s.fbs", "b.bin", "out.bin"], "113 BadJson",
     ("JSON for the new one of two schemas", ["conform", "s.fbs", "v.json"], "new: 5 Unexpected at 0",
      "v.json: this looks like JSON: conform compares two schemas"),
     ("a buffer for the old one of two schemas", ["conform", "b.bin", "s.fbs"], "old: 2 BadByte at 0",
      "b.bin: this looks like a buffer: conform compares two schemas"),
+    ("a buffer for JSON", ["binary", "s.fbs", "b.bin", "out.bin"], "113 BadJson",
      "b.bin: this looks like a buffer: 'flatc json' makes JSON of it"),
     ("a schema for JSON", ["binary", "s.fbs", "s.fbs", "out.bin"], "113 BadJson",
      "s.fbs: this looks like a schema: SCHEMA comes first, then JSON"),
@@ -199,13 +200,13 @@ def changes(tests):
         write("new.fbs", MONSTER.replace(was, now).encode())
         want = lines(fault, *[piece for sentence in sentences for piece in wrap(sentence)])
         tests.expect(name, ["conform", "--explain", "old.fbs", "new.fbs"], 1, err=want)
-    new = MONSTER
     for name, old, new, fault, sentences in PAIRS:
         write("old.fbs", old.encode())
         write("new.fbs", new.encode())
         want = lines(fault, *[piece for sentence in sentences for piece in wrap(sentence)])
         tests.expect(name, ["conform", "--explain", "old.fbs", "new.fbs"], 1, err=want)
     write("old.fbs", MONSTER.encode())
+    new = MONSTER
     for was, now in SEVERAL:
         new = new.replace(was, now)
     write("new.fbs", new.encode())
@@ -262,6 +263,35 @@ def dump(bytes_, offset):
     return rows + ([row(bytes_, 16)] if not own and len(bytes_) > 16 else [])
 
 
+# Files of other kinds that are passed for a buffer, and what they look like.
+LOOKS = [
+    ("a gzip file", gzip.compress(b"x"), "this looks like a gzip file: decompress it first, as with gzip -d"),
+    ("a zstd file", bytes.fromhex("28b52ffd 0400 0900 0078"),
+     "this looks like a zstd file: decompress it first, as with zstd -d"),
+    ("an image", bytes.fromhex("89504e470d0a1a0a 0000000d"), "this looks like a PNG image, and not like a buffer"),
+    ("a program", bytes.fromhex("7f454c46 02010100 00000000"),
+     "this looks like a program or a library (ELF), and not like a buffer"),
+    ("a buffer in base64", b"DAAAAAAABgAIAAQABgAAAAcAAAA=",
+     "this looks like base64: decode it first, as with base64 -d"),
+    ("a buffer in hexadecimal digits", b"0c00000000000600 0800040006000000 07000000",
+     "this looks like hexadecimal digits: decode them first, as with xxd -r -p"),
+]
+
+
+def looks(tests):
+    write("s.fbs", b"table T { name:string (required); } root_type T;")
+    for name, bytes_, sentence in LOOKS:
+        write("b.bin", bytes_)
+        root = int.from_bytes(bytes_[:4], "little")
+        fault = "Misaligned" if root % 4 else "OutOfBounds"
+        want = lines(f"{53 if root % 4 else 54} {fault} at {root}", f"b.bin: {sentence}")
+        tests.expect(name, ["check", "--explain", "s.fbs", "b.bin"], 1, err=want)
+    # a text of few letters may be anything
+    write("b.bin", b"DAAAAAAABgAI")
+    done = tests.run(["check", "--explain", "s.fbs", "b.bin"])
+    tests.tell("few letters", b"looks like" not in done.stderr, f"{done.stderr!r}")
+
+
 # The table { name: "Orc" } under `table T { name:string (required); } root_type T;`, and what is done to it.
 SOUND = bytes.fromhex("0c000000 0000 0600 0800 0400 06000000 04000000 03000000 4f726300")
 BUFFERS = [
@@ -275,6 +305,13 @@ BUFFERS = [
      "the root: bytes 0 to 3 say that it is at 255, and the buffer has 28 bytes", 0),
     ("a string past the end", lambda b: b[:20] + struct.pack("<I", 9) + b[24:], "54 OutOfBounds at 20",
      "name: what is stored at 20 ends past the buffer, which ends at 28", 20),
+    ("a string far past the end", lambda b: b[:16] + struct.pack("<I", 2147483727) + b[20:],
+     "53 Misaligned at 2147483743",
+     "name: bytes 16 to 19 say that it is at 2147483743, and the buffer has 28 bytes", 16),
+    ("a string past the end that is aligned", lambda b: b[:16] + struct.pack("<I", 16) + b[20:], "54 OutOfBounds at 32",
+     "name: bytes 16 to 19 say that it is at 32, and the buffer has 28 bytes", 16),
+    ("a field past the end", lambda b: b[:10] + struct.pack("<H", 4097) + b[12:], "53 Misaligned at 4109",
+     "name: what is stored at 4109 would be 4081 bytes past the buffer, which ends at 28", 28),
     ("a root that is 0", lambda b: bytes(4) + b[4:], "55 ZeroOffset at 0",
      "the root: the offset at 0 is 0: it must lead on to a table, string or vector", 0),
     ("a vtable before the buffer", lambda b: b[:12] + struct.pack("<i", 64) + b[16:], "56 BadVtable at 12",
@@ -314,6 +351,43 @@ def buffers(tests):
         *dump(SOUND, 4),
     )
     tests.expect("another identifier", ["check", "--explain", "s.fbs", "b.bin"], 1, err=want)
+    # the root's offset is the length of what follows, and the identifier shows that no size is before it
+    count = struct.pack("<I", 24) + b"ORCS" + bytes(16) + struct.pack("<i", 1000)
+    write("b.bin", count)
+    want = lines(
+        "56 BadVtable at 24",
+        "b.bin: the root: the vtable of the table at 24 would be before the buffer",
+        *dump(count, 24),
+    )
+    tests.expect("a root's offset that might be a size", ["check", "--explain", "s.fbs", "b.bin"], 1, err=want)
+    write("s.fbs", b"table T { name:string (required); } root_type T;")
+    want = lines(
+        "56 BadVtable at 24",
+        "b.bin: the root: the vtable of the table at 24 would be before the buffer",
+        *dump(count, 24),
+        "the first four bytes are the length of what follows: a size-prefixed buffer? add --size-prefixed",
+    )
+    tests.expect("a size where no identifier is known", ["check", "--explain", "s.fbs", "b.bin"], 1, err=want)
+    write("s.fbs", b"table T { names:[string]; } root_type T;")
+    # the second of two elements, at 28, leads to 128
+    far = SOUND[:20] + struct.pack("<III", 2, 8, 100) + struct.pack("<I", 3) + b"Orc\0"
+    write("b.bin", far)
+    want = lines(
+        "54 OutOfBounds at 128",
+        "b.bin: names[1]: bytes 28 to 31 say that it is at 128, and the buffer has 40 bytes",
+        *dump(far, 28),
+    )
+    tests.expect("an element past the end", ["check", "--explain", "s.fbs", "b.bin"], 1, err=want)
+    prefixed = struct.pack("<I", 28) + SOUND[:16] + struct.pack("<I", 16) + SOUND[20:]
+    write("s.fbs", b"table T { name:string (required); } root_type T;")
+    write("b.bin", prefixed)
+    want = lines(
+        "54 OutOfBounds at 36",
+        "b.bin: name: bytes 20 to 23 say that it is at 36, and the buffer has 32 bytes",
+        *dump(prefixed, 20),
+    )
+    tests.expect("a string past the end after a size", ["check", "--explain", "--size-prefixed", "s.fbs", "b.bin"], 1,
+                 err=want)
     write("s.fbs", b"table A {} union U { A } table T { u:U; } root_type T;")
     half = struct.pack("<I", 12) + bytes.fromhex("0600 0800 0700 0000 08000000 000000 01")
     write("b.bin", half)
@@ -582,7 +656,6 @@ def numbers(tests):
 
 
 if __name__ == "__main__":
-    parts = [schemas, ids, sizes, unsupported, texts, values, flags, kinds, changes, buffers, limits, cells, unnamed,
-    files,
-             memory, cuts, hints, numbers]
+    parts = [schemas, ids, sizes, unsupported, texts, values, flags, kinds, changes, looks, buffers, limits, cells,
+             unnamed, files, memory, cuts, hints, numbers]
     sys.exit(Explained("explain", program_of(sys.argv, __doc__)).main(parts))

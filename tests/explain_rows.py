@@ -297,7 +297,13 @@ TEXTS = [
      "half of a pair of escapes is no character: both are needed, as in \\ud83d\\ude00"),
     ("a comma that is missing", '{\n  "name": "Orc"\n  ¦"hp": 3\n}', "a comma is missing before this"),
     ("a comma that is missing between elements", '{ "weapons": [{ } ¦{ }] }', "a comma is missing before this"),
-    ("a second value", '{ "name": "Orc" }\n¦{ "name": "Ogre" }', "a JSON text is one value, and this is after it"),
+    ("a second value", '{ "name": "Orc" }\n¦{ "name": "Ogre" }',
+     "a JSON text is one value, and this is after it: --lines reads one value a line, as jq -c . or jq -c '.[]' writes "
+     "them"),
+    ("values with a comma between them", '{ "name": "Orc" }¦, { "name": "Ogre" }',
+     "a JSON text is one value, and this is after it: --lines reads one value a line, as jq -c . or jq -c '.[]' writes "
+     "them"),
+    ("a sign after the value", '{ "name": "Orc" }¦;', "a JSON text is one value, and this is after it"),
     ("a byte order mark", '¦\ufeff{ "name": "Orc" }',
      "a byte order mark may not be before JSON: save the file without one"),
     ("a colon that is missing", '{ "name" ¦"Orc" }', "a colon is missing between a name and its value"),
@@ -381,6 +387,8 @@ VALUES = [
      "pos.y: Pos needs the field 'y': a struct has all its fields"),
     ("a required field that is missing", '¦{ "hp": 3 }', "76 MissingRequired in type 5 slot 0",
      "name: Monster needs the field 'name': it is required"),
+    ("null for a required field", '{ "hp": 3, "name": ¦null }', "76 MissingRequired in type 5 slot 0",
+     "name: Monster needs the field 'name': it is required, and null counts as absent"),
     ("a name that is repeated", '{ "name": "Orc", "hp": 3, "hp": ¦"4" }', "70 WrongShape in type 5 slot 1",
      "hp: a text where a number must be: the field's type is ubyte"),
     ("a name with an escape", '{ "name": "Orc", "\\u0068p": ¦"4" }', "70 WrongShape in type 5 slot 1",
@@ -410,6 +418,8 @@ FLAG_VALUES = [
     ("flags with two spaces between them", "Fly  Swim", "'': flags are separated by one space each"),
 ]
 
+ANOTHER_STRUCT = "a struct never changes: declare another one, and new fields of it in tables"
+
 # Changes of MONSTER's schema, the line, and what follows.
 CHANGES = [
     ("another default", "hp:ubyte = 100", "hp:ubyte = 90", "97 DefaultChanged in type 5 slot 1",
@@ -418,8 +428,6 @@ CHANGES = [
      ["Weapon.damage: the type was short (old.fbs:4), is int (new.fbs:4) [96 FieldTypeChanged]"]),
     ("a field that isn't required any more", "name:string (required)", "name:string",
      "98 RequiredChanged in type 5 slot 0",
-ANOTHER_STRUCT = "a struct never changes: declare another one, and new fields of it in tables"
-
      ["Monster.name: was required (old.fbs:7), is not required (new.fbs:7) [98 RequiredChanged]"]),
     ("a field that is in use again", "old:int (deprecated)", "old:int", "99 DeprecatedTakenBack in type 5 slot 7",
      ["Monster.old: was deprecated (old.fbs:13), is not deprecated (new.fbs:13) [99 DeprecatedTakenBack]"]),
@@ -502,14 +510,6 @@ ANOTHER_STRUCT = "a struct never changes: declare another one, and new fields of
       "Monster.more: is new and required (new.fbs:17); old data doesn't have it [100 NewRequired]"]),
 ]
 
-HP = "table U {\n  hp:int;\n  mp:int;\n}\nroot_type U;\n"
-PAIR = "struct P { x:int; y:int; }\ntable U { p:P; }\nroot_type U;\n"
-MEMBERS = "table A { a:int; }\ntable B { b:int; }\nunion V { A, B }\ntable U { v:V; }\nroot_type U;\n"
-BY_NAME = "to every program that reads by name"
-OLD_BUFFERS = "buffers of the old schema show the values of "
-
-# An old schema text, what of it changed, and the fault and the sentences of `conform --names`; none where it conforms.
-NAMES = [
 # Two schema texts, the fault, and the sentences.
 FLAGGED = "enum F:ubyte { A, B }\ntable T {\n  f:F = B;\n}\nroot_type T;\n"
 PLACES = "struct P { x:int; y:long; }\ntable T { p:P; }\nroot_type T;\n"
@@ -532,6 +532,14 @@ PAIRS = [
       "  'x' was field 0, is field 1", "  'y' was field 1, is field 0", ANOTHER_STRUCT]),
 ]
 
+HP = "table U {\n  hp:int;\n  mp:int;\n}\nroot_type U;\n"
+PAIR = "struct P { x:int; y:int; }\ntable U { p:P; }\nroot_type U;\n"
+MEMBERS = "table A { a:int; }\ntable B { b:int; }\nunion V { A, B }\ntable U { v:V; }\nroot_type U;\n"
+BY_NAME = "to every program that reads by name"
+OLD_BUFFERS = "buffers of the old schema show the values of "
+
+# An old schema text, what of it changed, and the fault and the sentences of `conform --names`; none where it conforms.
+NAMES = [
     ("a field before others", HP, "  hp:int;\n", "  shield:int;\n  hp:int;\n", "103 NameMoved in type 0 slot 0",
      ["U.hp was field 0 (old.fbs:2), is field 1 (new.fbs:3): " + OLD_BUFFERS + "hp as shield, " + BY_NAME,
       "U.mp was field 1 (old.fbs:3), is field 2 (new.fbs:4): " + OLD_BUFFERS + "mp as hp, " + BY_NAME]),
@@ -577,6 +585,8 @@ SEVERAL_SENTENCES = [
     "'Color' has lost a value, or its type or mark changed (old.fbs:1) -> (new.fbs:1) [101 EnumChanged]",
     "  'Blue' was 2, is gone",
     "'Pos' has fields of other types, or another alignment (old.fbs:2) -> (new.fbs:2) [94 StructChanged]",
+    "  'z' is new",
+    ANOTHER_STRUCT,
     "Weapon.damage: the type was short (old.fbs:4), is int (new.fbs:4) [96 FieldTypeChanged]",
     "Monster.name: was required (old.fbs:7), is not required (new.fbs:7) [98 RequiredChanged]",
     "Monster.hp: the type was ubyte (old.fbs:8), is short (new.fbs:8) [96 FieldTypeChanged]",
@@ -585,8 +595,6 @@ SEVERAL_SENTENCES = [
     "Monster.more: is new and required (new.fbs:16); old data doesn't have it [100 NewRequired]",
 ]
 
-    "  'z' is new",
-    ANOTHER_STRUCT,
 # Lines for Google's flatc, and the hint behind the usage error.
 HINTS = [
     (["-b", "a.fbs", "a.json"], "use: flatc binary SCHEMA JSON OUT"),

@@ -4,9 +4,10 @@ ghost use Rattle.fb_value.specs.FaultTable.{offset_of};
 ghost use Rattle.fb_findings.specs.Findings.{offset_in};
 ghost use Rattle.fb_faults.specs.declared.faults.ToolFault.{ToolFault};
 
+use crate::other_kinds::another_kind;
 use crate::paths::push_path;
 use crate::prefixes::{other_framing, push_count};
-use fb_explain_schemas::{FileKind, kind_of_file};
+use crate::references::last_reference;
 use fb_faults::ToolFault;
 use fb_findings::{Excerpt, Finding, Note, Sources};
 use fb_layout::Layout;
@@ -74,6 +75,18 @@ fn push_byte(note: &mut Note, bytes: &[u8], offset: u64) {
     }
 }
 
+/// Adds that a place isn't a multiple of an alignment, or how far it is past the buffer.
+fn push_misaligned(note: &mut Note, bytes: &[u8], offset: u64) {
+    let len = bytes.len() as u64;
+    push_part(note, "what is stored at ", offset);
+    if offset < len {
+        note.push_str(" must be at a multiple of its alignment, and isn't");
+        return;
+    }
+    push_part(note, " would be ", offset.saturating_sub(len));
+    push_part(note, " bytes past the buffer, which ends at ", len);
+}
+
 /// Adds a sentence on the rule that a buffer breaks, with the numbers that break it.
 fn push_rule(note: &mut Note, layout: &Layout, limits: Limits, bytes: &[u8], fault: ReadFault) {
     let rest = match fault {
@@ -86,10 +99,7 @@ fn push_rule(note: &mut Note, layout: &Layout, limits: Limits, bytes: &[u8], fau
             " bytes"
         }
         ReadFault::WrongIdentifier(at) => return push_identifiers(note, layout, bytes, at),
-        ReadFault::Misaligned(at) => {
-            push_part(note, "what is stored at ", at);
-            " must be at a multiple of its alignment, and isn't"
-        }
+        ReadFault::Misaligned(at) => return push_misaligned(note, bytes, at),
         ReadFault::OutOfBounds(at) => {
             push_part(note, "what is stored at ", at);
             push_part(
@@ -167,13 +177,19 @@ fn push_root_offset(note: &mut Note, bytes: &[u8], prefixed: bool, fault: ReadFa
     true
 }
 
-/// What a file is that isn't a buffer at all.
-fn another_kind(bytes: &[u8]) -> Option<&'static str> {
-    match kind_of_file(bytes)? {
-        FileKind::Json => Some("this looks like JSON: 'flatc binary' makes a buffer of it"),
-        FileKind::Schema => Some("this looks like a schema: SCHEMA comes first, then BIN"),
-        FileKind::Buffer => None,
-    }
+/// Adds where an offset leads to that leads out of the buffer; whether it does.
+fn push_far_offset(note: &mut Note, bytes: &[u8], at: u64, fault: ReadFault) -> bool {
+    let len = bytes.len() as u64;
+    let target = match fault {
+        ReadFault::OutOfBounds(target) | ReadFault::Misaligned(target) if target >= len => target,
+        _ => return false,
+    };
+    push_part(note, "bytes ", at);
+    push_part(note, " to ", at.saturating_add(3));
+    push_part(note, " say that it is at ", target);
+    push_part(note, ", and the buffer has ", len);
+    note.push_str(" bytes");
+    true
 }
 
 /// The steps to what is wrong after a buffer's header.
@@ -196,26 +212,52 @@ fn steps_to(
     )
 }
 
+/// What leads to a fault.
+#[derive(Clone, Copy)]
+struct Origin {
+    /// Whether the root itself is wrong, or what is before it.
+    is_root: bool,
+    /// The position of the offset that leads to the fault's.
+    reference: Option<usize>,
+}
+
 /// Adds what is wrong with a buffer. Returns the bytes to show with it.
 fn push_fault<'s>(
     note: &mut Note,
     layout: &Layout,
     sources: &Sources<'s>,
     fault: ReadFault,
-    is_at_root: bool,
+    origin: Origin,
 ) -> Excerpt<'s> {
     let bytes = sources.input.bytes;
     let prefixed = sources.size_prefixed;
-    if is_at_root && push_root_offset(note, bytes, prefixed, fault) {
+    if origin.is_root && push_root_offset(note, bytes, prefixed, fault) {
         return Excerpt::Bytes(bytes, front_of(prefixed));
     }
-    if !(prefixed && push_count(note, bytes, fault)) {
-        push_rule(note, layout, sources.limits, bytes, fault);
+    if prefixed && push_count(note, bytes, fault) {
+        return excerpt_at(bytes, fault);
     }
+    if let Some(at) = origin.reference
+        && push_far_offset(note, bytes, at as u64, fault)
+    {
+        return Excerpt::Bytes(bytes, at);
+    }
+    push_rule(note, layout, sources.limits, bytes, fault);
+    excerpt_at(bytes, fault)
+}
+
+/// The bytes at a fault.
+fn excerpt_at(bytes: &[u8], fault: ReadFault) -> Excerpt<'_> {
     match fault.offset() {
         Some(offset) => Excerpt::Bytes(bytes, offset as usize),
         None => Excerpt::Nothing,
     }
+}
+
+/// The position of the offset that a path ends with.
+fn reference_in(sources: &Sources<'_>, steps: &[Step]) -> Option<usize> {
+    let root = front_of(sources.size_prefixed);
+    last_reference(sources.input.bytes, root, steps)
 }
 
 /// What is wrong with a buffer that isn't a file of another kind.
@@ -231,15 +273,21 @@ fn finding_in<'s>(
 {
     let mut note = Note::new(alloc);
     let mut path = Note::new(alloc);
-    let mut is_at_root = false;
+    let mut origin = Origin {
+        is_root: false,
+        reference: None,
+    };
     if let Some(steps) = steps_to(alloc, layout, sources)? {
         push_path(&mut path, layout, steps.as_slice());
-        is_at_root = path.is_empty();
-        if is_at_root {
+        origin = Origin {
+            is_root: path.is_empty(),
+            reference: reference_in(sources, steps.as_slice()),
+        };
+        if origin.is_root {
             note.push_str("the root: ");
         }
     }
-    let excerpt = push_fault(&mut note, layout, sources, fault, is_at_root);
+    let excerpt = push_fault(&mut note, layout, sources, fault, origin);
     let refusal = ToolFault::Read(fault);
     let mut finding = Finding::in_file(refusal, sources.input.path, fault.offset(), note)?;
     finding.path = path.into_text()?;

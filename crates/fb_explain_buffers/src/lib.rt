@@ -2,8 +2,10 @@
 #![tactic(auto)]
 
 mod faults;
+mod other_kinds;
 mod paths;
 mod prefixes;
+mod references;
 mod union_codes;
 mod union_paths;
 

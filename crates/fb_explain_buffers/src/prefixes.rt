@@ -46,6 +46,14 @@ fn count_messages(bytes: &[u8]) -> Option<u64> {
     left.is_empty().then_some(count)
 }
 
+/// Whether the schema's file identifier is where a buffer without a prefix has it.
+fn has_identifier(layout: &Layout, bytes: &[u8]) -> bool {
+    match (layout.schema().identifier(), bytes) {
+        (Some(identifier), [_, _, _, _, a, b, c, d, ..]) => identifier == [*a, *b, *c, *d],
+        _ => false,
+    }
+}
+
 /// Adds a hint that the bytes are framed differently than they were read, if there is one.
 fn push_other_framing(note: &mut Note, layout: &Layout, sources: &Sources<'_>) {
     let bytes = sources.input.bytes;
@@ -61,6 +69,9 @@ fn push_other_framing(note: &mut Note, layout: &Layout, sources: &Sources<'_>) {
         .is_ok();
     if is_bare {
         note.push_str("without a size prefix it is sound: leave out --size-prefixed");
+        return;
+    }
+    if has_identifier(layout, bytes) {
         return;
     }
     match count_messages(bytes) {

@@ -120,6 +120,15 @@ fn push_missing(
     note.push_str(rest);
 }
 
+/// Why a required field counts as missing.
+fn required_sentence(value: BrokenValue<'_>) -> &'static str {
+    if value.is_there {
+        ": it is required, and null counts as absent"
+    } else {
+        ": it is required"
+    }
+}
+
 fn push_limit(note: &mut Note, front: &str, most: u64, rest: &str) {
     note.push_str(front);
     note.push_number(most);
@@ -159,13 +168,9 @@ pub(crate) fn push_rule(
         JsonFault::MissingMember(_) => {
             push_missing(note, layout, place, field, ": a struct has all its fields")
         }
-        JsonFault::MissingRequired(_) => push_missing(
-            note,
-            layout,
-            place,
-            field,
-            ": it is required",
-        ),
+        JsonFault::MissingRequired(_) => {
+            push_missing(note, layout, place, field, required_sentence(value))
+        }
         JsonFault::UnionMismatch(_) => push_half(note, layout.schema(), place, value.is_there),
         JsonFault::TooDeep(_) => push_limit(
             note,

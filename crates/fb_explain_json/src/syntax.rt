@@ -66,6 +66,19 @@ fn begins_a_value(byte: u8) -> bool {
 
 const COMMA_BEFORE_BRACKET: &str = "a comma may not be before a closing bracket";
 
+const SECOND_VALUE: &str =
+    "a JSON text is one value, and this is after it: --lines reads one value a line, as jq -c . or jq -c '.[]' writes \
+     them";
+
+/// What is wrong with a byte after the text's value.
+fn second_value_sentence(byte: u8) -> &'static str {
+    if byte == b',' || begins_a_value(byte) {
+        SECOND_VALUE
+    } else {
+        "a JSON text is one value, and this is after it"
+    }
+}
+
 const NO_NAME: &str = "a name in double quotes is missing before this";
 
 /// What is wrong where a value must be.
@@ -153,9 +166,7 @@ impl Scan {
     fn rest(self, text: &str, byte: u8) -> Result<Scan, Flaw> {
         let in_object = self.open.is_in_object();
         match byte {
-            _ if self.open.depth == 0 => {
-                self.refused("a JSON text is one value, and this is after it")
-            }
+            _ if self.open.depth == 0 => self.refused(second_value_sentence(byte)),
             b',' => self.after_sign(if in_object { Next::Name } else { Next::Element }),
             b'}' if in_object => self.closed(),
             b']' if !in_object => self.closed(),
