@@ -109,6 +109,25 @@ fn inspect_file<'j>(
     print_input(rt, &layout, texts, flags)
 }
 
+/// Prints a text on standard output.
+pub(crate) fn print_text(
+    rt: &HostRuntime,
+    texts: &mut Texts<'_>,
+    text: &str,
+) -> Result<(), ToolFault> {
+    let mut out = Reasoned::over(rt.stdout());
+    let mut written = 0;
+    let is_sent = send(&mut out, text.as_bytes(), &mut written);
+    if let Some(error) = out.into_reason() {
+        texts.fail(rt, "standard output", &error);
+    }
+    if is_sent {
+        Ok(())
+    } else {
+        Err(ToolFault::Write(WriteFault::WriteFailed(written)))
+    }
+}
+
 /// Prints what the header of a file says, without a schema.
 fn inspect_header<'j>(
     rt: &HostRuntime,
@@ -119,17 +138,7 @@ fn inspect_header<'j>(
     let lines = header_lines(rt.alloc(), texts.input.bytes.as_slice()).map_err(
         |_| ToolFault::Memory,
     )?;
-    let mut out = Reasoned::over(rt.stdout());
-    let mut written = 0;
-    let is_sent = send(&mut out, lines.as_bytes(), &mut written);
-    if let Some(error) = out.into_reason() {
-        texts.fail(rt, "standard output", &error);
-    }
-    if is_sent {
-        Ok(())
-    } else {
-        Err(ToolFault::Write(WriteFault::WriteFailed(written)))
-    }
+    print_text(rt, texts, lines.as_str())
 }
 
 /// Shows what the bytes of a buffer are, and returns the status.

@@ -3,6 +3,7 @@
 
 mod batches;
 mod counting_writer;
+mod described;
 mod explained;
 mod faults;
 mod hints;
@@ -13,6 +14,7 @@ mod schemas;
 mod terminal;
 
 use crate::batches::do_batch;
+use crate::described::describe;
 use crate::explained::{Refusal, explain_number, list_numbers, refuse, warn};
 use crate::faults::{BufferContent, read_fault, write_fault};
 use crate::hints::hint_for;
@@ -307,6 +309,9 @@ fn do_request(rt: &HostRuntime, request: &Request, words: &[String]) -> u8 {
         }
         Request::Inspect(inspection, format) => {
             inspect(rt, inspection, error_format(rt, *format))
+        }
+        Request::Describe(schema, format) => {
+            describe(rt, schema.as_str(), error_format(rt, *format))
         }
         Request::Explain(Some(number)) => explain_number(rt, number.as_str()),
         Request::Explain(None) => list_numbers(rt),
