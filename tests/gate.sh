@@ -4,7 +4,7 @@
 # has its page and its number in each language, and the time of make run is estimated well. Then the built program: with
 # words and files, on the examples of README and docs/, as a git hook, with texts that are cut off, long or no texts at
 # all, with what is done to OUT, with standard streams for paths, with many files in one call, with streams of messages,
-# what it lists of buffers, at a terminal, where memory, pipes and stack run out, what it explains, that explaining
+# what it lists of buffers and schemas, at a terminal, where memory, pipes and stack run out, what it explains, that explaining
 # changes nothing else, what refusals look like in each format, its usage under another name, its lines beside those of
 # Google's flatc, its man page and completions, its hooks for pre-commit and CI, how costs grow, and how much memory it
 # takes, also for long texts that are refused; the calls with growths refused, some thousand damaged buffers, some
@@ -36,7 +36,7 @@ python3 tools/faults.py --check | tee "$logs/faults" || status=1
 python3 tests/estimate.py tests/make_run | tee "$logs/estimate" || status=1
 python3 bench/picture.py --check | tee "$logs/picture" || status=1
 python3 tools/mutations.py --not-compiled | tee "$logs/not-compiled" || status=1
-for part in command pages git_hook texts outputs streams batches lines prefixed inspect terminal hostile explain \
+for part in command pages git_hook texts outputs streams batches lines prefixed inspect describe terminal hostile explain \
     error_formats told_alike program_name google shells hooks costs; do
     python3 "tests/$part.py" "$program" | tee "$logs/$part" || status=1
 done

@@ -20,7 +20,7 @@ README_WORDS = 1400
 CRATE_WORDS = 400
 # Where the examples of the crates' READMEs are run.
 CRATE_EXAMPLES = "crates/test_calls/src/tests/examples.rt"
-COMMANDS = ("binary", "json", "check", "conform", "inspect", "explain")
+COMMANDS = ("binary", "json", "check", "conform", "inspect", "describe", "explain")
 
 
 def page(name):

@@ -21,7 +21,7 @@ LINES = [
     (["conform", "--help"], 0, ["Usage: NAME conform [OPTIONS] <OLD> <NEW>"]),
     (["explain", "--help"], 0, ["Usage: NAME explain [NUMBER]"]),
     (["what"], 2, ["Usage: NAME <COMMAND>"]),
-    (["conform", "s"], 2, ["Usage: NAME conform <OLD> <NEW>"]),
+    (["conform", "s"], 2, ["Usage: NAME conform [OPTIONS] <OLD> <NEW>"]),
     (["inspect", "s"], 2, ["       NAME inspect [OPTIONS] --header <BIN>"]),
     (["check", "--lines", "s"], 2, ["       NAME check [OPTIONS] --lines <SCHEMA> <BIN>"]),
     (["json", "-o", ".", "s", "b", "b"], 2, ["Usage: NAME json [OPTIONS] <SCHEMA> <BIN>"]),
