@@ -30,9 +30,10 @@ use Rattle.fb_conform.proofs.laws.LayoutsAgree.{SlotStays, Grown, StructStays, t
 use Rattle.fb_conform.proofs.laws.BodiesOfOneKindAgree.{least_same, base_same, sort_of_body, same_sort, table_sort}
 use Rattle.fb_conform.proofs.laws.BodiesOfOneKindAgree.{struct_sort, enum_sort, union_sort, still_table, was_table}
 use Rattle.fb_conform.proofs.laws.BodiesOfOneKindAgree.{has_slot, struct_kept, no_struct_kept, members_same, grown_from}
-use Rattle.fb_conform.proofs.laws.BodiesOfOneKindAgree.{is_scalar, never, number_shape, number_stored, scalar_moved}
+use Rattle.fb_conform.proofs.laws.BodiesOfOneKindAgree.{is_scalar, never, number_stored, scalar_moved}
 use Rattle.fb_conform.proofs.laws.BodiesOfOneKindAgree.{kind_in_moved, name_same, code_same, basic_same, one_same}
 use Rattle.fb_conform.proofs.laws.BodiesOfOneKindAgree.{vector_same, first_same}
+use Rattle.fb_layout.proofs.slots.SlotsFollowTheirFields.{number_shape}
 
 module _ (A B : LaidSchema) (old : IsWellMade A) (new : IsWellMade B) (conforms : Conforms A B) where
   pub twins : (t : ℕ) → t < types_in A → Twins A.schema B.schema t (to_new A B t)
