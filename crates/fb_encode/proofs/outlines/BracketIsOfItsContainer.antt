@@ -4,12 +4,13 @@ use Rattle.std.proofs.Common.{take, drop}
 use Rattle.std.proofs.Common.{get_or, option_and_then, option_map, Bool, true, false, ◌==◌, ◌⊎◌, inl, inr, refl, ap, sym}
 use Rattle.std.proofs.Common.{IfSome, arith, is_some, take-append-drop}
 use Rattle.std.proofs.Math.Seq.{drop-cons}
-use Rattle.std.proofs.lemmas.Bool.{eqb-true, or_cases}
+use Rattle.std.specs.List.{list_all}
+use Rattle.std.proofs.lemmas.Bool.{and_parts, eqb-true, or_cases}
 use Rattle.json.specs.Token.{Token}
 use Rattle.json.specs.Word.{is_space}
 use Rattle.json.specs.Json as json
 use Rattle.json.specs.Lex.{Lexeme, Place, after_value, begins_colon, between, class, fresh, in_string, lex}
-use Rattle.json.specs.Lex.{place_token, punctuate, space, string_token, token, tokens}
+use Rattle.json.specs.Lex.{lex_byte, place_token, punctuate, space, string_token, token, tokens}
 use Rattle.json.specs.Text.{content, plain}
 use Rattle.serde_json.specs.Data.{Data, Items, Members, array, boolean, no_members, null, number, object, string}
 use Rattle.serde_json.specs.Read.{of_items, of_json, of_members}
@@ -18,7 +19,6 @@ use Rattle.fb_pieces.specs.Reads.{read_at}
 use Rattle.fb_encode.specs.Outlines.{IsOf}
 use Rattle.fb_encode.specs.declared.outlines.Container.{Container}
 use Rattle.fb_encode.specs.declared.outlines.Container.TheVariants.{Array, Object, String}
-use Rattle.fb_pieces.proofs.laws.BlanksHaveNoLexemes.{blanks-before}
 
 blank_or : (x c : ℕ) (b : Bool) → class c ≡ space → (b ≡ true → class x ≡ space)
     → (b ≡ true) ⊎ ((x == c) ≡ true) → class x ≡ space
@@ -31,6 +31,15 @@ blank_class x h =
     (λ h. blank_or x 10 _ refl
     (λ h. blank_or x 9 _ refl (λ h. rw (eqb-true x 32 h) refl) (or_cases _ _ h))
     (or_cases _ _ h)) (or_cases _ _ h)
+
+blanks_before : (blanks text : List ℕ) → AreBlanks blanks → lex between (blanks ++ text) ≡ lex between text
+unfolding lex
+blanks_before [] text h = refl
+blanks_before (x ∷ blanks) text h =
+    let p = and_parts (is_space x) (list_all is_space blanks) h in
+    ap (λ c. lex_byte between c x (blanks ++ text) (λ m. lex m (blanks ++ text)))
+    (blank_class x p.0)
+    ∙ blanks_before blanks text p.1
 
 -- ---- what is read of the first token
 
@@ -129,7 +138,7 @@ module _ (text : List ℕ) (at x : ℕ) (blanks : AreBlanks (take at text)) (wit
 
   tokens_behind : tokens text ≡ tokens (x ∷ drop (at + 1) text)
   tokens_behind =
-      ap tokens behind ∙ ap (punctuate fresh) (blanks-before (take at text) (x ∷ drop (at + 1) text) blanks)
+      ap tokens behind ∙ ap (punctuate fresh) (blanks_before (take at text) (x ∷ drop (at + 1) text) blanks)
 
   abbrev read_tokens : ℕ → List Token → Option Data
   read_tokens levels ts = read_of (json.value levels ts)

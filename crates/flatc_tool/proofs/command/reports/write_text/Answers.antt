@@ -1,7 +1,7 @@
 use Rattle.std.proofs.Common.{rules, subst}
 use Rattle.std.proofs.KnownBytes.{Appends-trans}
 use Rattle.std.specs.Io.KnownBytes.{Appends}
-use Rattle.fb_text.proofs.noted.FrontGrows.{front_grows}
+use Rattle.flatc_tool.proofs.command.reports.WriterHasALineOrItsFront.{front_grows}
 use Rattle.flatc_tool.proofs.command.reports.write_text.Goals as goal
 
 pub loop-at-preserved : goal.loop-at-preserved
