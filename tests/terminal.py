@@ -104,8 +104,8 @@ def widths(tests):
         done = tests.run(["check", "--explain", "one.fbs", "b.bin"], env=environment({"COLUMNS": f"{columns}"}))
         lines = done.stderr.decode().splitlines()
         tests.tell(f"bytes in {columns} columns", all(len(it) <= columns for it in lines), f"{lines!r}")
-        first = next(it for it in lines if it.startswith("         0 "))
-        tests.tell(f"{length} bytes a row", len(first) == 13 + 4 * length, f"{lines!r}")
+        first = next(it for it in lines if it.startswith(" |          0 "))
+        tests.tell(f"{length} bytes a row", len(first) == 16 + 4 * length, f"{lines!r}")
 
 
 if __name__ == "__main__":
